@@ -1,0 +1,149 @@
+// Writes the listing of the code map: a line for each of the 768 entries (PAGE CODE WORD REGISTER MODE L00 L01 L10 L11 CARRIED).
+use codemap::decode::entry_at;
+use codemap::decode::length_at;
+use codemap::pages::pages;
+use codemap::words::word;
+use libc::STDOUT_FILENO;
+use model::code::Accumulator;
+use model::code::Entry;
+use model::code::Mode;
+use model::code::Operation;
+ghost use mathlib.Core.Path.{_≡_};
+ghost use Prim.Native.Nat.{_<_, _≤_};
+ghost use Rattle.codemap.specs.Packing.{numbers};
+
+fn say(text: &[u8]) {
+    io::write_all(STDOUT_FILENO, text);
+}
+
+// A digit below 16, in capitals.
+fn say_digit(n: u8) {
+    if n < 10 {
+        say(&[b'0' + n]);
+    } else if n < 16 {
+        say(&[b'A' + (n - 10)]);
+    }
+}
+
+fn say_page(page: usize) {
+    if page == 0 {
+        say(b"--");
+    } else if page == 1 {
+        say(b"42");
+    } else {
+        say(b"89");
+    }
+}
+
+fn say_accumulator(accumulator: Accumulator) {
+    match accumulator {
+        Accumulator::Unnamed => say(b" -"),
+        Accumulator::A => say(b" A"),
+        Accumulator::B => say(b" B"),
+    }
+}
+
+// Appendix B's symbol of a mode.
+fn say_mode(mode: Mode) {
+    match mode {
+        Mode::Implied => say(b" IMP"),
+        Mode::Immediate => say(b" IMM"),
+        Mode::Accumulator => say(b" A"),
+        Mode::Direct => say(b" DIR"),
+        Mode::DirectBit => say(b" DIR,b"),
+        Mode::DirectIndexedX => say(b" DIR,X"),
+        Mode::DirectIndexedY => say(b" DIR,Y"),
+        Mode::DirectIndirect => say(b" (DIR)"),
+        Mode::DirectIndexedXIndirect => say(b" (DIR,X)"),
+        Mode::DirectIndirectIndexedY => say(b" (DIR),Y"),
+        Mode::DirectIndirectLong => say(b" L(DIR)"),
+        Mode::DirectIndirectLongIndexedY => say(b" L(DIR),Y"),
+        Mode::Absolute => say(b" ABS"),
+        Mode::AbsoluteBit => say(b" ABS,b"),
+        Mode::AbsoluteIndexedX => say(b" ABS,X"),
+        Mode::AbsoluteIndexedY => say(b" ABS,Y"),
+        Mode::AbsoluteLong => say(b" ABL"),
+        Mode::AbsoluteLongIndexedX => say(b" ABL,X"),
+        Mode::AbsoluteIndirect => say(b" (ABS)"),
+        Mode::AbsoluteIndirectLong => say(b" L(ABS)"),
+        Mode::AbsoluteIndexedXIndirect => say(b" (ABS,X)"),
+        Mode::Stack => say(b" STK"),
+        Mode::Relative => say(b" REL"),
+        Mode::DirectBitRelative => say(b" DIR,b,REL"),
+        Mode::AbsoluteBitRelative => say(b" ABS,b,REL"),
+        Mode::StackPointerRelative => say(b" SR"),
+        Mode::StackPointerRelativeIndirectIndexedY => say(b" (SR),Y"),
+        Mode::BlockTransfer => say(b" BLK"),
+    }
+}
+
+fn say_length(entry: Entry, m: u8, x: u8)
+    requires { ⌜ entry .bytes ≤ 6 ⌝ }
+{
+    say(b" ");
+    say_digit(length_at(entry, m, x));
+}
+
+fn say_entry(entry: Entry)
+    requires { ⌜ entry .bytes ≤ 6 ⌝ }
+{
+    let operation = entry.operation;
+    let accumulator = entry.accumulator;
+    let mode = entry.mode;
+    let carried = entry.carried;
+    say(b" ");
+    say(&word(operation));
+    say_accumulator(accumulator);
+    say_mode(mode);
+    say_length(entry, 0, 0);
+    say_length(entry, 0, 1);
+    say_length(entry, 1, 0);
+    say_length(entry, 1, 1);
+    if carried {
+        say(b" yes\n");
+    } else {
+        say(b" no\n");
+    }
+}
+
+fn is_assigned(operation: Operation) -> bool {
+    if let Operation::Unassigned = operation {
+        false
+    } else {
+        true
+    }
+}
+
+fn say_line(codes: &[[[u32; 16]; 16]; 3], page: usize, code: u8)
+    requires { ⌜ (now codes ≡ numbers) × (page < 3) ⌝ }
+{
+    say_page(page);
+    say(b" ");
+    say_digit(code / 16);
+    say_digit(code % 16);
+    let entry = entry_at(codes, page, code);
+    let operation = entry.operation;
+    if is_assigned(operation) {
+        say_entry(entry);
+    } else {
+        say(b" - - - 0 0 0 0 no\n");
+    }
+}
+
+fn list_page(codes: &[[[u32; 16]; 16]; 3], page: usize)
+    requires { ⌜ (now codes ≡ numbers) × (page < 3) ⌝ }
+{
+    let mut code: u8 = 0;
+    while code < 255 {
+        say_line(codes, page, code);
+        code += 1;
+    }
+    say_line(codes, page, 255);
+}
+
+fn main() {
+    let codes = pages();
+    list_page(&codes, 0);
+    list_page(&codes, 1);
+    list_page(&codes, 2);
+}

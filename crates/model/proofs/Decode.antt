@@ -1,0 +1,173 @@
+-- What a decoded instruction is, for users of the decoder that need not open its definition: its code is carried, it has 1 to 6
+-- bytes, they lie within the bytes that it was read from, and its operand is below the bound of its bytes. Each test on the way to
+-- `Whole` must have passed, and the length's bounds are the code map's rule.
+-- Assumes nothing.
+use mathlib.Core.Path.{_≡_, refl, sym, ap, _∙_}
+use mathlib.Core.Bool.{Bool, true, false}
+use mathlib.Core.List.{List, [], _∷_}
+use Prim.Native.Nat.{ℕ, zero, suc, _+_, _-_, _*_, _^_, _≤_, _<_, min}
+use native.Mathlib.Nat.{pow-suc}
+use native.Mathlib.Omega.{arith}
+use borrow.Author.Tests.{leb-true, lt-leb, le-leb, lt-ltb, le-ltb}
+use lib.Dec.{eqb, ltb, leb}
+use lib.ListN.{length, getD, take, drop, length-take, length-drop}
+use lib.Seq.{getD-drop, take-all}
+use Rattle.model.specs.declared.code.Entry.{Entry}
+use Rattle.model.specs.declared.code.Instruction.{Instruction}
+use Rattle.model.specs.declared.code.Decoded.{Decoded}
+use Rattle.model.specs.declared.code.Decoded.the-variants.{Whole, NotCarried, CutOff}
+use Rattle.model.specs.Choice.{pick}
+use Rattle.model.specs.CodeMap.{prefixBytes, entryAt, lengthAt}
+use Rattle.model.specs.Decode.{number, pageOf, operandOf, judged, decodeOn, decode}
+use Rattle.model.proofs.CodeMap.{carried-length}
+
+passed-or-cut : (t : Bool) (d : Decoded) (i : Instruction) → pick t d CutOff ≡ Whole i → (t ≡ true) × (d ≡ Whole i)
+passed-or-cut true d i h = (refl, h)
+passed-or-cut false d i h = let z : _≡_ {A = ℕ} 0 1 = cc in absurd (omega arith)
+
+passed-or-not-carried : (t : Bool) (d : Decoded) (i : Instruction) → pick t d NotCarried ≡ Whole i → (t ≡ true) × (d ≡ Whole i)
+passed-or-not-carried true d i h = (refl, h)
+passed-or-not-carried false d i h = let z : _≡_ {A = ℕ} 0 1 = cc in absurd (omega arith)
+
+-- what the tests on the way to an instruction have shown
+pub record Passed (page : ℕ) (bytes : List ℕ) (m x : ℕ) (i : Instruction) : Type 0 where
+  pub entry : i .entry ≡ entryAt page (getD bytes (prefixBytes page) 0)
+  pub carried : entryAt page (getD bytes (prefixBytes page) 0) .carried ≡ true
+  pub long : i .length ≡ lengthAt (entryAt page (getD bytes (prefixBytes page) 0)) m x
+  pub inside : i .length ≤ length bytes
+  pub operand : i .operand ≡ operandOf bytes (prefixBytes page) (i .length)
+
+same-whole : (i j : Instruction) → Whole i ≡ Whole j → i ≡ j
+same-whole i j h = cc
+
+made : (page : ℕ) (bytes : List ℕ) (m x : ℕ) (e : Entry) (n : ℕ) → e ≡ entryAt page (getD bytes (prefixBytes page) 0)
+    → n ≡ lengthAt e m x → e .carried ≡ true → n ≤ length bytes
+    → Passed page bytes m x (record { entry = e; length = n; operand = operandOf bytes (prefixBytes page) n })
+made page bytes m x e n at-code at-widths carried inside =
+    record {
+      entry = at-code;
+      carried = rw (← at-code) carried;
+      long = rw (← at-code) at-widths;
+      inside = inside;
+      operand = refl;
+    }
+
+passed : (page : ℕ) (bytes : List ℕ) (m x : ℕ) (i : Instruction) → decodeOn page bytes m x ≡ Whole i → Passed page bytes m x i
+unfolding decodeOn judged
+passed page bytes m x i h =
+    let e = entryAt page (getD bytes (prefixBytes page) 0) in
+    let n = lengthAt e m x in
+    let code = passed-or-cut (ltb (prefixBytes page) (length bytes)) _ i h in
+    let known = passed-or-not-carried (e .carried) _ i (code .1) in
+    let whole = passed-or-cut (leb n (length bytes)) _ i (known .1) in
+    rw (same-whole _ i (whole .1)) at (made page bytes m x e n refl refl (known .0) (leb-true n (length bytes) (whole .0)))
+
+-- the laws of an instruction that was decoded from these bytes
+pub record Decodes (bytes : List ℕ) (i : Instruction) : Type 0 where
+  pub carried : i .entry .carried ≡ true
+  pub at-least : 1 ≤ i .length
+  pub at-most : i .length ≤ 6
+  pub inside : i .length ≤ length bytes
+
+decodes-on : (page : ℕ) (bytes : List ℕ) (m x : ℕ) (i : Instruction) → Passed page bytes m x i → Decodes bytes i
+decodes-on page bytes m x i p =
+    let code = getD bytes (prefixBytes page) 0 in
+    let rule = carried-length page code m x (p .carried) in
+    record {
+      carried = rw (p .entry) (p .carried);
+      at-least = rw (p .long) (omega arith);
+      at-most = rw (p .long) (rule .1);
+      inside = p .inside;
+    }
+
+pub decodes : (bytes : List ℕ) (m x : ℕ) (i : Instruction) → decode bytes m x ≡ Whole i → Decodes bytes i
+unfolding decode
+decodes bytes m x i h =
+    let page = pageOf (getD bytes 0 0) in
+    decodes-on page bytes m x i (passed page bytes m x i h)
+
+-- every element is a byte; past the end `getD` gives 0, which is one too
+abbrev pub AllBytes : List ℕ → Type 0
+AllBytes l = (k : ℕ) → getD l k 0 < 256
+
+bytes-drop : (n : ℕ) (l : List ℕ) → AllBytes l → AllBytes (drop n l)
+bytes-drop n l small k = rw getD-drop (small (n + k))
+
+bytes-take : (n : ℕ) (l : List ℕ) → AllBytes l → AllBytes (take n l)
+bytes-take zero l small k = omega arith
+bytes-take (suc n) [] small k = omega arith
+bytes-take (suc n) (b ∷ bs) small zero = small 0
+bytes-take (suc n) (b ∷ bs) small (suc k) = bytes-take n bs (λ j. small (suc j)) k
+
+-- bytes as a number are below the power of 256 that has as many digits
+pub number-bound : (bytes : List ℕ) → AllBytes bytes → number bytes < 256 ^ length bytes
+number-bound [] small = omega arith
+number-bound (b ∷ bs) small =
+    let rest = number-bound bs (λ k. small (suc k)) in
+    rw pow-suc (omega (arith, small 0))
+
+part-length : (n k : ℕ) (bytes : List ℕ) → n ≤ length bytes → length (take (n - k) (drop k bytes)) ≡ n - k
+part-length n k bytes h = simp (length-take, length-drop) (omega arith)
+
+-- the operand is below the bound of its bytes
+pub operand-bound : (bytes : List ℕ) (m x : ℕ) (i : Instruction) → AllBytes bytes → decode bytes m x ≡ Whole i
+    → i .operand < 256 ^ (i .length - (prefixBytes (pageOf (getD bytes 0 0)) + 1))
+unfolding decode
+operand-bound bytes m x i small h =
+    let page = pageOf (getD bytes 0 0) in
+    let k = prefixBytes page + 1 in
+    let n = i .length in
+    let p = passed page bytes m x i h in
+    let part = take (n - k) (drop k bytes) in
+    let below = number-bound part (bytes-take (n - k) (drop k bytes) (bytes-drop k bytes small)) in
+    rw (p .operand) (rw (part-length n k bytes (p .inside)) at below)
+
+-- The definition's cases, a law each, for the code that walks them.
+module _ (bytes : List ℕ) (prefix : ℕ) (e : Entry) (n : ℕ) where
+  pub judged-not-carried : e .carried ≡ false → NotCarried ≡ judged bytes prefix e n
+  unfolding judged
+  judged-not-carried h = rw h
+
+  pub judged-cut-off : e .carried ≡ true → length bytes < n → CutOff ≡ judged bytes prefix e n
+  unfolding judged
+  judged-cut-off h short = rw (h, lt-leb n (length bytes) short)
+
+  pub judged-whole : (long value : ℕ) → e .carried ≡ true → long ≡ n → long ≤ length bytes → value ≡ operandOf bytes prefix long
+      → Whole (record { entry = e; length = long; operand = value }) ≡ judged bytes prefix e n
+  unfolding judged
+  judged-whole long value h same inside e-value =
+      let inside′ : n ≤ length bytes = rw same at inside in
+      rw (h, le-leb n (length bytes) inside′, e-value, same)
+
+pub page-below : (first : ℕ) → pageOf first < 3
+page-below first = below (eqb first 0x42) (eqb first 0x89)
+  where
+    below : (plain next : Bool) → pick plain 1 (pick next 2 0) < 3
+    below true next = omega arith
+    below false true = omega arith
+    below false false = omega arith
+
+module _ (bytes : List ℕ) (m x : ℕ) where
+  pub decode-cut-off : length bytes ≤ prefixBytes (pageOf (getD bytes 0 0)) → CutOff ≡ decode bytes m x
+  unfolding decode decodeOn
+  decode-cut-off short = rw (le-ltb (prefixBytes (pageOf (getD bytes 0 0))) (length bytes) short)
+
+  pub decode-judged : (page prefix : ℕ) (e : Entry) → page ≡ pageOf (getD bytes 0 0) → prefix ≡ prefixBytes page
+      → prefix < length bytes → e ≡ entryAt page (getD bytes prefix 0) → judged bytes prefix e (lengthAt e m x) ≡ decode bytes m x
+  unfolding decode decodeOn
+  decode-judged page prefix e at-page at-prefix long at-code =
+      let long′ : prefixBytes (pageOf (getD bytes 0 0)) < length bytes = rw (at-prefix, at-page) at long in
+      rw (at-code, at-prefix, at-page, lt-ltb (prefixBytes (pageOf (getD bytes 0 0))) (length bytes) long′)
+
+pub decode-nothing : (bytes : List ℕ) (m x : ℕ) → length bytes ≡ 0 → CutOff ≡ decode bytes m x
+unfolding decode decodeOn
+decode-nothing [] m x h = refl
+decode-nothing (b ∷ bs) m x h = absurd (omega arith)
+
+-- past the end stands nothing
+pub decode-past : (image : List ℕ) (at m x : ℕ) → length image ≤ at → CutOff ≡ decode (drop at image) m x
+decode-past image at m x h = decode-nothing (drop at image) m x (rw length-drop (omega arith))
+
+-- the rest of a list, as a part that ends where the list does
+pub rest-whole : (l : List ℕ) (at : ℕ) → take (length l - at) (drop at l) ≡ drop at l
+rest-whole l at = take-all (length l - at) (drop at l) (rw length-drop (omega arith))

@@ -1,0 +1,7 @@
+-- Everything that a reader has to believe, a file for each topic of document 01.
+pub mod Choice
+pub mod Operations
+pub mod Words
+pub mod CodePages
+pub mod CodeMap
+pub mod Decode
