@@ -1,8 +1,8 @@
 // Writes the listing of the code map: a line for each of the 768 entries (PAGE CODE WORD REGISTER MODE L00 L01 L10 L11 CARRIED).
-use codemap::decode::entry_at;
-use codemap::decode::length_at;
-use codemap::pages::pages;
-use codemap::words::word;
+use codepages::pages;
+use decoder::entry_at;
+use decoder::length_at;
+use entries::words::word;
 use libc::STDOUT_FILENO;
 use model::code::Accumulator;
 use model::code::Entry;
@@ -10,7 +10,7 @@ use model::code::Mode;
 use model::code::Operation;
 ghost use mathlib.Core.Path.{_≡_};
 ghost use Prim.Native.Nat.{_<_, _≤_};
-ghost use Rattle.codemap.specs.Packing.{numbers};
+ghost use Rattle.codepages.specs.Packing.{numbers};
 
 fn say(text: &[u8]) {
     io::write_all(STDOUT_FILENO, text);

@@ -6,7 +6,7 @@ use mathlib.Core.Bool.{Bool, true, false, _&&_}
 use mathlib.Core.List.{List, [], _∷_}
 use Prim.Native.Nat.{ℕ, zero, suc, _+_}
 use native.Mathlib.Nat.{add-zero, zero-add, add-suc, suc-add}
-use lib.Dec.{T}
+use lib.Dec.{T, eqb, eqb→eq}
 use lib.ListN.{getD}
 
 pub and-left : (a b : Bool) → T (a && b) → T a
@@ -41,3 +41,26 @@ module _ {A : Type 0} where
   pub everywhere : (test : ℕ → A → Bool) (d : A) → ((k : ℕ) → T (test k d)) → (xs : List A) → T (every test 0 xs)
       → (k : ℕ) → T (test k (getD xs k d))
   everywhere test d past xs t k = rw zero-add at (from test d past xs 0 t k)
+
+  -- two lists that pass a test of equality place by place are equal
+  abbrev pub same : (A → A → Bool) → List A → List A → Bool
+  same test [] [] = true
+  same test [] (y ∷ ys) = false
+  same test (x ∷ xs) [] = false
+  same test (x ∷ xs) (y ∷ ys) = test x y && same test xs ys
+
+  pub same-list : (test : A → A → Bool) → ((x y : A) → T (test x y) → x ≡ y) → (xs ys : List A) → T (same test xs ys) → xs ≡ ys
+  same-list test equal [] [] t = refl
+  same-list test equal [] (y ∷ ys) t = absurd t
+  same-list test equal (x ∷ xs) [] t = absurd t
+  same-list test equal (x ∷ xs) (y ∷ ys) t =
+      let first : x ≡ y = equal x y (and-left (test x y) (same test xs ys) t) in
+      let rest : xs ≡ ys = same-list test equal xs ys (and-right (test x y) (same test xs ys) t) in
+      rw (first, rest)
+
+-- three levels of numbers, compared number by number
+abbrev pub samePages : List (List (List ℕ)) → List (List (List ℕ)) → Bool
+samePages = same (same (same eqb))
+
+pub same-pages : (xs ys : List (List (List ℕ))) → T (samePages xs ys) → xs ≡ ys
+same-pages = same-list (same (same eqb)) (same-list (same eqb) (same-list eqb eqb→eq))

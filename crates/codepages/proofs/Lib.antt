@@ -1,0 +1,2 @@
+-- The law about the packed pages that the decoder cites.
+pub mod Unpacked

@@ -1,0 +1,20 @@
+-- Each key's value stands at its place of the list, and any other number is 0 or past the list.
+-- Assumes nothing.
+use mathlib.Core.Path.{refl}
+use borrow.Author.Needs.{needs}
+use Rattle.model.proofs.Match.{no-key}
+use Rattle.model.specs.declared.code.Flow.the-variants.{Next}
+use Rattle.codepages.specs.Packing.{flows}
+use Rattle.entries.proofs.flow_at.Statement.{statement}
+use Rattle.entries.proofs.flow_at.Tie as tie
+
+other : tie.Need-returns-8
+other c = no-key flows Next (c .before .args .n) refl (c .match .rest)
+
+pub flow-at-spec : {M : Type 1} → statement M
+flow-at-spec =
+    tie.close
+    (tie.spec
+    (λ c. search needs) (λ c. search needs) (λ c. rw (c .match .keys3) refl)
+    (λ c. rw (c .match .keys4) refl) (λ c. rw (c .match .keys5) refl) (λ c. rw (c .match .keys6) refl)
+    (λ c. search needs) other)

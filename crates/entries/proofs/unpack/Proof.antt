@@ -1,0 +1,18 @@
+-- Each field of the entry is what its own function gives.
+-- Assumes nothing.
+use Rattle.codepages.specs.Packing.{unpacked}
+use borrow.Author.Needs.{needs}
+use Rattle.entries.proofs.unpack.Statement.{statement}
+use Rattle.entries.proofs.unpack.Tie as tie
+
+returns : tie.Need-returns
+unfolding unpacked
+returns c = rw (c .before .before .before .before .before .before .before .operation-at .ensures, c .before .before .before .before .before .before .mode-at .ensures, c .before .before .before .before .before .accumulator-at .ensures, c .before .before .before .before .flow-at .ensures, c .before .before .before .target-at .ensures, c .before .before .effect-at .ensures, c .before .rule-at .ensures, c .width-at .ensures)
+
+pub unpack-spec : {M : Type 1} → statement M
+unpack-spec =
+    tie.close
+    (tie.spec
+    (λ c κs. search needs) (λ c κs. search needs) (λ c κs. search needs) (λ c κs. search needs)
+    (λ c κs. search needs) (λ c κs. search needs) (λ c. search needs) (λ c κs. search needs)
+    (λ c κs. search needs) returns)

@@ -1,0 +1,18 @@
+-- Each key's value stands at its place of the list, and any other number is 0 or past the list.
+-- Assumes nothing.
+use mathlib.Core.Path.{refl}
+use borrow.Author.Needs.{needs}
+use Rattle.model.proofs.Match.{no-key}
+use Rattle.model.specs.declared.code.DataWidth.the-variants.{NoData}
+use Rattle.codepages.specs.Packing.{widths}
+use Rattle.entries.proofs.width_at.Statement.{statement}
+use Rattle.entries.proofs.width_at.Tie as tie
+
+other : tie.Need-returns-5
+other c = no-key widths NoData (c .before .args .n) refl (c .match .rest)
+
+pub width-at-spec : {M : Type 1} → statement M
+width-at-spec =
+    tie.close
+    (tie.spec
+    (λ c. search needs) (λ c. search needs) (λ c. search needs) (λ c. search needs) other)
