@@ -24,8 +24,10 @@ module _ (prefix : ℕ) (page : List (List Form)) where
   number-of f = packed (entryOf prefix f)
 
   -- where a page unpacked is the page of its entries, each cell is
-  cell-same : map (map unpacked) (packedPage prefix page) ≡ map (map (entryOf prefix)) page → number-of none ≡ 0 → unpacked 0 ≡ entryOf prefix none
-      → (row column : ℕ) → unpacked (cell (packedPage prefix page) row column 0) ≡ entryOf prefix (cell page row column none)
+  cell-same : map (map unpacked) (packedPage prefix page) ≡ map (map (entryOf prefix)) page → number-of none ≡ 0 →
+      unpacked 0 ≡ entryOf prefix none
+      → (row column : ℕ) → unpacked (cell (packedPage prefix page) row column 0) ≡ entryOf prefix (cell page row
+      column none)
   cell-same same zero-none none-same row column =
       sym (cell-map unpacked (packedPage prefix page) row column 0)
       ∙ ap (λ d. cell (map (map unpacked) (packedPage prefix page)) row column d) none-same

@@ -15,6 +15,7 @@ use Rattle.model.specs.declared.code.LengthRule.the-variants.{Fixed, Mor
 use Rattle.model.specs.Choice.{pick}
 use Rattle.model.specs.CodePages.{Form, none, plain, behind42, behind89, pages}
 use Rattle.model.specs.CodeMap.{prefixBytes, entryOf, entryAt, moreBytes, lengthAt}
+use Rattle.model.proofs.Choice.{one-or-none}
 use Rattle.model.proofs.Table.{every, everywhere, and-left, and-right, true-T}
 
 -- the bytes of an entry at the widths m and x: more than its prefix bytes, and at most six
@@ -106,10 +107,6 @@ carried-length page code m x h =
       leb→le (suc (prefixBytes page)) n (and-left (ltb (prefixBytes page) n) (leb n 6) t),
       leb→le n 6 (and-right (ltb (prefixBytes page) n) (leb n 6) t),
     )
-
-one-or-none : (b : Bool) → pick b 1 0 ≤ 1
-one-or-none true = omega arith
-one-or-none false = omega arith
 
 -- the widths add one byte at most
 pub more-at-most : (r : LengthRule) (m x : ℕ) → moreBytes r m x ≤ 1

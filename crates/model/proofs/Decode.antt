@@ -60,7 +60,8 @@ passed page bytes m x i h =
     let code = passed-or-cut (ltb (prefixBytes page) (length bytes)) _ i h in
     let known = passed-or-not-carried (e .carried) _ i (code .1) in
     let whole = passed-or-cut (leb n (length bytes)) _ i (known .1) in
-    rw (same-whole _ i (whole .1)) at (made page bytes m x e n refl refl (known .0) (leb-true n (length bytes) (whole .0)))
+    rw (same-whole _ i (whole .1)) at (made page bytes m x e n refl refl (known .0) (leb-true n (length bytes)
+    (whole .0)))
 
 -- the laws of an instruction that was decoded from these bytes
 pub record Decodes (bytes : List ℕ) (i : Instruction) : Type 0 where
@@ -90,7 +91,7 @@ decodes bytes m x i h =
 abbrev pub AllBytes : List ℕ → Type 0
 AllBytes l = (k : ℕ) → getD l k 0 < 256
 
-bytes-drop : (n : ℕ) (l : List ℕ) → AllBytes l → AllBytes (drop n l)
+pub bytes-drop : (n : ℕ) (l : List ℕ) → AllBytes l → AllBytes (drop n l)
 bytes-drop n l small k = rw getD-drop (small (n + k))
 
 bytes-take : (n : ℕ) (l : List ℕ) → AllBytes l → AllBytes (take n l)
@@ -132,7 +133,8 @@ module _ (bytes : List ℕ) (prefix : ℕ) (e : Entry) (n : ℕ) where
   unfolding judged
   judged-cut-off h short = rw (h, lt-leb n (length bytes) short)
 
-  pub judged-whole : (long value : ℕ) → e .carried ≡ true → long ≡ n → long ≤ length bytes → value ≡ operandOf bytes prefix long
+  pub judged-whole : (long value : ℕ) → e .carried ≡ true → long ≡ n → long ≤ length bytes → value ≡ operandOf bytes
+      prefix long
       → Whole (record { entry = e; length = long; operand = value }) ≡ judged bytes prefix e n
   unfolding judged
   judged-whole long value h same inside e-value =
@@ -153,7 +155,8 @@ module _ (bytes : List ℕ) (m x : ℕ) where
   decode-cut-off short = rw (le-ltb (prefixBytes (pageOf (getD bytes 0 0))) (length bytes) short)
 
   pub decode-judged : (page prefix : ℕ) (e : Entry) → page ≡ pageOf (getD bytes 0 0) → prefix ≡ prefixBytes page
-      → prefix < length bytes → e ≡ entryAt page (getD bytes prefix 0) → judged bytes prefix e (lengthAt e m x) ≡ decode bytes m x
+      → prefix < length bytes → e ≡ entryAt page (getD bytes prefix 0) → judged bytes prefix e (lengthAt e m x) ≡
+      decode bytes m x
   unfolding decode decodeOn
   decode-judged page prefix e at-page at-prefix long at-code =
       let long′ : prefixBytes (pageOf (getD bytes 0 0)) < length bytes = rw (at-prefix, at-page) at long in

@@ -49,7 +49,8 @@ module _ {A : Type 0} where
   same test (x ∷ xs) [] = false
   same test (x ∷ xs) (y ∷ ys) = test x y && same test xs ys
 
-  pub same-list : (test : A → A → Bool) → ((x y : A) → T (test x y) → x ≡ y) → (xs ys : List A) → T (same test xs ys) → xs ≡ ys
+  pub same-list : (test : A → A → Bool) → ((x y : A) → T (test x y) → x ≡ y) → (xs ys : List A) → T (same test xs
+      ys) → xs ≡ ys
   same-list test equal [] [] t = refl
   same-list test equal [] (y ∷ ys) t = absurd t
   same-list test equal (x ∷ xs) [] t = absurd t

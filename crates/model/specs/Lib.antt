@@ -5,3 +5,7 @@ pub mod Words
 pub mod CodePages
 pub mod CodeMap
 pub mod Decode
+pub mod Image
+pub mod Rules
+pub mod Meaning
+pub mod Verdict

@@ -13,16 +13,25 @@ returns : tie.Need-returns
 returns c = decode-nothing _ _ _ (c .if1 .taken)
 
 returns-2 : tie.Need-returns-2
-returns-2 c = decode-cut-off _ _ _ (rw (← c .before .before .page-of .ensures, ← c .before .prefix-bytes .ensures) (c .if2 .taken))
+returns-2 c =
+    decode-cut-off _ _ _ (rw (← c .before .before .page-of .ensures, ← c .before .prefix-bytes .ensures) (c .if2
+    .taken))
 
 entry-at-requires : tie.Need-entry-at-requires
-entry-at-requires c κs = (c .before .before .before .before .before .before .before .pre, rw (c .before .before .before .page-of .ensures) (page-below (getD (c .before .before .before .before .before .before .before .args .bytes .now) 0 0)))
+entry-at-requires c κs = (
+  c .before .before .before .before .before .before .before .pre,
+  rw (c .before .before .before .page-of
+      .ensures) (page-below (getD (c .before .before .before .before .before .before .before .args .bytes .now) 0 0)),
+)
 
 judge-requires : tie.Need-judge-requires
 judge-requires c κs = rw (c .entry-at .ensures, c .before .before .before .prefix-bytes .ensures) (carried-length _ _ _ _)
 
 returns-3 : tie.Need-returns-3
-returns-3 c = c .judge .ensures ∙ decode-judged _ _ _ _ _ _ (c .before .before .before .before .before .page-of .ensures) (c .before .before .before .before .prefix-bytes .ensures) (c .before .before .before .if2 .left) (c .before .entry-at .ensures)
+returns-3 c =
+    c .judge .ensures ∙ decode-judged _ _ _ _ _ _ (c .before .before .before .before .before .page-of .ensures) (c
+    .before .before .before .before .prefix-bytes .ensures) (c .before .before .before .if2 .left) (c .before
+    .entry-at .ensures)
 
 pub decode-spec : {M : Type 1} → statement M
 decode-spec =

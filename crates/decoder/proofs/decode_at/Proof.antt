@@ -10,10 +10,14 @@ use Rattle.decoder.proofs.decode_at.Statement.{statement}
 use Rattle.decoder.proofs.decode_at.Tie as tie
 
 returns : tie.Need-returns
-returns c = let past : length (c .before .before .args .image .now) ≤ c .before .before .args .at = omega arith in decode-past _ _ _ _ past
+returns c =
+    let past : length (c .before .before .args .image .now) ≤ c .before .before .args .at = omega arith in
+    decode-past _ _ _ _ past
 
 returns-2 : tie.Need-returns-2
-returns-2 c = rw (rest-whole (c .before .before .before .before .args .image .now) (c .before .before .before .before .args .at)) at (c .decode .ensures)
+returns-2 c =
+    rw (rest-whole (c .before .before .before .before .args .image .now) (c .before .before .before .before .args
+    .at)) at (c .decode .ensures)
 
 pub decode-at-spec : {M : Type 1} → statement M
 decode-at-spec =

@@ -7,7 +7,13 @@ use Rattle.decoder.proofs.length_at.Statement.{statement}
 use Rattle.decoder.proofs.length_at.Tie as tie
 
 add-result : tie.Need-add-result
-add-result c = omega (arith, c .before .more-bytes .ensures, more-at-most (c .before .before .args .entry .rule) (c .before .before .args .m) (c .before .before .args .x))
+add-result c =
+    omega (
+      arith,
+      c .before .more-bytes .ensures,
+      more-at-most (c .before .before .args .entry .rule) (c .before
+          .before .args .m) (c .before .before .args .x),
+    )
 
 pub length-at-spec : {M : Type 1} → statement M
 length-at-spec = tie.close

@@ -7,7 +7,20 @@ use Rattle.entries.proofs.unpack.Tie as tie
 
 returns : tie.Need-returns
 unfolding unpacked
-returns c = rw (c .before .before .before .before .before .before .before .operation-at .ensures, c .before .before .before .before .before .before .mode-at .ensures, c .before .before .before .before .before .accumulator-at .ensures, c .before .before .before .before .flow-at .ensures, c .before .before .before .target-at .ensures, c .before .before .effect-at .ensures, c .before .rule-at .ensures, c .width-at .ensures)
+returns c =
+    rw (
+      c .before .before .before .before .before .before .before .operation-at .ensures,
+      c .before .before .before
+          .before .before .before .mode-at .ensures,
+      c .before .before .before .before .before .accumulator-at .ensures,
+      c
+          .before .before .before .before .flow-at .ensures,
+      c .before .before .before .target-at .ensures,
+      c .before
+          .before .effect-at .ensures,
+      c .before .rule-at .ensures,
+      c .width-at .ensures,
+    )
 
 pub unpack-spec : {M : Type 1} → statement M
 unpack-spec =

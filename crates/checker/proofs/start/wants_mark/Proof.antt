@@ -1,0 +1,15 @@
+-- The test is put to the mark at the want's address.
+-- Assumes nothing.
+use Rattle.model.specs.Verdict.{wantsMark}
+use borrow.Author.Needs.{needs}
+use Rattle.checker.proofs.start.wants_mark.Statement.{statement}
+use Rattle.checker.proofs.start.wants_mark.Tie as tie
+
+returns : tie.Need-returns
+unfolding wantsMark
+returns c = rw (c .before .mark-at .ensures)
+
+pub wants-mark-spec : {M : Type 1} → statement M
+wants-mark-spec = tie.close
+    (tie.spec
+    (λ c κs. search needs) returns)

@@ -1,0 +1,116 @@
+// The check: accepted, or the number and the place of the first rule that is broken.
+pub mod owed;
+pub mod start;
+
+use crate::start::start_number;
+use codepages::pages;
+use image::base_fits;
+use image::byte_at;
+use image::is_formed;
+use image::is_start;
+use image::length_fits;
+use image::reset_fits;
+use model::rules::Verdict;
+ghost use mathlib.Core.Path.{_≡_};
+ghost use Prim.Native.Nat.{_≤_, _<_};
+ghost use lib.ListN.{length};
+ghost use Rattle.codepages.specs.Packing.{numbers};
+ghost use Rattle.model.specs.Choice.{pick};
+ghost use Rattle.model.specs.Image.{isStart, startCount};
+ghost use Rattle.model.specs.Verdict as spec;
+
+// The lowest mark that is not of the form, or the number of marks.
+fn bad_mark(marks: &[u8]) -> usize
+    ensures { λ r. ⌜ r ≡ spec.badMark (now (marks .entry)) ⌝ }
+{
+    let mut i = 0;
+    while i < marks.len() {
+        if !is_formed(byte_at(marks, i)) {
+            return i;
+        }
+        i += 1;
+    }
+    i
+}
+
+// The lowest start that breaks a rule, or the number of marks.
+fn bad_start(codes: &[[[u32; 16]; 16]; 3], image: &[u8], marks: &[u8], base: u32) -> usize
+    requires { ⌜ (now codes ≡ numbers) × (base < 16_777_216) × (length (now marks) ≤ 16_384) ⌝ }
+    ensures { λ r. ⌜ r ≡ spec.badStart (now (image .entry)) (now (marks .entry)) base ⌝ }
+{
+    let mut i = 0;
+    while i < marks.len() {
+        if start_number(codes, image, marks, base, i) != 0 {
+            return i;
+        }
+        i += 1;
+    }
+    i
+}
+
+// The starts in turn, from the lowest.
+fn starts_verdict(codes: &[[[u32; 16]; 16]; 3], image: &[u8], marks: &[u8], base: u32) -> Verdict
+    requires { ⌜ (now codes ≡ numbers) × (base < 16_777_216) × (length (now marks) ≤ 16_384) ⌝ }
+    ensures { λ r. ⌜ r ≡ spec.startsVerdict (now (image .entry)) (now (marks .entry)) base ⌝ }
+{
+    let bad = bad_start(codes, image, marks, base);
+    if bad == marks.len() {
+        return Verdict::Accepted;
+    }
+    let number = start_number(codes, image, marks, base, bad);
+    let offset = bad as u32;
+    Verdict::Refused { number, offset }
+}
+
+// The check of an image against its marks, at a base and a reset address.
+pub fn check(image: &[u8], marks: &[u8], base: u32, reset: u32) -> Verdict
+    ensures { λ r. ⌜ r ≡ spec.verdict (now (image .entry)) (now (marks .entry)) base reset ⌝ }
+{
+    if !length_fits(image.len(), marks.len()) {
+        return Verdict::Refused {
+            number: 1,
+            offset: 0,
+        };
+    }
+    if !base_fits(base, image.len()) {
+        return Verdict::Refused {
+            number: 2,
+            offset: 0,
+        };
+    }
+    let bad = bad_mark(marks);
+    if bad != marks.len() {
+        return Verdict::Refused {
+            number: 4,
+            offset: bad as u32,
+        };
+    }
+    if !reset_fits(marks, base, reset) {
+        return Verdict::Refused {
+            number: 3,
+            offset: 0,
+        };
+    }
+    let codes = pages();
+    starts_verdict(&codes, image, marks, base)
+}
+
+// 1 for a start, 0 for no start.
+fn one_start(mark: u8) -> usize
+    ensures { λ r. ⌜ r ≡ pick (isStart mark) 1 0 ⌝ }
+{
+    if is_start(mark) { 1 } else { 0 }
+}
+
+// How many instructions the marks start.
+pub fn count_starts(marks: &[u8]) -> usize
+    ensures { λ r. ⌜ r ≡ startCount (now (marks .entry)) ⌝ }
+{
+    let mut n = 0;
+    let mut i = marks.len();
+    while 0 < i {
+        i -= 1;
+        n += one_start(marks[i]);
+    }
+    n
+}

@@ -1,0 +1,34 @@
+-- Each exit has passed the tests of the definition in its order.
+-- Assumes nothing.
+use Rattle.model.specs.Image.{baseFits}
+use Prim.Native.Nat.{_+_, _%_}
+use native.Mathlib.Omega.{arith}
+use borrow.Author.Tests.{eq-eqb, ne-eqb, lt-ltb, le-ltb, le-leb, lt-leb}
+use borrow.Author.Needs.{needs}
+use Rattle.image.proofs.base_fits.Statement.{statement}
+use Rattle.image.proofs.base_fits.Tie as tie
+
+returns : tie.Need-returns
+unfolding baseFits
+returns c = rw (le-ltb (c .before .args .base) 16777216 (c .if1 .taken))
+
+returns-2 : tie.Need-returns-2
+unfolding baseFits
+returns-2 c =
+    rw (
+      lt-ltb (c .before .before .args .base) 16777216 (omega arith),
+      lt-leb (c .before .before .args .base % 65536
+          + c .before .before .args .n) 65536 (omega arith),
+    )
+
+add-result : tie.Need-add-result
+add-result c = omega (arith, c .low .ensures)
+
+returns-3 : tie.Need-returns-3
+unfolding baseFits
+returns-3 c = rw (lt-ltb (c .before .before .before .args .base) 16777216 (omega arith), c .low .ensures)
+
+pub base-fits-spec : {M : Type 1} → statement M
+base-fits-spec = tie.close
+    (tie.spec
+    returns returns-2 (λ c κs. search needs) add-result returns-3)

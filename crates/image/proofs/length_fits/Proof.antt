@@ -1,0 +1,34 @@
+-- Each exit has passed the tests of the definition in its order.
+-- Assumes nothing.
+use Rattle.model.specs.Image.{lengthFits}
+use native.Mathlib.Omega.{arith}
+use borrow.Author.Tests.{eq-eqb, ne-eqb, lt-ltb, le-ltb, le-leb, lt-leb}
+use Rattle.image.proofs.length_fits.Statement.{statement}
+use Rattle.image.proofs.length_fits.Tie as tie
+
+returns : tie.Need-returns
+unfolding lengthFits
+returns c = rw (c .if1 .taken)
+
+returns-2 : tie.Need-returns-2
+unfolding lengthFits
+returns-2 c =
+    rw (
+      lt-ltb 0 (c .before .before .args .image) (omega arith),
+      lt-leb (c .before .before .args .image) 16384 (c
+          .if2 .taken),
+    )
+
+returns-3 : tie.Need-returns-3
+unfolding lengthFits
+returns-3 c =
+    rw (
+      lt-ltb 0 (c .before .before .args .image) (omega arith),
+      le-leb (c .before .before .args .image) 16384 (c
+          .if2 .left),
+    )
+
+pub length-fits-spec : {M : Type 1} → statement M
+length-fits-spec = tie.close
+    (tie.spec
+    returns returns-2 returns-3)

@@ -1,0 +1,15 @@
+-- Each exit has passed the tests of the definition in its order.
+-- Assumes nothing.
+use Rattle.model.specs.Image.{resetFits}
+use borrow.Author.Needs.{needs}
+use Rattle.image.proofs.reset_fits.Statement.{statement}
+use Rattle.image.proofs.reset_fits.Tie as tie
+
+returns : tie.Need-returns
+unfolding resetFits
+returns c = rw (c .mark-at .ensures)
+
+pub reset-fits-spec : {M : Type 1} → statement M
+reset-fits-spec = tie.close
+    (tie.spec
+    (λ c. search needs) (λ c. search needs) (λ c. search needs) (λ c κs. search needs) returns)

@@ -1,0 +1,26 @@
+-- A refusal's number and offset are small.
+-- Assumes nothing.
+use Rattle.loader.specs.Packed.{Fits}
+use native.Mathlib.Omega.{arith}
+use borrow.Author.Needs.{needs}
+use Rattle.loader.proofs.pack.Statement.{statement}
+use Rattle.loader.proofs.pack.Tie as tie
+
+add-result : tie.Need-add-result
+add-result c =
+    let fits = rw (c .before .answer .given .1) at (c .before .before .before .pre) in omega (
+      arith,
+      fits .0,
+      fits
+          .1,
+    )
+
+returns-2 : tie.Need-returns-2
+returns-2 c = rw (c .before .answer .given .1)
+
+pub pack-spec : {M : Type 1} → statement M
+pack-spec =
+    tie.close
+    (tie.spec
+    (λ c. search needs) (λ c. search needs) (λ c. search needs) (λ c. search needs) add-result
+    (λ c. search needs) returns-2)

@@ -1,0 +1,104 @@
+-- The lowest place where a test holds: no place before it passes the test, and it passes itself unless it is the end.
+-- Assumes nothing.
+use mathlib.Core.Path.{_≡_, refl, subst}
+use mathlib.Core.Logic.{_⊎_, inl, inr}
+use mathlib.Core.Bool.{Bool, true, false}
+use Prim.Native.Nat.{ℕ, zero, suc, _+_, _≤_, _<_}
+use native.Mathlib.Nat.{eq-or-lt-of-le, le-antisymm, le-of-suc-le-suc}
+use native.Mathlib.Numerals.{add-one}
+use borrow.Author.Tests.{ltb-true, ltb-false}
+use lib.Dec.{T, ltb}
+use native.Mathlib.Omega.{arith}
+use Rattle.model.specs.Choice.{pick}
+use Rattle.model.specs.Verdict.{firstFrom}
+
+pub record First (test : ℕ → Bool) (i n j : ℕ) : Type 0 where
+  pub at-most : j ≤ i + n
+  pub at-least : i ≤ j
+  pub before : (k : ℕ) → i ≤ k → k < j → test k ≡ false
+  pub found : j < i + n → test j ≡ true
+
+true-not-false : _≡_ {A = Bool} true false → ⊥
+true-not-false h = subst (λ (b : Bool). T b) h tt
+
+module _ (test : ℕ → Bool) where
+  here : (i n : ℕ) → test i ≡ true → First test i (suc n) i
+  here i n h = record {
+    at-most = omega arith;
+    at-least = omega arith;
+    before = λ k low high. absurd (omega arith);
+    found = λ _. h;
+  }
+
+  later : (i n j : ℕ) → test i ≡ false → First test (i + 1) n j → First test i (suc n) j
+  later i n j h f = record {
+    at-most = omega (arith, f .at-most);
+    at-least = omega (arith, f .at-least);
+    before = λ k low high. at k low high (eq-or-lt-of-le low);
+    found = λ inside. f .found (omega arith);
+  }
+    where
+      at : (k : ℕ) → i ≤ k → k < j → (i ≡ k) ⊎ (i < k) → test k ≡ false
+      at k low high (inl e) = rw (← e) h
+      at k low high (inr past) = f .before k (omega arith) high
+
+  pub first-is : (i n : ℕ) → First test i n (firstFrom test i n)
+  unfolding firstFrom
+  first-is i zero = record {
+    at-most = omega arith;
+    at-least = omega arith;
+    before = λ k low high. absurd (omega arith);
+    found = λ inside. absurd (omega arith);
+  }
+  first-is i (suc n) = by (test i) refl (first-is (i + 1) n)
+    where
+      by : (b : Bool) → test i ≡ b → First test (i + 1) n (firstFrom test (i + 1) n)
+          → First test i (suc n) (pick b i (firstFrom test (i + 1) n))
+      by true h f = here i n h
+      by false h f = later i n (firstFrom test (i + 1) n) h f
+
+  not-before : (i n j k : ℕ) → First test i n j → First test i n k → j < k → ⊥
+  not-before i n j k f g h =
+      let yes = f .found (omega (arith, g .at-most)) in
+      let no = g .before j (f .at-least) h in
+      let z : _≡_ {A = Bool} true false = cc in
+      absurd (true-not-false z)
+
+  -- what is first is the only such place
+  pub first-only : (i n j k : ℕ) → First test i n j → First test i n k → j ≡ k
+  first-only i n j k f g = by (ltb j k) (ltb k j) refl refl
+    where
+      by : (a b : Bool) → ltb j k ≡ a → ltb k j ≡ b → j ≡ k
+      by true b h h′ = absurd (not-before i n j k f g (ltb-true j k h))
+      by false true h h′ = absurd (not-before i n k j g f (ltb-true k j h′))
+      by false false h h′ = le-antisymm (ltb-false k j h′) (ltb-false j k h)
+
+-- A loop that goes up from a place: every place passed fails the test.
+module _ (test : ℕ → Bool) (from : ℕ) where
+  abbrev pub Passed : ℕ → Type 0
+  Passed i = (from ≤ i) × ((k : ℕ) → from ≤ k → k < i → test k ≡ false)
+
+  pub none-passed : Passed from
+  none-passed = (omega arith, λ k low high. absurd (omega arith))
+
+  pub one-more-passed : (i : ℕ) → Passed i → test i ≡ false → Passed (i + 1)
+  one-more-passed i p h = (
+    omega (arith, p .0),
+    λ k low high. at k low (eq-or-lt-of-le (le-of-suc-le-suc (rw add-one
+        at high))),
+  )
+    where
+      at : (k : ℕ) → from ≤ k → (k ≡ i) ⊎ (k < i) → test k ≡ false
+      at k low (inl e) = rw e h
+      at k low (inr below) = p .1 k low below
+
+  pub passed-to : (i n : ℕ) → Passed i → i < from + n → test i ≡ true → i ≡ firstFrom test from n
+  passed-to i n p inside h =
+      first-only test from n i (firstFrom test from n)
+      (record { at-most = omega arith; at-least = p .0; before = p .1; found = λ _. h }) (first-is test from n)
+
+  pub passed-all : (i n : ℕ) → Passed i → i ≤ from + n → from + n ≤ i → i ≡ firstFrom test from n
+  passed-all i n p most least =
+      first-only test from n i (firstFrom test from n)
+      (record { at-most = most; at-least = p .0; before = p .1; found = λ inside. absurd (omega arith) }) (first-is
+      test from n)

@@ -1,0 +1,42 @@
+-- Bounds of the widths after an instruction, for the code that makes marks of them.
+-- Assumes nothing.
+use mathlib.Core.Path.{_≡_}
+use Prim.Native.Nat.{ℕ, _-_, _/_, _%_, _^_, _≤_}
+use native.Mathlib.Nat.{div-le-self}
+use native.Mathlib.Omega.{arith}
+use lib.Dec.{eqb}
+use Rattle.model.specs.declared.code.WidthEffect.{WidthEffect}
+use Rattle.model.specs.declared.code.WidthEffect.the-variants.{KeepWidths, SetM, ClearM, SetBits, ClearBits}
+use Rattle.model.specs.declared.code.Kind.{Kind}
+use Rattle.model.specs.declared.code.Kind.the-variants.{ByRts, ByRtl}
+use Rattle.model.specs.Rules.{mAfter, xAfter, kindNumber, lastByte}
+use Rattle.model.proofs.Choice.{one-of}
+
+pub m-after-bit : (e : WidthEffect) (m operand : ℕ) → m ≤ 1 → mAfter e m operand ≤ 1
+unfolding mAfter
+m-after-bit KeepWidths m operand h = h
+m-after-bit SetM m operand h = omega arith
+m-after-bit ClearM m operand h = omega arith
+m-after-bit SetBits m operand h = one-of (eqb (operand / 32 % 2) 1) 1 m (omega arith) h
+m-after-bit ClearBits m operand h = one-of (eqb (operand / 32 % 2) 1) 0 m (omega arith) h
+
+pub x-after-bit : (e : WidthEffect) (x operand : ℕ) → x ≤ 1 → xAfter e x operand ≤ 1
+unfolding xAfter
+x-after-bit KeepWidths x operand h = h
+x-after-bit SetM x operand h = h
+x-after-bit ClearM x operand h = h
+x-after-bit SetBits x operand h = one-of (eqb (operand / 16 % 2) 1) 1 x (omega arith) h
+x-after-bit ClearBits x operand h = one-of (eqb (operand / 16 % 2) 1) 0 x (omega arith) h
+
+pub kind-bits : (k : Kind) → kindNumber k ≤ 3
+kind-bits ByRts = omega arith
+kind-bits ByRtl = omega arith
+
+-- a length of at most six that is none of 3 to 6 leaves the whole operand
+pub whole-operand : (operand n : ℕ) → n ≤ 6 → (n ≡ 3 → ⊥) → (n ≡ 4 → ⊥) → (n ≡ 5 → ⊥) → (n ≡ 6 → ⊥) → operand ≡ lastByte operand n
+whole-operand operand n h h3 h4 h5 h6 =
+    let none : n - 2 ≡ 0 = omega arith in
+    rw none (omega arith)
+
+pub last-byte-at-most : (operand n : ℕ) → lastByte operand n ≤ operand
+last-byte-at-most operand n = div-le-self operand (256 ^ (n - 2))

@@ -1,0 +1,152 @@
+-- 01, 'Rules of acceptance': successors, what a start owes them, and the rules as one predicate.
+-- Assumes nothing.
+use mathlib.Core.Path.{_≡_}
+use Prim.Native.Nat.{ℕ, _+_, _-_, _*_, _/_, _%_, _^_, _<_, _≤_}
+use mathlib.Core.Bool.{Bool, true, false, not, _&&_, _||_}
+use mathlib.Core.List.{List, [], _∷_}
+use lib.Dec.{eqb, ltb}
+use lib.ListN.{length, getD, drop}
+use Rattle.model.specs.declared.code.Kind.{Kind}
+use Rattle.model.specs.declared.code.Kind.the-variants.{ByRts, ByRtl}
+use Rattle.model.specs.declared.code.Flow.{Flow}
+use Rattle.model.specs.declared.code.Flow.the-variants.{Next, Branch, Jump, Call, Return, Halt}
+use Rattle.model.specs.declared.code.Target.{Target}
+use Rattle.model.specs.declared.code.Target.the-variants.{NoTarget, Offset8, Offset16, Address16, Address24}
+use Rattle.model.specs.declared.code.WidthEffect.{WidthEffect}
+use Rattle.model.specs.declared.code.WidthEffect.the-variants.{KeepWidths, SetM, ClearM, SetBits, ClearBits}
+use Rattle.model.specs.declared.code.Instruction.{Instruction}
+use Rattle.model.specs.declared.code.Decoded.the-variants.{Whole}
+use Rattle.model.specs.declared.rules.Want.{Want}
+use Rattle.model.specs.declared.rules.Owed.{Owed}
+use Rattle.model.specs.declared.rules.Owed.the-variants.{Nothing, One, Two}
+use Rattle.model.specs.Choice.{pick}
+use Rattle.model.specs.Image.{imageLimit, bankSize, addressLimit, isStart, markM, markX, markKind, returnM, returnX}
+use Rattle.model.specs.Image.{markOf, isFormed, lengthFits, baseFits, markAt, inBankOf, resetFits}
+use Rattle.model.specs.Decode.{decode}
+
+-- 'the next address': addresses count on as one 24-bit number that wraps
+abbrev pub nextAddress : ℕ → ℕ → ℕ
+nextAddress address n = (address + n) % addressLimit
+
+-- an address plus a signed offset, given as a number below twice its half range
+abbrev pub offsetBy : ℕ → ℕ → ℕ → ℕ
+offsetBy half address offset =
+    (address + pick (ltb offset half) offset (addressLimit - 2 * half + offset)) % addressLimit
+
+-- an 8-bit offset is the last byte of the operand
+abbrev pub lastByte : ℕ → ℕ → ℕ
+lastByte operand n = operand / 256 ^ (n - 2)
+
+-- 'next address plus signed offset (8 or 16 bits)'; 'JMP and JSR absolute .. stay in the instruction's bank'
+unfoldable pub targetOf : Target → ℕ → ℕ → ℕ → ℕ
+targetOf NoTarget address n operand = nextAddress address n
+targetOf Offset8 address n operand = offsetBy 128 (nextAddress address n) (lastByte operand n)
+targetOf Offset16 address n operand = offsetBy 32_768 (nextAddress address n) operand
+targetOf Address16 address n operand = inBankOf address operand
+targetOf Address24 address n operand = operand
+
+-- 'the widths in force after the instruction. Only SEM, CLM, SEP and CLP change them, by their fixed bits': m is bit 5 of
+-- the status register, x is bit 4
+abbrev pub setBit : ℕ → ℕ → ℕ
+setBit width bit = pick (eqb bit 1) 1 width
+
+abbrev pub clearBit : ℕ → ℕ → ℕ
+clearBit width bit = pick (eqb bit 1) 0 width
+
+unfoldable pub mAfter : WidthEffect → ℕ → ℕ → ℕ
+mAfter KeepWidths m operand = m
+mAfter SetM m operand = 1
+mAfter ClearM m operand = 0
+mAfter SetBits m operand = setBit m (operand / 32 % 2)
+mAfter ClearBits m operand = clearBit m (operand / 32 % 2)
+
+unfoldable pub xAfter : WidthEffect → ℕ → ℕ → ℕ
+xAfter KeepWidths x operand = x
+xAfter SetM x operand = x
+xAfter ClearM x operand = x
+xAfter SetBits x operand = setBit x (operand / 16 % 2)
+xAfter ClearBits x operand = clearBit x (operand / 16 % 2)
+
+-- kinds as a mark has them
+abbrev pub kindNumber : Kind → ℕ
+kindNumber ByRts = 1
+kindNumber ByRtl = 2
+
+abbrev pub want : ℕ → ℕ → Want
+want address mark = record { address = address; mark = mark }
+
+-- 'The target has the caller's widths and kind 1 (JSR) or 2 (JSR long)'; its return widths are its own. `mark` is the caller's,
+-- `there` the target's.
+unfoldable pub markOfRoutine : Kind → ℕ → ℕ → ℕ
+markOfRoutine kind mark there = markOf (markM mark) (markX mark) (kindNumber kind) (returnM there) (returnX there)
+
+-- 'The address after has the target's return widths as its widths, and the caller's own kind and return widths.'
+unfoldable pub markOnReturn : ℕ → ℕ → ℕ
+markOnReturn mark there = markOf (returnM there) (returnX there) (markKind mark) (returnM mark) (returnX mark)
+
+-- 'Each successor .. has the same return kind and return widths, and has the widths in force after the instruction.'
+unfoldable pub markAfter : WidthEffect → ℕ → ℕ → ℕ
+markAfter effect operand mark =
+    markOf (mAfter effect (markM mark) operand) (xAfter effect (markX mark) operand)
+    (markKind mark) (returnM mark) (returnX mark)
+
+-- What an instruction owes, by its flow: at which addresses which marks must stand. `mark` is the instruction's own, `after` that
+-- of a successor, `there` the mark at the target.
+unfoldable pub owedBy : Flow → ℕ → ℕ → ℕ → ℕ → ℕ → Owed
+owedBy Next mark after next target there = One (want next after)
+owedBy Branch mark after next target there = Two (want next after) (want target after)
+owedBy Jump mark after next target there = One (want target after)
+owedBy (Call kind) mark after next target there =
+    Two (want target (markOfRoutine kind mark there)) (want next (markOnReturn mark there))
+owedBy (Return kind) mark after next target there = Nothing
+owedBy Halt mark after next target there = Nothing
+
+-- where an instruction at an address goes by its target
+abbrev pub targetAddress : Instruction → ℕ → ℕ
+targetAddress i address = targetOf (i .entry .target) address (i .length) (i .operand)
+
+-- what an instruction at an address, with a mark there, owes
+unfoldable pub owedAt : List ℕ → ℕ → Instruction → ℕ → ℕ → Owed
+owedAt marks base i address mark =
+    owedBy (i .entry .flow) mark (markAfter (i .entry .effect) (i .operand) mark) (nextAddress address (i .length)) (targetAddress i address)
+    (markAt marks base (targetAddress i address))
+
+-- 'RTS stands only under kind 1, RTL only under kind 2, each at the marked return widths.'
+unfoldable pub returnsBy : Kind → ℕ → Bool
+returnsBy kind mark =
+    eqb (markKind mark) (kindNumber kind) && eqb (markM mark) (returnM mark) && eqb (markX mark) (returnX mark)
+
+unfoldable pub returnFits : Flow → ℕ → Bool
+returnFits Next mark = true
+returnFits Branch mark = true
+returnFits Jump mark = true
+returnFits (Call kind) mark = true
+returnFits (Return kind) mark = returnsBy kind mark
+returnFits Halt mark = true
+
+-- a want is met by a marked start in the image with that mark
+pub record Met (marks : List ℕ) (base : ℕ) (w : Want) : Type 0 where
+  pub is-start : isStart (markAt marks base (w .address)) ≡ true
+  pub has-mark : markAt marks base (w .address) ≡ w .mark
+
+abbrev pub AllMet : List ℕ → ℕ → Owed → Type 0
+AllMet marks base Nothing = Unit {0}
+AllMet marks base (One w) = Met marks base w
+AllMet marks base (Two v w) = Met marks base v × Met marks base w
+
+-- The rules at one start: its code is carried and the instruction ends within the image; no start on its later bytes; the rule
+-- of RTS and RTL; its successors.
+pub record StartRules (image marks : List ℕ) (base at : ℕ) : Type 0 where
+  pub instruction : Instruction
+  pub whole : decode (drop at image) (markM (getD marks at 0)) (markX (getD marks at 0)) ≡ Whole instruction
+  pub no-overlap : (k : ℕ) → at < k → k < at + instruction .length → isStart (getD marks k 0) ≡ false
+  pub returns : returnFits (instruction .entry .flow) (getD marks at 0) ≡ true
+  pub successors : AllMet marks base (owedAt marks base instruction (base + at) (getD marks at 0))
+
+-- The rules of acceptance, all of them.
+pub record Accepts (image marks : List ℕ) (base reset : ℕ) : Type 0 where
+  pub right-length : lengthFits (length image) (length marks) ≡ true
+  pub one-bank : baseFits base (length image) ≡ true
+  pub formed : (at : ℕ) → at < length marks → isFormed (getD marks at 0) ≡ true
+  pub at-reset : resetFits marks base reset ≡ true
+  pub at-starts : (at : ℕ) → at < length marks → isStart (getD marks at 0) ≡ true → StartRules image marks base at

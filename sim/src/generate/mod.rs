@@ -1,0 +1,100 @@
+//! Cases drawn by seed: the same seed gives the same cases everywhere.
+
+mod checks;
+mod lists;
+mod programs;
+mod runs;
+mod steps;
+
+pub use checks::{check_case, damaged, hostile_check};
+pub use lists::{read_case, write_case, ReadCase, WriteCase};
+pub use programs::{accepted, every_code, gentle, Program};
+pub use runs::{refused_run, run_case};
+pub use steps::{aimed_step, edge_step, step_case, RunCase, EDGES};
+
+/// Arguments of a check.
+#[derive(Clone, PartialEq, Eq, Debug)]
+pub struct CheckCase {
+    pub image: Vec<u8>,
+    pub marks: Vec<u8>,
+    pub base: u32,
+    pub reset: u32,
+}
+
+/// A generator of numbers (splitmix64).
+#[derive(Clone, Debug)]
+pub struct Rng(u64);
+
+impl Rng {
+    pub fn new(seed: u64) -> Rng {
+        Rng(seed)
+    }
+
+    pub fn next_u64(&mut self) -> u64 {
+        self.0 = self.0.wrapping_add(0x9E37_79B9_7F4A_7C15);
+        let mut z = self.0;
+        z = (z ^ (z >> 30)).wrapping_mul(0xBF58_476D_1CE4_E5B9);
+        z = (z ^ (z >> 27)).wrapping_mul(0x94D0_49BB_1331_11EB);
+        z ^ (z >> 31)
+    }
+
+    /// A number under `bound`, which is not 0.
+    pub fn below(&mut self, bound: u64) -> u64 {
+        (self.next_u64() >> 32) % bound
+    }
+
+    pub fn index(&mut self, bound: usize) -> usize {
+        self.below(bound as u64) as usize
+    }
+
+    pub fn byte(&mut self) -> u8 {
+        (self.next_u64() >> 56) as u8
+    }
+
+    pub fn word(&mut self) -> u16 {
+        (self.next_u64() >> 48) as u16
+    }
+
+    /// True in `of` draws about `times` times.
+    pub fn chance(&mut self, times: u64, of: u64) -> bool {
+        self.below(of) < times
+    }
+
+    pub fn pick<'a, T>(&mut self, from: &'a [T]) -> &'a T {
+        &from[self.index(from.len())]
+    }
+
+    /// A byte that is often at an edge.
+    pub fn edge_byte(&mut self) -> u8 {
+        match self.below(4) {
+            0 => self.byte(),
+            _ => *self.pick(&[0, 1, 2, 0x7F, 0x80, 0x81, 0xFE, 0xFF]),
+        }
+    }
+
+    /// A word that is often at an edge of 8 or 16 bits.
+    pub fn edge_word(&mut self) -> u16 {
+        match self.below(4) {
+            0 => self.word(),
+            1 => u16::from_le_bytes([self.edge_byte(), self.edge_byte()]),
+            _ => *self.pick(&[
+                0, 1, 2, 0x7F, 0x80, 0xFE, 0xFF, 0x100, 0x1FF, 0x7FFF, 0x8000, 0xFF00, 0xFFFE,
+                0xFFFF,
+            ]),
+        }
+    }
+}
+
+/// A base at which an image of this length lies within one bank.
+fn sound_base(rng: &mut Rng, length: usize, lowest: u32) -> u32 {
+    let last = 0x1_0000 - length as u32;
+    let bank = (*rng.pick(&[0u8, 0, 0, 1, 2, 0x12, 0x7F, 0x80, 0xFE, 0xFF]) as u32) << 16;
+    let within = match rng.below(5) {
+        0 => last,
+        1 => 0xC000.min(last),
+        2 => lowest.min(last),
+        3 => lowest.max(0x1000).min(last),
+        _ => rng.below(last as u64 + 1) as u32,
+    };
+    (bank | within).max(lowest.min(last))
+}

@@ -1,0 +1,22 @@
+//! A MELPS 7700 simulator written apart: a second reading of the papers.
+//!
+//! The functions mirror the C interface of INTERFACE.md on slices, with the
+//! same packing of the result. "01" in a comment is 01-scope.md, "manual"
+//! the MELPS 7700 Software Manual.
+
+mod alu;
+pub mod answer;
+mod check;
+pub mod codes;
+pub mod generate;
+mod list;
+pub mod listing;
+mod machine;
+pub mod marks;
+pub mod numbers;
+pub mod state;
+pub mod vectors;
+
+pub use check::{check, verdict};
+pub use list::{read_list, write_list};
+pub use machine::{run, step};

@@ -1,0 +1,44 @@
+//! The numbers of 01's table and the limits behind them.
+
+pub const LENGTH: u8 = 1;
+pub const BASE: u8 = 2;
+pub const RESET: u8 = 3;
+pub const MARK: u8 = 4;
+pub const CODE: u8 = 5;
+pub const CUT_OFF: u8 = 6;
+pub const OVERLAP: u8 = 7;
+pub const FLOW: u8 = 8;
+pub const WIDTHS: u8 = 9;
+pub const RETURN: u8 = 10;
+pub const RAM: u8 = 11;
+pub const STATE: u8 = 12;
+pub const STEPS: u8 = 13;
+pub const LIST: u8 = 14;
+pub const PAGE: u8 = 15;
+
+pub const OUTSIDE: u8 = 20;
+pub const UNCARRIED: u8 = 21;
+pub const HALT: u8 = 22;
+pub const UNMAPPED: u8 = 23;
+pub const ASTRAY: u8 = 24;
+pub const DEEP: u8 = 25;
+pub const IMAGE_STORE: u8 = 26;
+pub const DECIMAL: u8 = 27;
+
+pub const MAX_IMAGE: usize = 16_384;
+pub const MAX_RAM: usize = 4_096;
+pub const MAX_STEPS: u32 = 1_000_000;
+pub const MAX_CALLS: usize = 64;
+pub const MAX_ADDRESS: u32 = 0xFF_FFFF;
+pub const BANK: u32 = 0x1_0000;
+
+/// 1, then 2: an image's length and its place within one bank.
+pub fn image_place(length: usize, base: u32) -> Result<(), u8> {
+    if length == 0 || length > MAX_IMAGE {
+        return Err(LENGTH);
+    }
+    if base > MAX_ADDRESS || base % BANK + length as u32 > BANK {
+        return Err(BASE);
+    }
+    Ok(())
+}

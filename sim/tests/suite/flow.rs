@@ -1,0 +1,158 @@
+//! Branches, jumps, calls and returns (manual 4.1.5; 01, "The machine").
+
+use crate::common::*;
+
+/// Condition codes with the flag that decides and the value that branches.
+const BRANCHES: [(u8, u16, bool); 8] = [
+    (0x90, C, false),
+    (0xB0, C, true),
+    (0xD0, Z, false),
+    (0xF0, Z, true),
+    (0x10, N, false),
+    (0x30, N, true),
+    (0x50, V, false),
+    (0x70, V, true),
+];
+
+fn goes_to(image: &[u8], base: u32, ps: u16, target: u32) {
+    let mut bench = Bench::at(base, image);
+    bench.r.ps = ps;
+    let mut wanted = bench.clone();
+    wanted.r.pc = target;
+    bench.step();
+    assert_eq!(bench, wanted, "{image:02X?} at {base:06X}");
+}
+
+#[test]
+fn branches_test_one_flag() {
+    for (code, flag, set) in BRANCHES {
+        for ps in [0, 0x7FF, 0x555, 0x2AA, flag, 0x7FF & !flag] {
+            let taken = (ps & flag != 0) == set;
+            for (offset, by) in [(0x00u8, 0i64), (0x7F, 127), (0x80, -128), (0xFE, -2)] {
+                let target = if taken { 0xC002 + by } else { 0xC002 };
+                goes_to(&[code, offset], 0xC000, ps, target as u32);
+            }
+        }
+    }
+}
+
+#[test]
+fn bra_has_both_offsets() {
+    goes_to(&[0x80, 0x10], 0xC000, 0, 0xC012);
+    goes_to(&[0x80, 0xF0], 0xC000, 0, 0xBFF2);
+    goes_to(&[0x82, 0x10, 0x00], 0xC000, 0, 0xC013);
+    goes_to(&[0x82, 0x00, 0x80], 0xC000, 0, 0x4003);
+    goes_to(&[0x82, 0xFF, 0x7F], 0x2C000, 0, 0x34002);
+    goes_to(&[0x82, 0xFD, 0xFF], 0xC000, 0, 0xC000);
+}
+
+/// PG and PC count on as one 24-bit number that wraps.
+#[test]
+fn branches_cross_banks_and_wrap() {
+    goes_to(&[0x80, 0x10], 0x1FFFE, 0, 0x20010);
+    goes_to(&[0x80, 0xF0], 0x20000, 0, 0x1FFF2);
+    goes_to(&[0x80, 0x10], 0xFFFFFE, 0, 0x10);
+    goes_to(&[0x90, 0x10], 0xFFFFFE, C, 0);
+    goes_to(&[0x82, 0x00, 0x80], 0x1000, 0, 0xFF9003);
+    goes_to(&[0xEA], 0xFFFFFF, 0, 0);
+    goes_to(&[0xEA], 0x1FFFF, 0, 0x20000);
+    goes_to(&[0xA9, 0, 0], 0x1FFFD, Z, 0x20000);
+}
+
+/// JMP absolute stays in the instruction's bank, also at the bank's end;
+/// the manual's example of JMP long is 5C 56 34 12.
+#[test]
+fn jumps_replace_pc_or_both() {
+    goes_to(&[0x4C, 0x34, 0x12], 0x5C000, 0, 0x51234);
+    goes_to(&[0x4C, 0x34, 0x12], 0x5FFFD, 0, 0x51234);
+    goes_to(&[0x5C, 0x56, 0x34, 0x12], 0xC000, 0, 0x123456);
+    goes_to(&[0x5C, 0x56, 0x34, 0x12], 0xFFFFFC, 0, 0x123456);
+}
+
+#[test]
+fn jsr_pushes_the_next_address() {
+    let mut bench = Bench::at(0x5C000, &[0x20, 0x34, 0x12]);
+    assert_eq!(bench.run(1), (0, 1, 1));
+    assert_eq!((bench.ram[0x1FF], bench.ram[0x1FE]), (0xC0, 0x03));
+    assert_eq!((bench.r.s, bench.r.pc), (0x1FD, 0x51234));
+    assert_eq!(bench.calls, [(0x5C003, 1)]);
+}
+
+#[test]
+fn jsr_long_pushes_the_bank_first() {
+    let mut bench = Bench::at(0x5C000, &[0x22, 0x56, 0x34, 0x12]);
+    assert_eq!(bench.run(1), (0, 1, 1));
+    assert_eq!(bench.ram[0x1FD..0x200], [0x04, 0xC0, 0x05]);
+    assert_eq!((bench.r.s, bench.r.pc), (0x1FC, 0x123456));
+    assert_eq!(bench.calls, [(0x5C004, 2)]);
+}
+
+/// At a bank's end the instruction behind lies in the next bank: JSR's
+/// target stays in the instruction's bank, its return address does not, and
+/// an RTS in that bank finds another address than the open call's.
+#[test]
+fn calls_at_a_bank_end() {
+    let mut image = vec![0xEA; 0x10];
+    image[0] = 0x60;
+    image[13..].copy_from_slice(&[0x20, 0xF0, 0xFF]);
+    let mut bench = Bench::at(0x5FFF0, &image);
+    bench.r.pc = 0x5FFFD;
+    assert_eq!(bench.run(1), (0, 1, 1));
+    assert_eq!(bench.calls, [(0x60000, 1)]);
+    assert_eq!(bench.r.pc, 0x5FFF0);
+    bench.stops(24);
+    let mut long = Bench::at(0x5FFFC, &[0x22, 0, 0, 6]);
+    assert_eq!(long.run(1), (0, 1, 1));
+    assert_eq!(long.ram[0x1FD..0x200], [0, 0, 6]);
+    let mut wrap = Bench::at(0xFFFFFC, &[0x22, 0, 0, 6]);
+    assert_eq!(wrap.run(1), (0, 1, 1));
+    assert_eq!(wrap.calls, [(0, 2)]);
+}
+
+#[test]
+fn returns_pull_what_was_pushed() {
+    let mut rts = Bench::at(0x5C000, &[0x60]);
+    rts.r.s = 0x80;
+    rts.ram[0x81..0x83].copy_from_slice(&[0x34, 0x12]);
+    rts.calls = vec![(0x11111, 2), (0x51234, 1)];
+    assert_eq!(rts.run(1), (0, 1, 0));
+    assert_eq!((rts.r.s, rts.r.pc), (0x82, 0x51234));
+    assert_eq!(rts.calls, [(0x11111, 2)]);
+    let mut rtl = Bench::at(0x5C000, &[0x6B]);
+    rtl.r.s = 0x80;
+    rtl.ram[0x81..0x84].copy_from_slice(&[0x56, 0x34, 0x12]);
+    rtl.calls = vec![(0x123456, 2)];
+    assert_eq!(rtl.run(1), (0, 1, 0));
+    assert_eq!((rtl.r.s, rtl.r.pc), (0x83, 0x123456));
+    assert_eq!(rtl.calls, []);
+}
+
+/// RTS as a bank's last byte stays in that bank.
+#[test]
+fn rts_at_a_bank_end_stays() {
+    let mut rts = Bench::at(0x5FFFF, &[0x60]);
+    rts.r.s = 0x80;
+    rts.ram[0x81..0x83].copy_from_slice(&[0x34, 0x12]);
+    rts.calls = vec![(0x51234, 1)];
+    assert_eq!(rts.run(1), (0, 1, 0));
+    assert_eq!(rts.r.pc, 0x51234);
+}
+
+/// Calls of both kinds down to 64 and back, counted in the answer.
+#[test]
+fn calls_nest_to_64() {
+    // C000 DEX, C001 BEQ C006, C003 JSR C000, C006 RTS.
+    let image = [0xCA, 0xF0, 0x03, 0x20, 0x00, 0xC0, 0x60];
+    let mut bench = Bench::new(&image);
+    bench.ram = vec![0; 0x400];
+    bench.r.s = 0x3FF;
+    bench.r.x = 65;
+    // 64 rounds of three steps, then DEX and BEQ, then 64 returns.
+    assert_eq!(bench.run(64 * 3 + 2 + 64), (0, 258, 64));
+    assert_eq!((bench.r.s, bench.r.pc), (0x3FF, 0xC006));
+    assert!(bench.calls.is_empty());
+    bench.r.pc = 0xC000;
+    bench.r.x = 66;
+    assert_eq!(bench.run(1000), (25, 64 * 3 + 2, 64));
+    assert_eq!(bench.calls.len(), 64);
+}

@@ -1,0 +1,19 @@
+//! The simulator's own tests; each module names the papers' place.
+
+mod addressing;
+mod arithmetic;
+mod check_order;
+mod check_rules;
+mod codemap;
+mod common;
+mod flags_and_bits;
+mod flow;
+mod generator;
+mod lists;
+mod program;
+mod proved_set;
+mod refusals;
+mod registers;
+mod stack;
+mod stops;
+mod vectors;

@@ -1,0 +1,49 @@
+//! trial check [CASES] [SEED]: compares the library with the simulator.
+
+use std::env;
+use std::process::ExitCode;
+use trial7700::tally::Tally;
+use trial7700::{check, faults};
+
+const CASES: u64 = 1_000_000;
+const SEED: u64 = 7700;
+
+fn main() -> ExitCode {
+    let args: Vec<String> = env::args().skip(1).collect();
+    let Some((name, cases, seed)) = wanted(&args) else {
+        return usage();
+    };
+    faults::report();
+    let tally = match name {
+        "check" => check::trial(cases, seed),
+        _ => return usage(),
+    };
+    verdict(&tally, cases)
+}
+
+fn usage() -> ExitCode {
+    eprintln!("usage: trial check [CASES] [SEED]");
+    ExitCode::from(2)
+}
+
+fn wanted(args: &[String]) -> Option<(&str, u64, u64)> {
+    let number = |at: usize, default| args.get(at).map_or(Some(default), |n| n.parse().ok());
+    if args.len() > 3 {
+        return None;
+    }
+    Some((args.first()?, number(1, CASES)?, number(2, SEED)?))
+}
+
+/// A trial of the default size or more has to meet every number.
+fn verdict(tally: &Tally, cases: u64) -> ExitCode {
+    tally.print();
+    let missing = tally.missing();
+    for (number, word) in &missing {
+        println!("never met: {number} {word}");
+    }
+    if tally.differences() > 0 || (cases >= CASES && !missing.is_empty()) {
+        ExitCode::FAILURE
+    } else {
+        ExitCode::SUCCESS
+    }
+}

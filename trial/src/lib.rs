@@ -1,0 +1,19 @@
+//! The proved library beside the simulator: the same cases to both, the
+//! answers and every byte of every lent buffer compared.
+
+pub mod check;
+pub mod faults;
+pub mod guard;
+pub mod library;
+pub mod tally;
+
+use std::fmt::Write;
+
+/// Bytes in hexadecimal.
+pub fn hex(bytes: &[u8]) -> String {
+    let mut text = String::with_capacity(2 * bytes.len());
+    for byte in bytes {
+        let _ = write!(text, "{byte:02X}");
+    }
+    text
+}
