@@ -155,13 +155,9 @@ fn mark_of_routine(kind: Kind, mark: u8, there: u8) -> u8
 fn mark_on_return(mark: u8, there: u8) -> u8
     ensures { λ r. ⌜ r ≡ rules.markOnReturn mark there ⌝ }
 {
-    mark_of(
-        there / 32 % 2,
-        there / 64 % 2,
-        mark / 8 % 4,
-        mark / 32 % 2,
-        mark / 64 % 2,
-    )
+    let m = there / 32 % 2;
+    let x = there / 64 % 2;
+    mark_of(m, x, mark / 8 % 4, mark / 32 % 2, mark / 64 % 2)
 }
 
 fn owed_by(flow: Flow, mark: u8, after: u8, next: u64, target: u64, there: u8) -> Owed
