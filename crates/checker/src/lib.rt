@@ -16,7 +16,7 @@ ghost use Prim.Native.Nat.{_≤_, _<_};
 ghost use lib.ListN.{length};
 ghost use Rattle.codepages.specs.Packing.{numbers};
 ghost use Rattle.model.specs.Choice.{pick};
-ghost use Rattle.model.specs.Image.{isStart, startCount};
+ghost use Rattle.model.specs.Image.{addressLimit, imageLimit, isStart, startCount};
 ghost use Rattle.model.specs.Verdict as spec;
 
 // The lowest mark that is not of the form, or the number of marks.
@@ -33,33 +33,21 @@ fn bad_mark(marks: &[u8]) -> usize
     i
 }
 
-// The lowest start that breaks a rule, or the number of marks.
-fn bad_start(codes: &[[[u32; 16]; 16]; 3], image: &[u8], marks: &[u8], base: u32) -> usize
-    requires { ⌜ (now codes ≡ numbers) × (base < 16_777_216) × (length (now marks) ≤ 16_384) ⌝ }
-    ensures { λ r. ⌜ r ≡ spec.badStart (now (image .entry)) (now (marks .entry)) base ⌝ }
+// The starts in turn, from the lowest: the first that breaks a rule refuses.
+fn starts_verdict(codes: &[[[u32; 16]; 16]; 3], image: &[u8], marks: &[u8], base: u32) -> Verdict
+    requires { ⌜ (now codes ≡ numbers) × (base < addressLimit) × (length (now marks) ≤ imageLimit) ⌝ }
+    ensures { λ r. ⌜ r ≡ spec.startsVerdict (now (image .entry)) (now (marks .entry)) base ⌝ }
 {
     let mut i = 0;
     while i < marks.len() {
-        if start_number(codes, image, marks, base, i) != 0 {
-            return i;
+        let number = start_number(codes, image, marks, base, i);
+        if number != 0 {
+            let offset = i as u32;
+            return Verdict::Refused { number, offset };
         }
         i += 1;
     }
-    i
-}
-
-// The starts in turn, from the lowest.
-fn starts_verdict(codes: &[[[u32; 16]; 16]; 3], image: &[u8], marks: &[u8], base: u32) -> Verdict
-    requires { ⌜ (now codes ≡ numbers) × (base < 16_777_216) × (length (now marks) ≤ 16_384) ⌝ }
-    ensures { λ r. ⌜ r ≡ spec.startsVerdict (now (image .entry)) (now (marks .entry)) base ⌝ }
-{
-    let bad = bad_start(codes, image, marks, base);
-    if bad == marks.len() {
-        return Verdict::Accepted;
-    }
-    let number = start_number(codes, image, marks, base, bad);
-    let offset = bad as u32;
-    Verdict::Refused { number, offset }
+    Verdict::Accepted
 }
 
 // The check of an image against its marks, at a base and a reset address.

@@ -12,23 +12,28 @@ ghost use Prim.Native.Nat.{_+_, _*_, _≤_, _<_};
 ghost use Rattle.model.specs.Image.{addressLimit, markM, markX, markKind, returnM, returnX, markOf, inBankOf};
 ghost use Rattle.model.specs.Rules as rules;
 
+// The limits of model/specs/Image.antt.
+const BANK_SIZE: u64 = 65_536;
+
+const ADDRESS_LIMIT: u64 = 16_777_216;
+
 // The address after n bytes more.
 fn next_address(address: u64, n: u8) -> u64
     requires { ⌜ address < 4_294_967_296 ⌝ }
     ensures { λ r. ⌜ r ≡ rules.nextAddress address n ⌝ }
 {
-    (address + n as u64) % 16_777_216
+    (address + n as u64) % ADDRESS_LIMIT
 }
 
 // An address plus a signed offset whose half range is 128 or 32,768.
 fn offset_by(half: u64, address: u64, offset: u64) -> u64
-    requires { ⌜ (half ≤ 32_768) × (address < 16_777_216) × (offset < 1_099_511_627_776) ⌝ }
+    requires { ⌜ (half ≤ 32_768) × (address < addressLimit) × (offset < 1_099_511_627_776) ⌝ }
     ensures { λ r. ⌜ r ≡ rules.offsetBy half address offset ⌝ }
 {
     if offset < half {
-        return (address + offset) % 16_777_216;
+        return (address + offset) % ADDRESS_LIMIT;
     }
-    (address + (16_777_216 - 2 * half + offset)) % 16_777_216
+    (address + (ADDRESS_LIMIT - 2 * half + offset)) % ADDRESS_LIMIT
 }
 
 // The last byte of an operand of an instruction of 2 to 6 bytes.
@@ -50,7 +55,7 @@ fn in_bank_of(address: u64, low: u64) -> u64
     requires { ⌜ (address < 4_294_967_296) × (low < 1_099_511_627_776) ⌝ }
     ensures { λ r. ⌜ r ≡ inBankOf address low ⌝ }
 {
-    address / 65_536 * 65_536 + low
+    address / BANK_SIZE * BANK_SIZE + low
 }
 
 // Where an instruction of n bytes at an address goes by its target.
@@ -117,6 +122,9 @@ fn mark_of(m: u8, x: u8, kind: u8, rm: u8, rx: u8) -> u8
 fn mark_after(effect: WidthEffect, operand: u64, mark: u8) -> u8
     ensures { λ r. ⌜ r ≡ rules.markAfter effect operand mark ⌝ }
 {
+    if let WidthEffect::KeepWidths = effect {
+        return mark / 2 % 64 * 2 + 1;
+    }
     let m = m_after(effect, mark / 2 % 2, operand);
     let x = x_after(effect, mark / 4 % 2, operand);
     mark_of(m, x, mark / 8 % 4, mark / 32 % 2, mark / 64 % 2)
@@ -187,14 +195,12 @@ pub fn owed_at(marks: &[u8], base: u32, i: Instruction, address: u64, mark: u8) 
     let effect = entry.effect;
     let length = i.length;
     let operand = i.operand;
-    let to = target_of(target, address, length, operand);
     let after = mark_after(effect, operand, mark);
-    owed_by(
-        flow,
-        mark,
-        after,
-        next_address(address, length),
-        to,
-        mark_at(marks, base, to),
-    )
+    let next = next_address(address, length);
+    // Most instructions have no target, and need not look for one.
+    if let Flow::Next = flow {
+        return Owed::One(want(next, after));
+    }
+    let to = target_of(target, address, length, operand);
+    owed_by(flow, mark, after, next, to, mark_at(marks, base, to))
 }

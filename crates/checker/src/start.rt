@@ -14,6 +14,7 @@ use model::rules::Want;
 ghost use mathlib.Core.Path.{_≡_};
 ghost use Prim.Native.Nat.{_+_, _-_, _<_};
 ghost use Rattle.codepages.specs.Packing.{numbers};
+ghost use Rattle.model.specs.Image.{addressLimit, bankSize};
 ghost use Rattle.model.specs.Rules as rules;
 ghost use Rattle.model.specs.Verdict as verdict;
 ghost use Rattle.checker.specs.Bounds.{Small, SmallIn};
@@ -127,7 +128,7 @@ fn less_one(n: u8) -> usize
 
 // Number 7: no start on the later bytes of an instruction of n bytes.
 fn is_clear(marks: &[u8], at: usize, n: u8) -> bool
-    requires { ⌜ at < 65_536 ⌝ }
+    requires { ⌜ at < bankSize ⌝ }
     ensures { λ r. ⌜ r ≡ verdict.isClear (now (marks .entry)) at n ⌝ }
 {
     let later = less_one(n);
@@ -136,7 +137,7 @@ fn is_clear(marks: &[u8], at: usize, n: u8) -> bool
 
 // Numbers 7, 10, 8, 9 of a whole instruction at a place.
 fn whole_number(marks: &[u8], base: u32, at: usize, i: Instruction) -> u8
-    requires { ⌜ Small i × (base < 16_777_216) × (at < 65_536) ⌝ }
+    requires { ⌜ Small i × (base < addressLimit) × (at < bankSize) ⌝ }
     ensures { λ r. ⌜ r ≡ verdict.wholeNumber (now (marks .entry)) base at i ⌝ }
 {
     let mark = byte_at(marks, at);
@@ -158,7 +159,7 @@ fn whole_number(marks: &[u8], base: u32, at: usize, i: Instruction) -> u8
 
 // The number of what was decoded at a place.
 fn decoded_number(marks: &[u8], base: u32, at: usize, decoded: Decoded) -> u8
-    requires { ⌜ SmallIn decoded × (base < 16_777_216) × (at < 65_536) ⌝ }
+    requires { ⌜ SmallIn decoded × (base < addressLimit) × (at < bankSize) ⌝ }
     ensures { λ r. ⌜ r ≡ verdict.decodedNumber (now (marks .entry)) base at decoded ⌝ }
 {
     match decoded {
@@ -176,7 +177,7 @@ pub fn start_number(
     base: u32,
     at: usize,
 ) -> u8
-    requires { ⌜ (now codes ≡ numbers) × (base < 16_777_216) × (at < 65_536) ⌝ }
+    requires { ⌜ (now codes ≡ numbers) × (base < addressLimit) × (at < bankSize) ⌝ }
     ensures { λ r. ⌜ r ≡ verdict.startNumber (now (image .entry)) (now (marks .entry)) base at ⌝ }
 {
     let mark = byte_at(marks, at);

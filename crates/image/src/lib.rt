@@ -6,6 +6,13 @@ ghost use lib.Dec.{eqb};
 ghost use lib.ListN.{getD};
 ghost use Rattle.model.specs.Image.{bankSize, returnM, returnX, isStart, isFormed, lengthFits, baseFits, markAt, resetFits};
 
+// The limits of model/specs/Image.antt.
+const IMAGE_LIMIT: usize = 16_384;
+
+const BANK_SIZE: u32 = 65_536;
+
+const ADDRESS_LIMIT: u32 = 16_777_216;
+
 // The byte at a place, 0 past the end.
 pub fn byte_at(bytes: &[u8], at: usize) -> u8
     ensures { λ r. ⌜ r ≡ getD (now (bytes .entry)) at 0 ⌝ }
@@ -20,7 +27,7 @@ pub fn length_fits(image: usize, marks: usize) -> bool
     if image == 0 {
         return false;
     }
-    if 16_384 < image {
+    if IMAGE_LIMIT < image {
         return false;
     }
     marks == image
@@ -30,20 +37,20 @@ pub fn length_fits(image: usize, marks: usize) -> bool
 fn low(base: u32) -> usize
     ensures { λ r. ⌜ r ≡ base % bankSize ⌝ }
 {
-    (base % 65_536) as usize
+    (base % BANK_SIZE) as usize
 }
 
 // Number 2: a 24-bit base, and an image of n bytes within its bank.
 pub fn base_fits(base: u32, n: usize) -> bool
     ensures { λ r. ⌜ r ≡ baseFits base n ⌝ }
 {
-    if 16_777_216 <= base {
+    if ADDRESS_LIMIT <= base {
         return false;
     }
-    if 65_536 < n {
+    if (BANK_SIZE as usize) < n {
         return false;
     }
-    low(base) + n <= 65_536
+    low(base) + n <= BANK_SIZE as usize
 }
 
 // The return widths of a mark are both 0.
@@ -100,6 +107,6 @@ pub fn mark_at(marks: &[u8], base: u32, address: u64) -> u8
 pub fn reset_fits(marks: &[u8], base: u32, reset: u32) -> bool
     ensures { λ r. ⌜ r ≡ resetFits (now (marks .entry)) base reset ⌝ }
 {
-    let bank = (base / 65_536) as u64;
-    mark_at(marks, base, bank * 65_536 + reset as u64) == 1
+    let bank = (base / BANK_SIZE) as u64;
+    mark_at(marks, base, bank * BANK_SIZE as u64 + reset as u64) == 1
 }

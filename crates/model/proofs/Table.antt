@@ -2,10 +2,11 @@
 -- place, so that a table of tables can be tested by place; past the end the rule is asked of the default.
 -- Assumes nothing.
 use mathlib.Core.Path.{_≡_, refl, ap}
+use mathlib.Core.Logic.{_⊎_, inl, inr}
 use mathlib.Core.Bool.{Bool, true, false, _&&_}
 use mathlib.Core.List.{List, [], _∷_}
-use Prim.Native.Nat.{ℕ, zero, suc, _+_}
-use native.Mathlib.Nat.{add-zero, zero-add, add-suc, suc-add}
+use Prim.Native.Nat.{ℕ, zero, suc, _+_, _<_}
+use native.Mathlib.Nat.{add-zero, zero-add, add-suc, suc-add, not-suc-le-zero, le-of-suc-le-suc, eq-or-lt-of-le}
 use lib.Dec.{T, eqb, eqb→eq}
 use lib.ListN.{getD}
 
@@ -65,3 +66,17 @@ samePages = same (same (same eqb))
 
 pub same-pages : (xs ys : List (List (List ℕ))) → T (samePages xs ys) → xs ≡ ys
 same-pages = same-list (same (same eqb)) (same-list (same eqb) (same-list eqb eqb→eq))
+
+-- a test of all numbers below a bound
+abbrev pub upTo : (ℕ → Bool) → ℕ → Bool
+upTo test zero = true
+upTo test (suc n) = test n && upTo test n
+
+pub below-all : (test : ℕ → Bool) (n : ℕ) → T (upTo test n) → (k : ℕ) → k < n → T (test k)
+below-all test zero t k h = absurd (not-suc-le-zero h)
+below-all test (suc n) t k h =
+    at (below-all test n (and-right (test n) (upTo test n) t)) (eq-or-lt-of-le (le-of-suc-le-suc h))
+  where
+    at : ((j : ℕ) → j < n → T (test j)) → (k ≡ n) ⊎ (k < n) → T (test k)
+    at lower (inl e) = rw e (and-left (test n) (upTo test n) t)
+    at lower (inr below) = lower k below

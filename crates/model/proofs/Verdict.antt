@@ -248,3 +248,17 @@ bad-mark-most marks = omega (arith, first-is (unformedAt marks) 0 (length marks)
 pub bad-start-most : (image marks : List ℕ) (base : ℕ) → badStart image marks base ≤ length marks
 unfolding badStart
 bad-start-most image marks base = omega (arith, first-is (brokenAt image marks base) 0 (length marks) .at-most)
+
+-- ---- the verdict of a loop over the starts
+
+module _ (image marks : List ℕ) (base : ℕ) where
+  pub stopped-at : (i n : ℕ) → i ≡ badStart image marks base → i < length marks → n ≡ startNumber image marks base i
+      → Refused n i ≡ startsVerdict image marks base
+  unfolding startsVerdict
+  stopped-at i n at inside number =
+      rw (number, ← at, ne-eqb i (length marks) (λ e. absurd (omega arith)))
+
+  pub passed-over : (i : ℕ) → i ≡ badStart image marks base → length marks ≤ i → i ≤ length marks
+      → Accepted ≡ startsVerdict image marks base
+  unfolding startsVerdict
+  passed-over i at past most = rw (← at, eq-eqb i (length marks) (omega arith))

@@ -1,16 +1,18 @@
 -- Bounds of the widths after an instruction, for the code that makes marks of them.
 -- Assumes nothing.
 use mathlib.Core.Path.{_≡_}
-use Prim.Native.Nat.{ℕ, _-_, _/_, _%_, _^_, _≤_}
+use Prim.Native.Nat.{ℕ, _+_, _-_, _*_, _/_, _%_, _^_, _≤_, _<_}
 use native.Mathlib.Nat.{div-le-self}
 use native.Mathlib.Omega.{arith}
-use lib.Dec.{eqb}
+use lib.Dec.{eqb, eqb→eq}
 use Rattle.model.specs.declared.code.WidthEffect.{WidthEffect}
 use Rattle.model.specs.declared.code.WidthEffect.the-variants.{KeepWidths, SetM, ClearM, SetBits, ClearBits}
 use Rattle.model.specs.declared.code.Kind.{Kind}
 use Rattle.model.specs.declared.code.Kind.the-variants.{ByRts, ByRtl}
+use Rattle.model.specs.Image.{markM, markX, markKind, returnM, returnX, markOf}
 use Rattle.model.specs.Rules.{mAfter, xAfter, kindNumber, lastByte}
 use Rattle.model.proofs.Choice.{one-of}
+use Rattle.model.proofs.Table.{below-all}
 
 pub m-after-bit : (e : WidthEffect) (m operand : ℕ) → m ≤ 1 → mAfter e m operand ≤ 1
 unfolding mAfter
@@ -40,3 +42,11 @@ whole-operand operand n h h3 h4 h5 h6 =
 
 pub last-byte-at-most : (operand n : ℕ) → lastByte operand n ≤ operand
 last-byte-at-most operand n = div-le-self operand (256 ^ (n - 2))
+
+-- the fields of a mark, put together again, are its bits 1 to 6 with the start's bit
+abbrev remade : ℕ → ℕ
+remade mark = markOf (markM mark) (markX mark) (markKind mark) (returnM mark) (returnX mark)
+
+pub same-fields : (mark : ℕ) → mark < 256 → mark / 2 % 64 * 2 + 1 ≡ remade mark
+same-fields mark h =
+    eqb→eq (mark / 2 % 64 * 2 + 1) (remade mark) (below-all (λ k. eqb (k / 2 % 64 * 2 + 1) (remade k)) 256 tt mark h)

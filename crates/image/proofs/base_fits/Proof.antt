@@ -21,14 +21,13 @@ returns-2 c =
           + c .before .before .args .n) 65536 (omega arith),
     )
 
-add-result : tie.Need-add-result
-add-result c = omega (arith, c .low .ensures)
-
 returns-3 : tie.Need-returns-3
 unfolding baseFits
 returns-3 c = rw (lt-ltb (c .before .before .before .args .base) 16777216 (omega arith), c .low .ensures)
 
 pub base-fits-spec : {M : Type 1} → statement M
-base-fits-spec = tie.close
+base-fits-spec =
+    tie.close
     (tie.spec
-    returns returns-2 (λ c κs. search needs) add-result returns-3)
+    returns (λ c. search needs) returns-2 (λ c κs. search needs) (λ c. search needs) (λ c. search needs)
+    returns-3)

@@ -10,6 +10,8 @@ unfolding resetFits
 returns c = rw (c .mark-at .ensures)
 
 pub reset-fits-spec : {M : Type 1} → statement M
-reset-fits-spec = tie.close
+reset-fits-spec =
+    tie.close
     (tie.spec
-    (λ c. search needs) (λ c. search needs) (λ c. search needs) (λ c κs. search needs) returns)
+    (λ c. search needs) (λ c. search needs) (λ c. search needs) (λ c. search needs) (λ c κs. search needs)
+    returns)

@@ -1,11 +1,15 @@
--- The widths after an instruction are bits again, and so fit a mark.
+-- Kept widths leave the fields of the mark; else the widths after an instruction are bits again, and so fit a mark.
 -- Assumes nothing.
-use Rattle.model.proofs.Widths.{m-after-bit, x-after-bit}
-use Rattle.model.specs.Rules.{markAfter}
+use Rattle.model.proofs.Widths.{m-after-bit, x-after-bit, same-fields}
+use Rattle.model.specs.Rules.{markAfter, mAfter, xAfter}
 use native.Mathlib.Omega.{arith}
 use borrow.Author.Needs.{needs}
 use Rattle.checker.proofs.owed.mark_after.Statement.{statement}
 use Rattle.checker.proofs.owed.mark_after.Tie as tie
+
+returns : tie.Need-returns
+unfolding markAfter mAfter xAfter
+returns c = rw (c .enum-told .given .1) (same-fields (c .before .before .args .mark) (omega arith))
 
 mark-of-requires : tie.Need-mark-of-requires
 mark-of-requires c κs = (
@@ -17,11 +21,13 @@ mark-of-requires c κs = (
   omega arith,
 )
 
-returns : tie.Need-returns
+returns-2 : tie.Need-returns-2
 unfolding markAfter
-returns c = rw (← c .before .before .m-after .ensures, ← c .before .x-after .ensures) (c .mark-of .ensures)
+returns-2 c = rw (← c .before .before .m-after .ensures, ← c .before .x-after .ensures) (c .mark-of .ensures)
 
 pub mark-after-spec : {M : Type 1} → statement M
-mark-after-spec = tie.close
+mark-after-spec =
+    tie.close
     (tie.spec
-    (λ c κs. search needs) (λ c κs. search needs) mark-of-requires returns)
+    (λ c. search needs) (λ c. search needs) (λ c. search needs) returns (λ c κs. search needs)
+    (λ c κs. search needs) mark-of-requires returns-2)
