@@ -118,8 +118,8 @@ flowOf operation mode =
     (pick (isIn halts operation) Halt Next)))))
 
 -- 01, 'signed offset (8 or 16 bits)' of BRA and the branches; the address of JMP and JSR
-abbrev pub targetOf : Form → Target
-targetOf f =
+abbrev pub targetForm : Form → Target
+targetForm f =
     pick (shapeOf (f .mode) .hasOffset) (pick (f .isFar) Offset16 Offset8)
     (pick (isIn (JMP ∷ JSR ∷ []) (f .operation))
     (pick (eqb (shapeOf (f .mode) .bytes) 3) Address24 Address16)
@@ -168,7 +168,7 @@ entryOf prefix f = record {
   accumulator = f .accumulator;
   carried = carriedOf (f .operation) (f .mode);
   flow = flowOf (f .operation) (f .mode);
-  target = targetOf f;
+  target = targetForm f;
   effect = effectOf (f .operation);
   bytes = bytesOf prefix f;
   rule = ruleOf (f .operation) (f .mode);
