@@ -2,10 +2,9 @@
 -- finds them the same list; a look-up then goes through the maps that made them.
 -- Assumes nothing.
 use mathlib.Core.Path.{_≡_, refl, sym, ap, _∙_}
-use mathlib.Core.List.{List, [], _∷_, map}
+use mathlib.Core.List.{List, [], map}
 use Prim.Native.Nat.{ℕ, zero, suc, _/_, _%_}
 use lib.ListN.{getD, List·getD-map}
-use Rattle.model.specs.declared.code.Entry.{Entry}
 use Rattle.model.specs.CodePages.{Form, none, plain, behind42, behind89, pages}
 use Rattle.model.specs.CodeMap.{entryOf, entryAt}
 use Rattle.codepages.specs.Packing.{unpacked, packed, packedPage, numbers, numberAt}

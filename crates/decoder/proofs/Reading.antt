@@ -1,7 +1,7 @@
 -- Bytes as one number, worked from the last byte to the first: each turn of the loop puts one byte more in front, and five bytes
 -- stay below 2 ^ 40, so that no turn leaves 64 bits.
 -- Assumes nothing.
-use mathlib.Core.Path.{_≡_, refl, sym}
+use mathlib.Core.Path.{_≡_, refl}
 use mathlib.Core.List.{List, [], _∷_}
 use Prim.Native.Nat.{ℕ, zero, suc, _+_, _-_, _*_, _^_, _≤_, _<_}
 use native.Mathlib.Omega.{arith}

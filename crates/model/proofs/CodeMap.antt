@@ -4,19 +4,18 @@
 -- Assumes nothing.
 use mathlib.Core.Path.{_≡_, refl}
 use mathlib.Core.Bool.{Bool, true, false, not, _&&_, _||_}
-use mathlib.Core.List.{List, [], _∷_}
-use Prim.Native.Nat.{ℕ, zero, suc, _+_, _≤_, _<_, _/_, _%_}
+use mathlib.Core.List.{List, []}
+use Prim.Native.Nat.{ℕ, zero, suc, _≤_, _<_, _/_, _%_}
 use native.Mathlib.Omega.{arith}
 use lib.Dec.{T, leb, leb→le, ltb, eqb, eqb·suc-zero}
 use lib.ListN.{getD}
 use Rattle.model.specs.declared.code.Entry.{Entry}
 use Rattle.model.specs.declared.code.LengthRule.{LengthRule}
 use Rattle.model.specs.declared.code.LengthRule.the-variants.{Fixed, MoreByM, MoreByX}
-use Rattle.model.specs.Choice.{pick}
 use Rattle.model.specs.CodePages.{Form, none, plain, behind42, behind89, pages}
 use Rattle.model.specs.CodeMap.{prefixBytes, entryOf, entryAt, moreBytes, lengthAt}
 use Rattle.model.proofs.Choice.{one-or-none}
-use Rattle.model.proofs.Table.{every, everywhere, and-left, and-right, true-T}
+use Rattle.model.proofs.Table.{every, everywhere, and-left, and-right}
 
 -- the bytes of an entry at the widths m and x: more than its prefix bytes, and at most six
 abbrev within : ℕ → Entry → ℕ → ℕ → Bool

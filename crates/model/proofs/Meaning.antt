@@ -1,16 +1,16 @@
 -- Each refusal means what its number says. The tests of the verdict are taken in their order: the first that fails gives the
 -- number, and those before it have passed.
 -- Assumes nothing.
-use mathlib.Core.Path.{_≡_, refl, sym}
-use mathlib.Core.Logic.{_⊎_, inl, inr, ⊎-elim}
+use mathlib.Core.Path.{_≡_, refl}
+use mathlib.Core.Logic.{inl, inr, ⊎-elim}
 use mathlib.Core.Bool.{Bool, true, false, not, _&&_}
 use mathlib.Core.List.{List}
-use Prim.Native.Nat.{ℕ, zero, suc, _+_, _-_, _≤_, _<_}
+use Prim.Native.Nat.{ℕ, _+_, _-_, _≤_, _<_}
 use native.Mathlib.Nat.{eq-or-lt-of-le}
 use native.Mathlib.Omega.{arith}
 use borrow.Author.Tests.{eqb-true, eqb-false, not-true, not-false}
 use lib.Dec.{eqb}
-use lib.ListN.{length, getD, drop}
+use lib.ListN.{length, getD}
 use Rattle.model.specs.declared.code.Instruction.{Instruction}
 use Rattle.model.specs.declared.code.Decoded.{Decoded}
 use Rattle.model.specs.declared.code.Decoded.the-variants.{Whole, NotCarried, CutOff}
@@ -20,14 +20,13 @@ use Rattle.model.specs.declared.rules.Owed.the-variants.{Nothing, One, T
 use Rattle.model.specs.declared.rules.Verdict.{Verdict}
 use Rattle.model.specs.declared.rules.Verdict.the-variants.{Accepted, Refused}
 use Rattle.model.specs.Choice.{pick}
-use Rattle.model.specs.Image.{isStart, markM, markX, isFormed, lengthFits, baseFits, markAt, resetFits}
-use Rattle.model.specs.Rules.{owedAt, returnFits, StartRules}
-use Rattle.model.specs.Decode.{decode}
-use Rattle.model.specs.Meaning.{Among, instructionAt, owedThere, Clear, AllStarts, StartBreaks, FormedBelow, Breaks}
+use Rattle.model.specs.Image.{isStart, isFormed, lengthFits, baseFits, markAt, resetFits}
+use Rattle.model.specs.Rules.{returnFits}
+use Rattle.model.specs.Meaning.{Among, instructionAt, owedThere, StartBreaks, FormedBelow, Breaks}
 use Rattle.model.specs.Verdict.{firstFrom, unless, orElse, startAt, isClear, wantsStart, allStarts, wantsMark}
 use Rattle.model.specs.Verdict.{allMarks, owedNumber, wholeNumber, decodedNumber, startNumber, badMark, badStart}
 use Rattle.model.specs.Verdict.{startsVerdict, verdict}
-use Rattle.model.proofs.First.{First, first-is}
+use Rattle.model.proofs.First.{first-is}
 use Rattle.model.proofs.Image.{right-length}
 use Rattle.model.proofs.Verdict.{both-true, clear-all, none-found, start-zero}
 

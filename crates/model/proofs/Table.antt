@@ -1,7 +1,7 @@
 -- A rule of a table holds at every place of it by one test that antt computes over the whole table. The test is told the
 -- place, so that a table of tables can be tested by place; past the end the rule is asked of the default.
 -- Assumes nothing.
-use mathlib.Core.Path.{_≡_, refl, ap}
+use mathlib.Core.Path.{_≡_, refl}
 use mathlib.Core.Logic.{_⊎_, inl, inr}
 use mathlib.Core.Bool.{Bool, true, false, _&&_}
 use mathlib.Core.List.{List, [], _∷_}
@@ -17,13 +17,6 @@ and-left false b t = t
 pub and-right : (a b : Bool) → T (a && b) → T b
 and-right true b t = t
 and-right false b t = absurd t
-
-pub true-T : {b : Bool} → b ≡ true → T b
-true-T h = rw h tt
-
-pub T-true : (b : Bool) → T b → b ≡ true
-T-true true t = refl
-T-true false t = absurd t
 
 module _ {A : Type 0} where
   -- the test passes at each element and its place, counted from i

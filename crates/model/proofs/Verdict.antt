@@ -2,13 +2,13 @@
 -- broken, and where. Each test of the verdict is turned into the rule that it tests; the tests are then taken in their order.
 -- Assumes nothing.
 use mathlib.Core.Path.{_≡_, refl}
-use mathlib.Core.Logic.{_⊎_, inl, inr, _↔_}
+use mathlib.Core.Logic.{_↔_}
 use mathlib.Core.Bool.{Bool, true, false, not, _&&_}
-use mathlib.Core.List.{List, [], _∷_}
+use mathlib.Core.List.{List}
 use Prim.Native.Nat.{ℕ, zero, suc, _+_, _-_, _≤_, _<_}
 use native.Mathlib.Omega.{arith}
-use borrow.Author.Tests.{eqb-true, eqb-false, eq-eqb, ne-eqb, not-true, not-false}
-use lib.Dec.{T, eqb, eqb·suc-zero}
+use borrow.Author.Tests.{eqb-true, eq-eqb, ne-eqb, not-false}
+use lib.Dec.{eqb, eqb·suc-zero}
 use lib.ListN.{length, getD, drop}
 use Rattle.model.specs.declared.code.Instruction.{Instruction}
 use Rattle.model.specs.declared.code.Decoded.{Decoded}
@@ -24,8 +24,8 @@ use Rattle.model.specs.Rules.{owedAt, returnFits, Met, AllMet, StartRule
 use Rattle.model.specs.Decode.{decode}
 use Rattle.model.specs.Verdict.{firstFrom, unless, orElse, startAt, isClear, wantsStart, allStarts, wantsMark}
 use Rattle.model.specs.Verdict.{allMarks, owedNumber, wholeNumber, decodedNumber, startNumber, badMark, badStart}
-use Rattle.model.specs.Verdict.{unformedAt, brokenAt, startsVerdict, verdict}
-use Rattle.model.proofs.First.{First, first-is, first-only}
+use Rattle.model.specs.Verdict.{unformedAt, startsVerdict, verdict}
+use Rattle.model.proofs.First.{first-is, first-only}
 
 -- ---- chains of numbers
 
@@ -239,15 +239,11 @@ module _ (image marks : List ℕ) (base reset : ℕ) where
   pub accepts-exactly : (verdict image marks base reset ≡ Accepted) ↔ Accepts image marks base reset
   accepts-exactly = (accepted-rules, rules-accepted)
 
--- ---- a search ends at the last mark at most
+-- ---- the search for a bad mark ends at the last mark at most
 
 pub bad-mark-most : (marks : List ℕ) → badMark marks ≤ length marks
 unfolding badMark
 bad-mark-most marks = omega (arith, first-is (unformedAt marks) 0 (length marks) .at-most)
-
-pub bad-start-most : (image marks : List ℕ) (base : ℕ) → badStart image marks base ≤ length marks
-unfolding badStart
-bad-start-most image marks base = omega (arith, first-is (brokenAt image marks base) 0 (length marks) .at-most)
 
 -- ---- the verdict of a loop over the starts
 

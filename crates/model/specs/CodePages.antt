@@ -3,7 +3,6 @@
 -- and the addressing mode by Appendix B's symbol, with ⟨ ⟩ for its round brackets and - for its comma, and
 -- a or b in front where the syntax names accumulator A or B.
 -- Assumes nothing.
-use Prim.Native.Nat.{ℕ}
 use mathlib.Core.List.{List, [], _∷_}
 use mathlib.Core.Bool.{Bool, true, false}
 use Rattle.model.specs.declared.code.Operation.{Operation}

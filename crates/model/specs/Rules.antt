@@ -1,9 +1,9 @@
 -- 01, 'Rules of acceptance': successors, what a start owes them, and the rules as one predicate.
 -- Assumes nothing.
 use mathlib.Core.Path.{_≡_}
-use Prim.Native.Nat.{ℕ, _+_, _-_, _*_, _/_, _%_, _^_, _<_, _≤_}
-use mathlib.Core.Bool.{Bool, true, false, not, _&&_, _||_}
-use mathlib.Core.List.{List, [], _∷_}
+use Prim.Native.Nat.{ℕ, _+_, _-_, _*_, _/_, _%_, _^_, _<_}
+use mathlib.Core.Bool.{Bool, true, false, _&&_}
+use mathlib.Core.List.{List}
 use lib.Dec.{eqb, ltb}
 use lib.ListN.{length, getD, drop}
 use Rattle.model.specs.declared.code.Kind.{Kind}
@@ -20,7 +20,7 @@ use Rattle.model.specs.declared.rules.Want.{Want}
 use Rattle.model.specs.declared.rules.Owed.{Owed}
 use Rattle.model.specs.declared.rules.Owed.the-variants.{Nothing, One, Two}
 use Rattle.model.specs.Choice.{pick}
-use Rattle.model.specs.Image.{imageLimit, bankSize, addressLimit, isStart, markM, markX, markKind, returnM, returnX}
+use Rattle.model.specs.Image.{addressLimit, isStart, markM, markX, markKind, returnM, returnX}
 use Rattle.model.specs.Image.{markOf, isFormed, lengthFits, baseFits, markAt, inBankOf, resetFits}
 use Rattle.model.specs.Decode.{decode}
 

@@ -6,7 +6,7 @@ use Rattle.model.specs.Verdict as spec
 use borrow.Author.Needs.{needs}
 use lib.ListN.{length}
 use native.Mathlib.Omega.{arith}
-use Prim.Native.Nat.{_+_, _-_, _≤_, _<_}
+use Prim.Native.Nat.{_-_, _≤_}
 use Rattle.checker.proofs.bad_mark.Statement.{statement}
 use Rattle.checker.proofs.bad_mark.Tie as tie
 

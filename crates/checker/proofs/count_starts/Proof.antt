@@ -4,7 +4,6 @@ use Rattle.model.specs.Image.{isStart}
 use lib.ListN.{getD}
 use Rattle.model.proofs.Image.{Counted, none-counted, one-more-counted, all-counted}
 use Rattle.model.proofs.Choice.{one-or-none}
-use Rattle.model.specs.Choice.{pick}
 use borrow.Author.Needs.{needs}
 use native.Mathlib.Omega.{arith}
 use Prim.Native.Nat.{_-_}

@@ -4,7 +4,6 @@ use lib.ListN.{getD}
 use mathlib.Core.Path.{_∙_}
 use Rattle.model.proofs.Decode.{page-below, decode-nothing, decode-cut-off, decode-judged}
 use Rattle.model.proofs.CodeMap.{carried-length}
-use native.Mathlib.Omega.{arith}
 use borrow.Author.Needs.{needs}
 use Rattle.decoder.proofs.decode.Statement.{statement}
 use Rattle.decoder.proofs.decode.Tie as tie

@@ -3,7 +3,7 @@
 use Rattle.model.specs.Image.{baseFits}
 use Prim.Native.Nat.{_+_, _%_}
 use native.Mathlib.Omega.{arith}
-use borrow.Author.Tests.{eq-eqb, ne-eqb, lt-ltb, le-ltb, le-leb, lt-leb}
+use borrow.Author.Tests.{lt-ltb, le-ltb, lt-leb}
 use borrow.Author.Needs.{needs}
 use Rattle.image.proofs.base_fits.Statement.{statement}
 use Rattle.image.proofs.base_fits.Tie as tie

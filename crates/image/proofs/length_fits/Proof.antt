@@ -2,7 +2,7 @@
 -- Assumes nothing.
 use Rattle.model.specs.Image.{lengthFits}
 use native.Mathlib.Omega.{arith}
-use borrow.Author.Tests.{eq-eqb, ne-eqb, lt-ltb, le-ltb, le-leb, lt-leb}
+use borrow.Author.Tests.{lt-ltb, le-leb, lt-leb}
 use Rattle.image.proofs.length_fits.Statement.{statement}
 use Rattle.image.proofs.length_fits.Tie as tie
 

@@ -1,6 +1,5 @@
 -- A refusal's number and offset are small.
 -- Assumes nothing.
-use Rattle.loader.specs.Packed.{Fits}
 use native.Mathlib.Omega.{arith}
 use borrow.Author.Needs.{needs}
 use Rattle.loader.proofs.pack.Statement.{statement}

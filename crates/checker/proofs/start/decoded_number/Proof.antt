@@ -1,6 +1,5 @@
 -- In each arm what was decoded is known.
 -- Assumes nothing.
-use Rattle.checker.specs.Bounds.{SmallIn}
 use Rattle.model.specs.Verdict.{decodedNumber}
 use borrow.Author.Needs.{needs}
 use Rattle.checker.proofs.start.decoded_number.Statement.{statement}

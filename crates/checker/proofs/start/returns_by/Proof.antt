@@ -1,7 +1,6 @@
 -- The tests are those of the definition, in its order.
 -- Assumes nothing.
 use Rattle.model.specs.Rules.{returnsBy}
-use Prim.Native.Nat.{_/_, _%_}
 use borrow.Author.Tests.{eq-eqb, ne-eqb}
 use borrow.Author.Needs.{needs}
 use Rattle.checker.proofs.start.returns_by.Statement.{statement}
