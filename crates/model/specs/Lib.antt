@@ -9,3 +9,5 @@ pub mod Image
 pub mod Rules
 pub mod Meaning
 pub mod Verdict
+pub mod Digits
+pub mod MarkList

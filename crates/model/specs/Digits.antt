@@ -1,0 +1,32 @@
+-- Numbers as digits in any radix, and texts that begin with given bytes: what the fields of 01's 'The mark list' are made of.
+-- Assumes nothing.
+use Prim.Native.Nat.{ℕ, zero, suc, _+_, _-_, _*_, _/_, _%_}
+use mathlib.Core.Bool.{Bool, true, false, _&&_}
+use mathlib.Core.List.{List, [], _∷_, _++_}
+use lib.Dec.{eqb, ltb}
+use lib.ListN.{getD}
+use Rattle.model.specs.Choice.{pick}
+
+-- a digit: 0 to 9, then the capitals from A on
+unfoldable pub digit : ℕ → ℕ
+digit n = pick (ltb n 10) (0x30 + n) (0x37 + n)
+
+-- the last digits of a number, so many, the highest first
+unfoldable pub digits : ℕ → ℕ → ℕ → List ℕ
+digits radix zero n = []
+digits radix (suc count) n = digits radix count (n / radix) ++ (digit (n % radix) ∷ [])
+
+-- the value of a digit; of a byte that is none it is some number whose digit is another byte
+unfoldable pub digitValue : ℕ → ℕ
+digitValue byte = pick (ltb byte 0x3A) (byte - 0x30) (byte - 0x37)
+
+-- the number that the first bytes of a text, so many, show
+unfoldable pub value : ℕ → ℕ → List ℕ → ℕ
+value radix zero text = 0
+value radix (suc count) text = value radix count text * radix + digitValue (getD text count 0)
+
+-- a text begins with these bytes
+unfoldable pub startsWith : List ℕ → List ℕ → Bool
+startsWith [] text = true
+startsWith (b ∷ bytes) [] = false
+startsWith (b ∷ bytes) (c ∷ text) = eqb b c && startsWith bytes text
