@@ -9,3 +9,6 @@ pub mod Image
 pub mod First
 pub mod Verdict
 pub mod Meaning
+pub mod Digits
+pub mod MarkList
+pub mod RoundTrips

@@ -1,0 +1,118 @@
+-- Digits and their value, both ways, for any radix and any count: one more digit at the end is one more step of the value. Then
+-- the laws of a text that begins with given bytes.
+-- Assumes nothing.
+use mathlib.Core.Path.{_≡_, refl, ap, _∙_}
+use mathlib.Core.Bool.{Bool, true, false, _&&_}
+use mathlib.Core.List.{List, [], _∷_, _++_, append-assoc}
+use Prim.Native.Nat.{ℕ, zero, suc, _+_, _-_, _*_, _/_, _%_, _^_, _≤_, _<_}
+use native.Mathlib.Nat.{pow-zero, pow-suc, div-lt-iff-lt-mul, div-add-mod', mul-add-div-right, mul-add-mod-self-right, mod-eq-of-lt}
+use native.Mathlib.Nat.{div-eq-of-lt}
+use native.Mathlib.Omega.{arith}
+use borrow.Author.Tests.{ltb-true, ltb-false, lt-ltb, le-ltb, eqb-true, eq-eqb}
+use lib.Dec.{eqb, ltb}
+use lib.ListN.{length, getD, take, drop, length-append}
+use lib.Seq.{getD-at, take-suc}
+use Rattle.model.specs.Choice.{pick}
+use Rattle.model.specs.Digits.{digit, digits, digitValue, value, startsWith}
+use Rattle.model.proofs.Verdict.{both-true}
+
+pub digit-value : (n : ℕ) → digitValue (digit n) ≡ n
+unfolding digit digitValue
+digit-value n = by (ltb n 10) refl
+  where
+    by : (b : Bool) → ltb n 10 ≡ b → digitValue (pick b (0x30 + n) (0x37 + n)) ≡ n
+    by true h = rw (lt-ltb (0x30 + n) 0x3A (omega (arith, ltb-true n 10 h))) (omega arith)
+    by false h = rw (le-ltb (0x37 + n) 0x3A (omega (arith, ltb-false n 10 h))) (omega arith)
+
+-- no digit is a byte below that of 0
+pub digit-high : (n : ℕ) → 0x30 ≤ digit n
+unfolding digit
+digit-high n = by (ltb n 10)
+  where
+    by : (b : Bool) → 0x30 ≤ pick b (0x30 + n) (0x37 + n)
+    by true = omega arith
+    by false = omega arith
+
+pub length-digits : (radix count n : ℕ) → length (digits radix count n) ≡ count
+unfolding digits
+length-digits radix zero n = refl
+length-digits radix (suc count) n =
+    simp length-append (omega (arith, length-digits radix count (n / radix)))
+
+-- the last of the digits stands before what follows them
+pub last-digit : (radix count n : ℕ) (rest : List ℕ)
+    → digits radix (suc count) n ++ rest ≡ digits radix count (n / radix) ++ (digit (n % radix) ∷ rest)
+unfolding digits
+last-digit radix count n rest = append-assoc (digits radix count (n / radix)) (digit (n % radix) ∷ []) rest
+
+-- what digits show is the number that they are of
+pub value-digits : (radix count n : ℕ) (rest : List ℕ) → 0 < radix → n < radix ^ count
+    → value radix count (digits radix count n ++ rest) ≡ n
+unfolding value
+value-digits radix zero n rest some small = omega (arith, pow-zero radix)
+value-digits radix (suc count) n rest some small =
+    let fewer : n / radix < radix ^ count = div-lt-iff-lt-mul some .1 (rw pow-suc at small) in
+    rw (
+      last-digit radix count n rest,
+      value-digits radix count (n / radix) (digit (n % radix) ∷ rest) some fewer,
+      getD-at (digits radix count (n / radix)) (digit (n % radix)) rest 0 count (length-digits radix count (n / radix)),
+      digit-value (n % radix),
+    ) (div-add-mod' n radix)
+
+-- a byte that is a digit of a radix: the digit of its value
+pub record IsDigit (radix byte : ℕ) : Type 0 where
+  pub small : digitValue byte < radix
+  pub same : digit (digitValue byte) ≡ byte
+
+-- the digits of what digits show are those digits
+pub digits-value : (radix count : ℕ) (text : List ℕ) → count ≤ length text
+    → ((i : ℕ) → i < count → IsDigit radix (getD text i 0)) → digits radix count (value radix count text) ≡ take count text
+unfolding digits value
+digits-value radix zero text long all = refl
+digits-value radix (suc count) text long all =
+    let last = all count (omega arith) in
+    let some : 0 < radix = omega (arith, last .small) in
+    let d = digitValue (getD text count 0) in
+    let v = value radix count text in
+    let quotient : (v * radix + d) / radix ≡ v = mul-add-div-right some v d ∙ rw (div-eq-of-lt (last .small)) (omega arith) in
+    let remainder : (v * radix + d) % radix ≡ d = mul-add-mod-self-right v radix d ∙ mod-eq-of-lt (last .small) in
+    rw (
+      quotient,
+      remainder,
+      last .same,
+      take-suc text count 0 long,
+      digits-value radix count text (omega arith) (λ i h. all i (omega arith)),
+    )
+
+-- a text that begins with bytes is those bytes and a rest
+pub starts-split : (bytes text : List ℕ) → startsWith bytes text ≡ true → text ≡ bytes ++ drop (length bytes) text
+unfolding startsWith
+starts-split [] text h = refl
+starts-split (b ∷ bytes) [] h = let z : _≡_ {A = ℕ} 0 1 = cc in absurd (omega arith)
+starts-split (b ∷ bytes) (c ∷ text) h =
+    let both = both-true (eqb b c) (startsWith bytes text) h in
+    let same = eqb-true b c (both .0) in
+    let rest = starts-split bytes text (both .1) in
+    cc
+
+pub starts-long : (bytes text : List ℕ) → startsWith bytes text ≡ true → length bytes ≤ length text
+starts-long bytes text h = omega (arith, simp length-append at (ap length (starts-split bytes text h)))
+
+pub starts-append : (bytes rest : List ℕ) → startsWith bytes (bytes ++ rest) ≡ true
+unfolding startsWith
+starts-append [] rest = refl
+starts-append (b ∷ bytes) rest = rw (eq-eqb b b refl) (starts-append bytes rest)
+
+pub starts-join : (bytes more text : List ℕ)
+    → startsWith (bytes ++ more) text ≡ (startsWith bytes text && startsWith more (drop (length bytes) text))
+unfolding startsWith
+starts-join [] more text = refl
+starts-join (b ∷ bytes) more [] = refl
+starts-join (b ∷ bytes) more (c ∷ text) = by (eqb b c) (starts-join bytes more text)
+  where
+    by : (same : Bool)
+        → startsWith (bytes ++ more) text ≡ (startsWith bytes text && startsWith more (drop (length bytes) text))
+        → (same && startsWith (bytes ++ more) text)
+        ≡ ((same && startsWith bytes text) && startsWith more (drop (length bytes) text))
+    by true h = h
+    by false h = refl
