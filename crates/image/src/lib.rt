@@ -5,11 +5,13 @@ ghost use mathlib.Core.Bool.{_&&_};
 ghost use lib.Dec.{eqb};
 ghost use lib.ListN.{getD};
 ghost use Rattle.model.specs.Image.{bankSize, returnM, returnX, isStart, isFormed, lengthFits, baseFits, markAt, resetFits};
+ghost use Rattle.model.specs.Image.{inBankOf};
+ghost use Rattle.model.specs.Verdict.{badMark};
 
 // The limits of model/specs/Image.antt.
 const IMAGE_LIMIT: usize = 16_384;
 
-const BANK_SIZE: u32 = 65_536;
+pub const BANK_SIZE: u32 = 65_536;
 
 const ADDRESS_LIMIT: u32 = 16_777_216;
 
@@ -34,7 +36,7 @@ pub fn length_fits(image: usize, marks: usize) -> bool
 }
 
 // The address in the bank of a base.
-fn low(base: u32) -> usize
+pub fn low(base: u32) -> usize
     ensures { λ r. ⌜ r ≡ base % bankSize ⌝ }
 {
     (base % BANK_SIZE) as usize
@@ -109,4 +111,26 @@ pub fn reset_fits(marks: &[u8], base: u32, reset: u32) -> bool
 {
     let bank = (base / BANK_SIZE) as u64;
     mark_at(marks, base, bank * BANK_SIZE as u64 + reset as u64) == 1
+}
+
+// The address in the bank of a base that has these low 16 bits.
+pub fn in_bank_of(base: u32, low: u32) -> u64
+    ensures { λ r. ⌜ r ≡ inBankOf base low ⌝ }
+{
+    let bank = (base / BANK_SIZE) as u64;
+    bank * BANK_SIZE as u64 + low as u64
+}
+
+// The lowest mark that is not of the form, or the number of marks.
+pub fn bad_mark(marks: &[u8]) -> usize
+    ensures { λ r. ⌜ r ≡ badMark (now (marks .entry)) ⌝ }
+{
+    let mut i = 0;
+    while i < marks.len() {
+        if !is_formed(byte_at(marks, i)) {
+            return i;
+        }
+        i += 1;
+    }
+    i
 }

@@ -1,0 +1,2 @@
+// Mark lists: a reader that fills marks from a text, and a writer that fills a page from marks.
+pub mod digits;
