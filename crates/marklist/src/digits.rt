@@ -1,4 +1,4 @@
-// Numbers as digits in any radix, and texts that begin with given bytes.
+// Numbers as digits in any radix.
 use image::byte_at;
 ghost use mathlib.Core.Path.{_≡_};
 ghost use mathlib.Core.List.{_++_};
@@ -15,7 +15,7 @@ pub(crate) fn digit(n: u8) -> u8
 }
 
 // The value of a digit; a byte that is none gets some number whose digit is another byte.
-pub(crate) fn digit_value(byte: u8) -> u8
+fn digit_value(byte: u8) -> u8
     ensures { λ r. ⌜ r ≡ spec.digitValue byte ⌝ }
 {
     if byte < b'0' {
@@ -25,6 +25,37 @@ pub(crate) fn digit_value(byte: u8) -> u8
         return byte - b'0';
     }
     byte - (b'A' - 10)
+}
+
+// The number that the bytes of a text from a place on, so many, show.
+pub(crate) fn number(text: &[u8], at: usize, radix: u32, count: usize) -> u32
+    requires { ⌜ (at + count < 65_536) × (2 ≤ radix) × (255 * radix ^ count ≤ 4_294_967_295) ⌝ }
+    ensures { λ r. ⌜ r ≡ spec.value radix count (drop at (now (text .entry))) ⌝ }
+{
+    let mut value: u32 = 0;
+    let mut i = 0;
+    while i < count {
+        value = value * radix + digit_value(byte_at(text, at + i)) as u32;
+        i += 1;
+    }
+    value
+}
+
+// A text begins with the last digits of a number, so many. The last is asked first: it tells most numbers apart.
+pub(crate) fn shows_digits(text: &[u8], radix: u32, count: usize, n: u32) -> bool
+    requires { ⌜ (0 < radix) × (radix ≤ 16) ⌝ }
+    ensures { λ r. ⌜ r ≡ spec.startsWith (spec.digits radix count n) (now (text .entry)) ⌝ }
+{
+    let mut rest = n;
+    let mut i = count;
+    while 0 < i {
+        i -= 1;
+        if byte_at(text, i) != digit((rest % radix) as u8) {
+            return false;
+        }
+        rest /= radix;
+    }
+    true
 }
 
 // Writes the last digits of a number, so many, at the front of a page.

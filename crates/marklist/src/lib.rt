@@ -1,2 +1,5 @@
 // Mark lists: a reader that fills marks from a text, and a writer that fills a page from marks.
 pub mod digits;
+pub mod header;
+pub mod lines;
+pub mod text;

@@ -1,0 +1,105 @@
+-- The first line, written field behind field, and the sums that its places need.
+-- Assumes nothing.
+use mathlib.Core.Path.{_≡_, refl, sym, ap, _∙_}
+use mathlib.Core.List.{List, [], _∷_, _++_, append-assoc}
+use Prim.Native.Nat.{ℕ, zero, suc, _+_, _-_, _*_, _^_, _≤_, _<_}
+use native.Mathlib.Nat.{pow-le-pow-right}
+use native.Mathlib.Omega.{arith}
+use lib.ListN.{length, take, drop, set, length-append}
+use lib.Seq.{take-at, length-take-le}
+use borrow.Rule.Slice.PartMut.{putMid}
+use Rattle.model.specs.declared.lists.Header.{Header}
+use Rattle.model.specs.Digits.{digits}
+use Rattle.model.specs.MarkList.{tab, lineEnd, decimalDigits, headerText, lengthDigits, lengthDigitsShown, tabAt}
+use Rattle.model.proofs.First.{first-is}
+use Rattle.model.proofs.Digits.{length-digits}
+use Rattle.model.proofs.MarkList.{decimal-most, length-header}
+use Rattle.marklist.proofs.Pages.{Front, front-next, front-at}
+
+-- ---- a first line that is read
+
+pub few-digits : (text : List ℕ) → lengthDigitsShown text ≤ lengthDigits
+unfolding lengthDigitsShown
+few-digits text = omega (arith, first-is (tabAt (drop 9 text)) 0 lengthDigits .at-most)
+
+pub power-small : (k : ℕ) → k ≤ lengthDigits → 255 * 10 ^ k ≤ 4_294_967_295
+power-small k few =
+    let top : 10 ^ k ≤ 10 ^ lengthDigits = pow-le-pow-right (omega arith) few in
+    omega arith
+
+pub small-header : (h : Header) → length (headerText h) ≤ 20
+small-header h = omega (arith, length-header h, decimal-most (h .length))
+
+-- a line that begins with the first line
+module _ (h : Header) (n : ℕ) (line rest : List ℕ) (e : n ≡ length (headerText h)) (same : line ≡ headerText h ++ rest) where
+  pub line-long : n ≤ length line
+  line-long = omega (arith, e, simp length-append at (ap length same))
+
+  pub line-begin : take n line ≡ headerText h
+  line-begin = ap (take n) same ∙ take-at (headerText h) rest n (sym e)
+
+  pub begin-long : n ≡ length (take n line)
+  begin-long = sym (length-take-le n line line-long)
+
+-- ---- a first line that is written
+
+pub length-field : (radix count n close : ℕ) → length (digits radix count n ++ (close ∷ [])) ≡ count + 1
+length-field radix count n close =
+    length-append (digits radix count n) (close ∷ []) ∙ ap (_+ 1) (length-digits radix count n)
+
+two-put : (page : List ℕ) (a b : ℕ) → 2 ≤ length page → set (set page 0 a) 1 b ≡ a ∷ b ∷ drop 2 page
+two-put [] a b some = absurd (omega arith)
+two-put (p ∷ []) a b some = absurd (omega arith)
+two-put (p ∷ q ∷ page) a b some = refl
+
+-- the page after each field, from what the part that was lent got
+abbrev lettered : List ℕ → List ℕ
+lettered page = set (set page 0 0x49) 1 tab
+
+abbrev put-at : ℕ → List ℕ → List ℕ → List ℕ
+put-at n page part = putMid n (length page - n) page part
+
+-- a part that was lent from a place on got a field in front
+abbrev Got : ℕ → ℕ → ℕ → ℕ → ℕ → List ℕ → List ℕ → Type 0
+Got radix count n close at page part =
+    part ≡ (digits radix count n ++ (close ∷ [])) ++ drop (count + 1) (take (length page - at) (drop at page))
+
+module _ (h : Header) (page : List ℕ) (k : ℕ) (e : k ≡ decimalDigits (h .length)) (room : length (headerText h) ≤ length page) where
+  pub header-room : 15 + k ≤ length page
+  header-room = omega (arith, length-header h, e)
+
+  pub letter-put : Front page 2 (0x49 ∷ tab ∷ []) (lettered page)
+  letter-put =
+      record { same = two-put page 0x49 tab (omega (arith, header-room)); long = refl; room = omega (arith, header-room) }
+
+  module _ (a : List ℕ) (got-a : Got 16 6 (h .base) tab 2 (lettered page) a) where
+    pub base-put : Front page 9 ((0x49 ∷ tab ∷ []) ++ (digits 16 6 (h .base) ++ (tab ∷ []))) (put-at 2 (lettered page) a)
+    base-put = front-next 7 _ a letter-put got-a (length-field 16 6 (h .base) tab) (omega (arith, header-room))
+
+    module _ (b : List ℕ) (got-b : Got 10 k (h .length) tab 9 (put-at 2 (lettered page) a) b) where
+      pub length-put : Front page (9 + k + 1)
+          (((0x49 ∷ tab ∷ []) ++ (digits 16 6 (h .base) ++ (tab ∷ []))) ++ (digits 10 k (h .length) ++ (tab ∷ [])))
+          (put-at 9 (put-at 2 (lettered page) a) b)
+      length-put =
+          front-at (9 + k + 1) (omega arith)
+          (front-next (k + 1) _ b base-put got-b (length-field 10 k (h .length) tab) (omega (arith, header-room)))
+
+      module _ (c : List ℕ) (got-c : Got 16 4 (h .reset) lineEnd (9 + k + 1) (put-at 9 (put-at 2 (lettered page) a) b) c) where
+        -- the fields joined are the first line
+        abbrev joined : List ℕ
+        joined =
+            (((0x49 ∷ tab ∷ []) ++ (digits 16 6 (h .base) ++ (tab ∷ []))) ++ (digits 10 k (h .length) ++ (tab ∷ [])))
+            ++ (digits 16 4 (h .reset) ++ (lineEnd ∷ []))
+
+        joined-is : joined ≡ headerText h
+        unfolding headerText
+        joined-is = rw (← e) (simp append-assoc)
+
+        pub reset-put : Front page (9 + k + 1 + 5) joined (put-at (9 + k + 1) (put-at 9 (put-at 2 (lettered page) a) b) c)
+        reset-put = front-next 5 _ c length-put got-c (length-field 16 4 (h .reset) lineEnd) (omega (arith, header-room))
+
+        pub header-put : put-at (9 + k + 1) (put-at 9 (put-at 2 (lettered page) a) b) c
+            ≡ headerText h ++ drop (length (headerText h)) page
+        header-put =
+            let size : 9 + k + 1 + 5 ≡ length (headerText h) = sym (reset-put .long) ∙ ap length joined-is in
+            reset-put .same ∙ ap (_++ drop (9 + k + 1 + 5) page) joined-is ∙ ap (λ n. headerText h ++ drop n page) size

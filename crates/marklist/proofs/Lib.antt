@@ -1,0 +1,5 @@
+-- The laws that the proofs of this crate share.
+pub mod Texts
+pub mod Pages
+pub mod HeaderLaws
+pub mod LineLaws

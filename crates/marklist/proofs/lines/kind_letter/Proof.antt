@@ -1,0 +1,22 @@
+-- By the tests in order.
+-- Assumes nothing.
+use Rattle.model.specs.MarkList as spec
+use borrow.Author.Tests.{eq-eqb, ne-eqb}
+use borrow.Author.Needs.{needs}
+use Rattle.marklist.proofs.lines.kind_letter.Statement.{statement}
+use Rattle.marklist.proofs.lines.kind_letter.Tie as tie
+
+returns : tie.Need-returns
+unfolding spec.kindLetter
+returns c = rw (eq-eqb (c .before .args .kind) 0 (c .if1 .taken))
+
+returns-2 : tie.Need-returns-2
+unfolding spec.kindLetter
+returns-2 c = rw (ne-eqb (c .before .before .args .kind) 0 (c .before .if1 .left), eq-eqb (c .before .before .args .kind) 1 (c .if2 .taken))
+
+returns-3 : tie.Need-returns-3
+unfolding spec.kindLetter
+returns-3 c = rw (ne-eqb (c .before .before .args .kind) 0 (c .before .if1 .left), ne-eqb (c .before .before .args .kind) 1 (c .if2 .left))
+
+pub kind-letter-spec : {M : Type 1} → statement M
+kind-letter-spec = tie.close (tie.spec returns returns-2 returns-3)

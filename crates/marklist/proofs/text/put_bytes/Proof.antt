@@ -1,0 +1,39 @@
+-- The invariant: the bytes before i stand in the page, and behind them the page as given.
+-- Assumes nothing.
+use mathlib.Core.Path.{_≡_, refl, sym, _∙_, ap}
+use mathlib.Core.List.{_++_}
+use Prim.Native.Nat.{_-_, _≤_}
+use native.Mathlib.Omega.{arith}
+use lib.ListN.{length, take, drop, getD, set, length-set}
+use Rattle.marklist.proofs.Texts.{put-next, put-all}
+use borrow.Author.Needs.{needs}
+use Rattle.marklist.proofs.text.put_bytes.Statement.{statement}
+use Rattle.marklist.proofs.text.put_bytes.Tie as tie
+
+abbrev Inv-loop : tie.InvT-loop
+Inv-loop page₀ bytes i₀ page i = (i ≤ length bytes) × (length page ≡ length page₀) × (page ≡ take i bytes ++ drop i page₀)
+
+abbrev μ-loop : tie.MeasureT-loop
+μ-loop page₀ bytes i₀ page i = length bytes - i
+
+loop-holds : tie.Need-loop-holds Inv-loop μ-loop
+loop-holds c = (search needs, refl, refl)
+
+slice-write-page : tie.Need-slice-write-page Inv-loop μ-loop
+slice-write-page c = omega (arith, c .before .before .loop .inv .1, c .before .before .before .pre)
+
+loop-again : tie.Need-loop-again Inv-loop μ-loop
+loop-again c = (
+  omega arith,
+  simp length-set (c .before .before .loop .inv .1),
+  ap (λ l. set l (c .before .before .loop .i) (getD (c .before .before .before .args .bytes .now) (c .before .before .loop .i) 0)) (c .before .before .loop .inv .2) ∙ put-next (c .before .before .before .args .bytes .now) (c .before .before .before .args .page .now) (c .before .before .loop .i) (c .before .loop-test .taken) (c .before .before .before .pre),
+)
+
+same-length : tie.Need-same-length Inv-loop μ-loop
+same-length c = c .before .loop .inv .1
+
+returns : tie.Need-returns Inv-loop μ-loop
+returns c = put-all (c .before .before .args .bytes .now) (c .before .before .args .page .now) (c .before .loop .page) (c .before .loop .i) (c .before .loop .inv .0) (c .loop-test .left) (c .before .loop .inv .2)
+
+pub put-bytes-spec : {M : Type 1} → statement M
+put-bytes-spec = tie.close (tie.spec Inv-loop μ-loop loop-holds (λ c. search needs) slice-write-page (λ c. search needs) (λ c. search needs) loop-again same-length returns)

@@ -1,0 +1,125 @@
+// The line of a start: its address and the fields of its mark.
+use crate::digits::digit;
+use crate::digits::put_digits;
+use crate::digits::shows_digits;
+use crate::text::put_bytes;
+use crate::text::starts_with;
+use image::BANK_SIZE;
+use image::byte_at;
+use image::is_formed;
+use image::is_start;
+ghost use mathlib.Core.Path.{_≡_};
+ghost use mathlib.Core.List.{_++_};
+ghost use Prim.Native.Nat.{_≤_, _<_};
+ghost use lib.ListN.{length, drop};
+ghost use Rattle.model.specs.MarkList as spec;
+
+// Fields are parted by tabs, each line is closed by a line end.
+pub(crate) const TAB: u8 = b'\t';
+
+pub(crate) const LINE_END: u8 = b'\n';
+
+const ADDRESS_DIGITS: usize = 4;
+
+const LINE_SIZE: usize = 15;
+
+// N, S or L for the kinds 0, 1, 2.
+fn kind_letter(kind: u8) -> u8
+    ensures { λ r. ⌜ r ≡ spec.kindLetter kind ⌝ }
+{
+    if kind == 0 {
+        return b'N';
+    }
+    if kind == 1 { b'S' } else { b'L' }
+}
+
+// The fields of a mark, with the tab before each and the line's end.
+fn fields(mark: u8) -> [u8; 11]
+    ensures { λ r. ⌜ r ≡ spec.fields mark ⌝ }
+{
+    let m = digit(mark / 2 % 2);
+    let x = digit(mark / 4 % 2);
+    let kind = kind_letter(mark / 8 % 4);
+    let return_m = digit(mark / 32 % 2);
+    let return_x = digit(mark / 64 % 2);
+    [
+        TAB,
+        m,
+        TAB,
+        x,
+        TAB,
+        kind,
+        TAB,
+        return_m,
+        TAB,
+        return_x,
+        LINE_END,
+    ]
+}
+
+// How many bytes the line of a mark has.
+pub(crate) fn line_size(mark: u8) -> usize
+    ensures { λ r. ⌜ r ≡ spec.lineSize mark ⌝ }
+{
+    if is_start(mark) { LINE_SIZE } else { 0 }
+}
+
+// Writes the line of a mark at the front of a page, nothing for no start, and returns its length.
+pub(crate) fn put_line(page: &mut [u8], address: u32, mark: u8) -> usize
+    requires { ⌜ spec.lineSize mark ≤ length (now page) ⌝ }
+    ensures { λ r. ⌜ (r ≡ spec.lineSize mark) × (now (page .exit) ≡ spec.lineOf address mark ++ drop r (now (page .entry))) ⌝ }
+{
+    if !is_start(mark) {
+        return 0;
+    }
+    put_digits(page, 16, ADDRESS_DIGITS, address);
+    put_bytes(&mut page[ADDRESS_DIGITS..], &fields(mark));
+    LINE_SIZE
+}
+
+// What a field of a width shows.
+fn bit_shown(byte: u8) -> u8
+    ensures { λ r. ⌜ (r ≡ spec.bitShown byte) × (r ≤ 1) ⌝ }
+{
+    if byte == b'0' { 0 } else { 1 }
+}
+
+// What the field of a kind shows.
+fn kind_shown(byte: u8) -> u8
+    ensures { λ r. ⌜ (r ≡ spec.kindShown byte) × (r ≤ 2) ⌝ }
+{
+    if byte == b'N' {
+        return 0;
+    }
+    if byte == b'S' { 1 } else { 2 }
+}
+
+// The mark that fields show.
+fn fields_mark(text: &[u8]) -> u8
+    ensures { λ r. ⌜ r ≡ spec.fieldsMark (now (text .entry)) ⌝ }
+{
+    let m = bit_shown(byte_at(text, 1));
+    let x = bit_shown(byte_at(text, 3));
+    let kind = kind_shown(byte_at(text, 5));
+    let return_m = bit_shown(byte_at(text, 7));
+    let return_x = bit_shown(byte_at(text, 9));
+    1 + 2 * m + 4 * x + 8 * kind + 32 * return_m + 64 * return_x
+}
+
+// The mark that a text shows for an address: that of the line it begins with, 0 where that is no line of this address.
+pub(crate) fn mark_shown(text: &[u8], address: u32) -> u8
+    ensures { λ r. ⌜ r ≡ spec.markShown address (now (text .entry)) ⌝ }
+{
+    if BANK_SIZE <= address {
+        return 0;
+    }
+    if !shows_digits(text, 16, ADDRESS_DIGITS, address) {
+        return 0;
+    }
+    let rest = &text[ADDRESS_DIGITS..];
+    let mark = fields_mark(rest);
+    if !starts_with(rest, &fields(mark)) {
+        return 0;
+    }
+    if is_formed(mark) { mark } else { 0 }
+}
