@@ -3,3 +3,6 @@ pub mod Texts
 pub mod Pages
 pub mod HeaderLaws
 pub mod LineLaws
+pub mod Walks
+pub mod Reading
+pub mod Writing

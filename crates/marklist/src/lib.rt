@@ -2,4 +2,6 @@
 pub mod digits;
 pub mod header;
 pub mod lines;
+pub mod reader;
 pub mod text;
+pub mod writer;

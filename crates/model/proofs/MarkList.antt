@@ -41,6 +41,26 @@ length-line-of address mark = by (isStart mark)
     by true = length-line address mark
     by false = refl
 
+pub size-most : (mark : ℕ) → lineSize mark ≤ 15
+unfolding lineSize
+size-most mark = by (isStart mark)
+  where
+    by : (b : Bool) → pick b 15 0 ≤ 15
+    by true = omega arith
+    by false = omega arith
+
+-- no lines are longer than if every mark were a start
+pub lines-most : (address : ℕ) (marks : List ℕ) → length (lines address marks) ≤ 15 * length marks
+unfolding lines
+lines-most address [] = omega arith
+lines-most address (mark ∷ marks) =
+    rw (length-append (lineOf address mark) (lines (address + 1) marks)) (omega (
+      arith,
+      length-line-of address mark,
+      size-most mark,
+      lines-most (address + 1) marks,
+    ))
+
 -- the mark that fields show starts an instruction
 shown-start : (text : List ℕ) → isStart (fieldsMark text) ≡ true
 unfolding fieldsMark

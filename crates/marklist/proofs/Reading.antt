@@ -1,0 +1,139 @@
+-- The reader's tests, over plain values: a text is a list when its lines end with it; the mark at the reset address is the one
+-- shown behind the lines of the addresses before it; the first test that fails gives the answer.
+-- Assumes nothing.
+use mathlib.Core.Path.{_≡_, refl, sym, ap, _∙_}
+use mathlib.Core.Bool.{Bool, true, false, _&&_}
+use mathlib.Core.List.{List, [], _∷_}
+use Prim.Native.Nat.{ℕ, zero, suc, _+_, _-_, _%_, _≤_, _<_}
+use native.Mathlib.Nat.{add-zero}
+use native.Mathlib.Omega.{arith}
+use borrow.Author.Tests.{ltb-true, le-leb, lt-leb, eq-eqb, ne-eqb, eqb-true, eqb-false}
+use lib.Dec.{eqb, ltb}
+use lib.ListN.{length, getD, drop, length-drop, List·getD-eq-default}
+use Rattle.model.specs.declared.lists.Header.{Header}
+use Rattle.model.specs.declared.lists.Refusal.{Refusal}
+use Rattle.model.specs.declared.lists.Refusal.the-variants.{WrongLength, WrongBase, WrongReset, NotAList}
+use Rattle.model.specs.declared.lists.ListRead.{ListRead}
+use Rattle.model.specs.declared.lists.ListRead.the-variants.{NotRead, Read}
+use Rattle.model.specs.Digits.{startsWith}
+use Rattle.model.specs.Image.{bankSize, inBankOf, lengthFits, baseFits, markAt, resetFits}
+use Rattle.model.specs.MarkList.{lengthLimit, headerText, headerShown, isHeader, markShown, lineSize, marksShown, linesLeft}
+use Rattle.model.specs.MarkList.{linesText, marksOf, isList, readAs, readList, marksBy, marksRead}
+use Rattle.model.proofs.Digits.{starts-long}
+use Rattle.model.proofs.MarkList.{length-shown}
+use Rattle.model.proofs.Verdict.{both-true}
+
+-- ---- 14
+
+module _ (h : Header) (text : List ℕ) where
+  pub record Headed : Type 0 where
+    pub few : h .length < lengthLimit
+    pub inside : length (headerText h) ≤ length text
+
+  pub headed : isHeader h text ≡ true → Headed
+  unfolding isHeader
+  headed e =
+      let both = both-true (ltb (h .length) lengthLimit) (startsWith (headerText h) text) e in
+      record { few = ltb-true (h .length) lengthLimit (both .0); inside = starts-long (headerText h) text (both .1) }
+
+  pub list-headed : isList h text ≡ true → Headed
+  unfolding isList
+  list-headed e = headed (both-true (isHeader h text) _ e .0)
+
+  pub no-header : isHeader h text ≡ false → false ≡ isList h text
+  unfolding isList
+  no-header e = rw e
+
+  pub list-by-end : (end : ℕ) → isHeader h text ≡ true → end ≤ length text
+      → drop end text ≡ linesLeft (h .base % bankSize) (h .length) (drop (length (headerText h)) text)
+      → eqb end (length text) ≡ isList h text
+  unfolding isList linesText
+  list-by-end end e inside left = rw (e, ← left, length-drop end text) (by (eqb end (length text)) refl)
+    where
+      by : (b : Bool) → eqb end (length text) ≡ b → b ≡ eqb (length text - end) 0
+      by true h = sym (eq-eqb (length text - end) 0 (omega (arith, eqb-true end (length text) h)))
+      by false h = sym (ne-eqb (length text - end) 0 (λ z. eqb-false end (length text) h (omega arith)))
+
+-- ---- the marks
+
+pub length-marks-of : (h : Header) (text : List ℕ) → length (marksOf h text) ≡ h .length
+unfolding marksOf
+length-marks-of h text = length-shown (h .base % bankSize) (h .length) (linesText h text)
+
+-- the marks filled from behind the first line on, as many as the first line says
+pub all-marks : (h : Header) (text : List ℕ) (first size n : ℕ) (filled : List ℕ) → first ≡ h .base % bankSize
+    → size ≡ length (headerText h) → n ≡ h .length → filled ≡ marksShown first n (drop size text) → filled ≡ marksOf h text
+unfolding marksOf linesText
+all-marks h text first size n filled low behind long e = rw (low, behind, long) at e
+
+-- ---- 3
+
+-- the mark of an address is shown behind the lines of the addresses before it
+shown-at : (address n k : ℕ) (text : List ℕ) → k < n
+    → getD (marksShown address n text) k 0 ≡ markShown (address + k) (linesLeft address k text)
+unfolding marksShown linesLeft
+shown-at address zero k text inside = absurd (omega arith)
+shown-at address (suc n) zero text inside = rw (add-zero address)
+shown-at address (suc n) (suc k) text inside =
+    let next : address + suc k ≡ address + 1 + k = omega arith in
+    rw next (shown-at (address + 1) n k (drop (lineSize (markShown address text)) text) (omega arith))
+
+module _ (h : Header) (text : List ℕ) (address : ℕ) (e : address ≡ inBankOf (h .base) (h .reset)) where
+  pub below-base : address < h .base → false ≡ resetFits (marksOf h text) (h .base) (h .reset)
+  unfolding resetFits markAt
+  below-base low = rw (← e, lt-leb (h .base) address low)
+
+  pub past-end : h .base ≤ address → length (marksOf h text) ≤ address - h .base
+      → false ≡ resetFits (marksOf h text) (h .base) (h .reset)
+  unfolding resetFits markAt
+  past-end low high = rw (← e, le-leb (h .base) address low, List·getD-eq-default (marksOf h text) 0 high)
+
+  pub at-offset : (first place mark : ℕ) → h .base ≤ address → address - h .base < h .length → first ≡ h .base % bankSize
+      → drop place text ≡ linesLeft first (address - h .base) (drop (length (headerText h)) text)
+      → mark ≡ markShown (first + (address - h .base)) (drop place text)
+      → eqb mark 1 ≡ resetFits (marksOf h text) (h .base) (h .reset)
+  unfolding resetFits markAt marksOf linesText
+  at-offset first place mark low high same left shown =
+      rw (
+        ← e,
+        le-leb (h .base) address low,
+        ← same,
+        shown-at first (h .length) (address - h .base) (drop (length (headerText h)) text) high,
+        ← left,
+        ← shown,
+      )
+
+-- ---- the answer
+
+module _ (text marks : List ℕ) where
+  pub keeps : (refusal : Refusal) → NotRead refusal ≡ readList text marks → marks ≡ marksRead text marks
+  unfolding marksRead marksBy
+  keeps refusal e = rw (← e)
+
+  module _ (h : Header) (shown : h ≡ headerShown text) where
+    pub fills : Read h ≡ readList text marks → marksOf h text ≡ marksRead text marks
+    unfolding marksRead marksBy
+    fills e = rw (← e)
+
+    pub not-a-list : isList h text ≡ false → NotRead NotAList ≡ readList text marks
+    unfolding readList readAs
+    not-a-list l = rw (← shown, l)
+
+    module _ (l : isList h text ≡ true) where
+      pub wrong-length : lengthFits (h .length) (length marks) ≡ false → NotRead WrongLength ≡ readList text marks
+      unfolding readList readAs
+      wrong-length n = rw (← shown, l, n)
+
+      module _ (n : lengthFits (h .length) (length marks) ≡ true) where
+        pub wrong-base : baseFits (h .base) (h .length) ≡ false → NotRead WrongBase ≡ readList text marks
+        unfolding readList readAs
+        wrong-base b = rw (← shown, l, n, b)
+
+        module _ (b : baseFits (h .base) (h .length) ≡ true) where
+          pub wrong-reset : resetFits (marksOf h text) (h .base) (h .reset) ≡ false → NotRead WrongReset ≡ readList text marks
+          unfolding readList readAs
+          wrong-reset r = rw (← shown, l, n, b, r)
+
+          pub is-read : resetFits (marksOf h text) (h .base) (h .reset) ≡ true → Read h ≡ readList text marks
+          unfolding readList readAs
+          is-read r = rw (← shown, l, n, b, r)

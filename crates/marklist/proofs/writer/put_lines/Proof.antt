@@ -1,0 +1,44 @@
+-- The invariant: the lines of the marks before i are in front, and with those of the others they are all lines.
+-- Assumes nothing.
+use Prim.Native.Nat.{_-_}
+use native.Mathlib.Omega.{arith}
+use lib.ListN.{length, getD}
+use Rattle.model.specs.MarkList as spec
+use Rattle.marklist.proofs.Pages.{front-length, front-inside, part-room}
+use Rattle.marklist.proofs.Walks.{Put, none-put, line-fits, one-more-put, all-put}
+use borrow.Author.Needs.{needs}
+use Rattle.marklist.proofs.writer.put_lines.Statement.{statement}
+use Rattle.marklist.proofs.writer.put_lines.Tie as tie
+
+abbrev Inv-loop : tie.InvT-loop
+Inv-loop page₀ address marks at₀ i₀ page at i = Put page₀ address marks page at i
+
+abbrev μ-loop : tie.MeasureT-loop
+μ-loop page₀ address marks at₀ i₀ page at i = length marks - i
+
+loop-holds : tie.Need-loop-holds Inv-loop μ-loop
+loop-holds c = none-put (c .before .before .args .page .now) (c .before .before .args .address) (c .before .before .args .marks .now)
+
+sub-put-line : tie.Need-sub-put-line Inv-loop μ-loop
+sub-put-line c = front-inside (c .before .loop .inv .1)
+
+part-put-line-start : tie.Need-part-put-line-start Inv-loop μ-loop
+part-put-line-start c = front-inside (c .before .loop .inv .1)
+
+put-line-requires : tie.Need-put-line-requires Inv-loop μ-loop
+put-line-requires c κs = part-room (spec.lineSize (getD (c .before .before .before .before .before .before .args .marks .now) (c .before .before .before .loop .i) 0)) (c .before .before .before .loop .inv .1) (line-fits (c .before .before .before .before .before .before .args .page .now) (c .before .before .before .before .before .before .args .address) (c .before .before .before .before .before .before .args .marks .now) (c .before .before .before .loop .page) (c .before .before .before .loop .at) (c .before .before .before .loop .i) (c .before .before .before .before .before .before .pre .0) (c .before .before .loop-test .taken) (c .before .before .before .loop .inv))
+
+add-at : tie.Need-add-at Inv-loop μ-loop
+add-at c = omega (arith, c .before .before .put-line .ensures .0, line-fits (c .before .before .before .before .before .before .before .before .before .args .page .now) (c .before .before .before .before .before .before .before .before .before .args .address) (c .before .before .before .before .before .before .before .before .before .args .marks .now) (c .before .before .before .before .before .before .loop .page) (c .before .before .before .before .before .before .loop .at) (c .before .before .before .before .before .before .loop .i) (c .before .before .before .before .before .before .before .before .before .pre .0) (c .before .before .before .before .before .loop-test .taken) (c .before .before .before .before .before .before .loop .inv))
+
+loop-again : tie.Need-loop-again Inv-loop μ-loop
+loop-again c = one-more-put (c .before .before .before .before .before .before .before .before .before .args .page .now) (c .before .before .before .before .before .before .before .before .before .args .address) (c .before .before .before .before .before .before .before .before .before .args .marks .now) (c .before .before .before .before .before .before .loop .page) (c .before .before .before .before .before .before .loop .at) (c .before .before .before .before .before .before .loop .i) (c .before .before .before .before .before .before .before .before .before .pre .0) (c .before .before .before .before .before .loop-test .taken) (c .before .before .before .before .before .before .loop .inv) (c .before .before .put-line .result) (c .before .before .put-line .last .0) (c .before .before .put-line .ensures .0) (c .before .before .put-line .ensures .1)
+
+same-length : tie.Need-same-length Inv-loop μ-loop
+same-length c = front-length (c .before .loop .inv .1)
+
+returns : tie.Need-returns Inv-loop μ-loop
+returns c = all-put (c .before .before .before .before .args .page .now) (c .before .before .before .before .args .address) (c .before .before .before .before .args .marks .now) (c .before .loop .page) (c .before .loop .at) (c .before .loop .i) (c .loop-test .left) (c .before .loop .inv)
+
+pub put-lines-spec : {M : Type 1} → statement M
+put-lines-spec = tie.close (tie.spec Inv-loop μ-loop loop-holds sub-put-line part-put-line-start (λ c. search needs) (λ c. search needs) (λ c. search needs) (λ c. search needs) put-line-requires add-at (λ c. search needs) (λ c. search needs) loop-again same-length returns)

@@ -1,0 +1,79 @@
+// The writer: every test, and the list's length, comes before the first byte that is written.
+use crate::header::header_size;
+use crate::header::put_header;
+use crate::lines::line_size;
+use crate::lines::put_line;
+use image::bad_mark;
+use image::base_fits;
+use image::length_fits;
+use image::low;
+use image::reset_fits;
+use model::lists::Header;
+use model::lists::ListWritten;
+use model::lists::Refusal;
+ghost use mathlib.Core.Path.{_≡_};
+ghost use mathlib.Core.List.{_++_};
+ghost use Prim.Native.Nat.{ℕ, _+_, _*_, _≤_, _<_};
+ghost use lib.ListN.{length, drop};
+ghost use Rattle.model.specs.MarkList as spec;
+
+// How many bytes the lines of marks have.
+fn lines_size(marks: &[u8]) -> usize
+    requires { ⌜ length (now marks) ≤ 65_536 ⌝ }
+    ensures { λ r. ⌜ ((address : ℕ) → r ≡ length (spec.lines address (now (marks .entry)))) ⌝ }
+{
+    let mut size = 0;
+    let mut i = marks.len();
+    while 0 < i {
+        i -= 1;
+        size += line_size(marks[i]);
+    }
+    size
+}
+
+// Writes the lines of marks at the front of a page, each into the rest of it.
+fn put_lines(page: &mut [u8], address: u32, marks: &[u8])
+    requires { ⌜ (length (spec.lines address (now marks)) ≤ length (now page)) × (address + length (now marks) < 4_294_967_296) ⌝ }
+    ensures { λ _. ⌜ now (page .exit)
+        ≡ spec.lines address (now (marks .entry)) ++ drop (length (spec.lines address (now (marks .entry)))) (now (page .entry)) ⌝ }
+{
+    let mut at = 0;
+    let mut i = 0;
+    while i < marks.len() {
+        at += put_line(&mut page[at..], address + i as u32, marks[i]);
+        i += 1;
+    }
+}
+
+// Writes a list at the front of a page.
+pub fn write_list(marks: &[u8], base: u32, reset: u32, page: &mut [u8]) -> ListWritten
+    ensures answer { λ r. ⌜ r ≡ spec.writeList (now (marks .entry)) base reset (now (page .entry)) ⌝ }
+    ensures page { λ _. ⌜ now (page .exit) ≡ spec.pageWritten (now (marks .entry)) base reset (now (page .entry)) ⌝ }
+{
+    if !length_fits(marks.len(), marks.len()) {
+        return ListWritten::NotWritten(Refusal::WrongLength);
+    }
+    if !base_fits(base, marks.len()) {
+        return ListWritten::NotWritten(Refusal::WrongBase);
+    }
+    if bad_mark(marks) != marks.len() {
+        return ListWritten::NotWritten(Refusal::WrongMark);
+    }
+    if !reset_fits(marks, base, reset) {
+        return ListWritten::NotWritten(Refusal::WrongReset);
+    }
+    let length = marks.len() as u32;
+    let h = Header {
+        base,
+        length,
+        reset,
+    };
+    let first = header_size(h);
+    let size = first + lines_size(marks);
+    if page.len() < size {
+        return ListWritten::NotWritten(Refusal::ShortPage);
+    }
+    put_header(page, h);
+    put_lines(&mut page[first..], low(base) as u32, marks);
+    ListWritten::Written(size)
+}
