@@ -1,2 +1,2 @@
--- The law that the proof of the exported check cites.
+-- The laws that the proofs of the exported functions cite.
 pub mod Answers

@@ -1,9 +1,15 @@
 // The interface for loaders written in C (include/m7700.h): numbers and byte slices, each as a pointer and a length.
 use checker::check;
+use marklist::reader::read_list;
+use marklist::writer::write_list;
+use model::lists::ListRead;
+use model::lists::ListWritten;
+use model::lists::Refusal;
 use model::rules::Verdict;
 ghost use mathlib.Core.Path.{_≡_};
 ghost use Rattle.model.specs.Verdict.{verdict};
-ghost use Rattle.loader.specs.Packed.{packedVerdict, Fits};
+ghost use Rattle.model.specs.MarkList.{refusalNumber, readList, marksRead, writeList, pageWritten};
+ghost use Rattle.loader.specs.Packed.{packedVerdict, Fits, packedRead, ReadFits, packedWritten, WrittenFits};
 
 fn pack(answer: Verdict) -> u32
     requires { ⌜ Fits answer ⌝ }
@@ -21,4 +27,56 @@ pub extern "C" fn m7700_check(image: &[u8], marks: &[u8], base: u32, reset: u32)
     ensures { λ r. ⌜ r ≡ packedVerdict (verdict (now (image .entry)) (now (marks .entry)) base reset) ⌝ }
 {
     pack(check(image, marks, base, reset))
+}
+
+// The paper's number of a refusal.
+fn refusal_number(refusal: Refusal) -> u64
+    ensures { λ r. ⌜ r ≡ refusalNumber refusal ⌝ }
+{
+    match refusal {
+        Refusal::WrongLength => 1,
+        Refusal::WrongBase => 2,
+        Refusal::WrongReset => 3,
+        Refusal::WrongMark => 4,
+        Refusal::NotAList => 14,
+        Refusal::ShortPage => 15,
+    }
+}
+
+fn pack_read(answer: ListRead) -> u64
+    requires { ⌜ ReadFits answer ⌝ }
+    ensures { λ r. ⌜ r ≡ packedRead answer ⌝ }
+{
+    match answer {
+        ListRead::NotRead(refusal) => refusal_number(refusal),
+        ListRead::Read(h) => h.base as u64 * 256 + h.reset as u64 * 4_294_967_296,
+    }
+}
+
+fn pack_written(answer: ListWritten) -> u64
+    requires { ⌜ WrittenFits answer ⌝ }
+    ensures { λ r. ⌜ r ≡ packedWritten answer ⌝ }
+{
+    match answer {
+        ListWritten::NotWritten(refusal) => refusal_number(refusal),
+        ListWritten::Written(length) => length as u64 * 256,
+    }
+}
+
+// The reader of mark lists: 0 in the low byte and the list's base and reset above it, or the number that refuses it.
+#[no_mangle]
+pub extern "C" fn m7700_read_list(text: &[u8], marks: &mut [u8]) -> u64
+    ensures answer { λ r. ⌜ r ≡ packedRead (readList (now (text .entry)) (now (marks .entry))) ⌝ }
+    ensures marks { λ _. ⌜ now (marks .exit) ≡ marksRead (now (text .entry)) (now (marks .entry)) ⌝ }
+{
+    pack_read(read_list(text, marks))
+}
+
+// The writer of mark lists: 0 in the low byte and the list's length above it, or the number that refuses it.
+#[no_mangle]
+pub extern "C" fn m7700_write_list(marks: &[u8], base: u32, reset: u32, page: &mut [u8]) -> u64
+    ensures answer { λ r. ⌜ r ≡ packedWritten (writeList (now (marks .entry)) base reset (now (page .entry))) ⌝ }
+    ensures page { λ _. ⌜ now (page .exit) ≡ pageWritten (now (marks .entry)) base reset (now (page .entry)) ⌝ }
+{
+    pack_written(write_list(marks, base, reset, page))
 }

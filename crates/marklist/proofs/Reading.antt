@@ -1,9 +1,9 @@
 -- The reader's tests, over plain values: a text is a list when its lines end with it; the mark at the reset address is the one
 -- shown behind the lines of the addresses before it; the first test that fails gives the answer.
 -- Assumes nothing.
-use mathlib.Core.Path.{_≡_, refl, sym, ap, _∙_}
-use mathlib.Core.Bool.{Bool, true, false, _&&_}
-use mathlib.Core.List.{List, [], _∷_}
+use mathlib.Core.Path.{_≡_, refl, sym}
+use mathlib.Core.Bool.{Bool, true, false}
+use mathlib.Core.List.{List}
 use Prim.Native.Nat.{ℕ, zero, suc, _+_, _-_, _%_, _≤_, _<_}
 use native.Mathlib.Nat.{add-zero}
 use native.Mathlib.Omega.{arith}
@@ -13,14 +13,12 @@ use lib.ListN.{length, getD, drop, length-drop, List·getD-eq-default}
 use Rattle.model.specs.declared.lists.Header.{Header}
 use Rattle.model.specs.declared.lists.Refusal.{Refusal}
 use Rattle.model.specs.declared.lists.Refusal.the-variants.{WrongLength, WrongBase, WrongReset, NotAList}
-use Rattle.model.specs.declared.lists.ListRead.{ListRead}
 use Rattle.model.specs.declared.lists.ListRead.the-variants.{NotRead, Read}
 use Rattle.model.specs.Digits.{startsWith}
 use Rattle.model.specs.Image.{bankSize, inBankOf, lengthFits, baseFits, markAt, resetFits}
 use Rattle.model.specs.MarkList.{lengthLimit, headerText, headerShown, isHeader, markShown, lineSize, marksShown, linesLeft}
 use Rattle.model.specs.MarkList.{linesText, marksOf, isList, readAs, readList, marksBy, marksRead}
 use Rattle.model.proofs.Digits.{starts-long}
-use Rattle.model.proofs.MarkList.{length-shown}
 use Rattle.model.proofs.Verdict.{both-true}
 
 -- ---- 14
@@ -55,10 +53,6 @@ module _ (h : Header) (text : List ℕ) where
       by false h = sym (ne-eqb (length text - end) 0 (λ z. eqb-false end (length text) h (omega arith)))
 
 -- ---- the marks
-
-pub length-marks-of : (h : Header) (text : List ℕ) → length (marksOf h text) ≡ h .length
-unfolding marksOf
-length-marks-of h text = length-shown (h .base % bankSize) (h .length) (linesText h text)
 
 -- the marks filled from behind the first line on, as many as the first line says
 pub all-marks : (h : Header) (text : List ℕ) (first size n : ℕ) (filled : List ℕ) → first ≡ h .base % bankSize

@@ -1,9 +1,9 @@
 -- The writer's tests, over plain values: the first that fails gives the answer; the list's length is that of its parts.
 -- Assumes nothing.
-use mathlib.Core.Path.{_≡_, refl, sym, ap, _∙_}
+use mathlib.Core.Path.{_≡_, sym}
 use mathlib.Core.Bool.{true, false}
-use mathlib.Core.List.{List, [], _∷_, _++_}
-use Prim.Native.Nat.{ℕ, _+_, _-_, _*_, _%_, _≤_, _<_}
+use mathlib.Core.List.{List, _++_}
+use Prim.Native.Nat.{ℕ, _+_, _-_, _%_, _≤_, _<_}
 use native.Mathlib.Omega.{arith}
 use borrow.Author.Tests.{le-leb, lt-leb}
 use lib.Dec.{eqb}
@@ -12,7 +12,6 @@ use borrow.Rule.Slice.PartMut.{putMid}
 use Rattle.model.specs.declared.lists.Header.{Header}
 use Rattle.model.specs.declared.lists.Refusal.{Refusal}
 use Rattle.model.specs.declared.lists.Refusal.the-variants.{WrongLength, WrongBase, WrongReset, WrongMark, ShortPage}
-use Rattle.model.specs.declared.lists.ListWritten.{ListWritten}
 use Rattle.model.specs.declared.lists.ListWritten.the-variants.{NotWritten, Written}
 use Rattle.model.specs.Image.{bankSize, lengthFits, baseFits, resetFits}
 use Rattle.model.specs.Verdict.{badMark}

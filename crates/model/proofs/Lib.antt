@@ -11,4 +11,5 @@ pub mod Verdict
 pub mod Meaning
 pub mod Digits
 pub mod MarkList
+pub mod ListAnswers
 pub mod RoundTrips

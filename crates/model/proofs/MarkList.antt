@@ -6,25 +6,25 @@ use mathlib.Core.Path.{_≡_, refl, sym, ap, _∙_}
 use mathlib.Core.Bool.{Bool, true, false, not, _&&_, _||_}
 use mathlib.Core.List.{List, [], _∷_, _++_, append-assoc}
 use mathlib.Core.Logic.{_⊎_, inl, inr}
-use Prim.Native.Nat.{ℕ, zero, suc, _+_, _-_, _*_, _/_, _%_, _^_, _≤_, _<_}
+use Prim.Native.Nat.{ℕ, zero, suc, _+_, _*_, _/_, _%_, _^_, _≤_, _<_}
 use native.Mathlib.Nat.{eq-or-lt-of-le, le-of-suc-le-suc}
 use native.Mathlib.Omega.{arith}
-use borrow.Author.Tests.{ltb-true, ltb-false, lt-ltb, eqb-true, eqb-false, eq-eqb, ne-eqb}
+use borrow.Author.Tests.{ltb-true, lt-ltb, eqb-true, eq-eqb, ne-eqb}
 use lib.Dec.{T, eqb, ltb, eqb→eq}
-use lib.ListN.{length, getD, take, drop, length-append, List·getD-append}
+use lib.ListN.{length, getD, drop, length-append, List·getD-append}
 use lib.Seq.{drop-drop, drop-append-add, drop-at, getD-at}
 use Rattle.model.specs.declared.lists.Header.{Header}
 use Rattle.model.specs.Choice.{pick}
-use Rattle.model.specs.Digits.{digit, digits, digitValue, value, startsWith}
-use Rattle.model.specs.Image.{bankSize, isStart, markM, markX, markKind, returnM, returnX, markOf, isFormed}
+use Rattle.model.specs.Digits.{digit, digits, value, startsWith}
+use Rattle.model.specs.Image.{bankSize, isStart, markKind, returnM, returnX, isFormed}
 use Rattle.model.specs.Verdict.{firstFrom}
 use Rattle.model.specs.MarkList.{tab, lineEnd, lengthDigits, lengthLimit, decimalDigits, headerText, kindLetter}
 use Rattle.model.specs.MarkList.{fields, line, lineOf, lines, tabAt, lengthDigitsShown, headerShown, bitShown}
 use Rattle.model.specs.MarkList.{kindShown, fieldsMark, isLine, markShown, lineSize, marksShown, linesLeft}
 use Rattle.model.proofs.Table.{upTo, below-all}
 use Rattle.model.proofs.Verdict.{both-true}
-use Rattle.model.proofs.First.{First, first-is, first-only}
-use Rattle.model.proofs.Digits.{digit-high, length-digits, last-digit, value-digits, starts-split, starts-append}
+use Rattle.model.proofs.First.{first-is, first-only}
+use Rattle.model.proofs.Digits.{digit-high, length-digits, value-digits, starts-split, starts-append}
 use Rattle.model.proofs.Digits.{starts-long, starts-join}
 
 -- ---- a line

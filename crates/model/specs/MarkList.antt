@@ -1,7 +1,7 @@
 -- 01, 'The mark list': the text of a list, what a text shows, and the answers of the reader and the writer, with the numbers in
 -- the order of 'Numbers': 'Reader: 14, 1, 2, 3. Writer: 1, 2, 4, 3, 15.'
 -- Assumes nothing.
-use Prim.Native.Nat.{ℕ, zero, suc, _+_, _*_, _%_}
+use Prim.Native.Nat.{ℕ, zero, suc, _+_, _%_}
 use mathlib.Core.Bool.{Bool, _&&_}
 use mathlib.Core.List.{List, [], _∷_, _++_}
 use lib.Dec.{eqb, ltb, leb}

@@ -1,11 +1,9 @@
 -- The invariant: the value is what the first i bytes show, and small enough for the bytes that are left.
 -- Assumes nothing.
-use mathlib.Core.Path.{_≡_, refl, sym, _∙_}
-use Prim.Native.Nat.{_+_, _-_, _*_, _≤_}
+use Prim.Native.Nat.{_-_, _≤_}
 use native.Mathlib.Omega.{arith}
-use lib.ListN.{drop, getD}
+use lib.ListN.{drop}
 use lib.Seq.{getD-drop}
-use Rattle.model.specs.Digits as spec
 use Rattle.marklist.proofs.Texts.{Shown, none-shown, room-for-one, one-more-shown, all-shown}
 use borrow.Author.Needs.{needs}
 use Rattle.marklist.proofs.digits.number.Statement.{statement}

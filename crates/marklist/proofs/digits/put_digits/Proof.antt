@@ -1,11 +1,11 @@
 -- The invariant: the digits that are left and the page from i on are the whole that is to be written.
 -- Assumes nothing.
 use mathlib.Core.List.{_++_}
-use mathlib.Core.Path.{_≡_, refl, _∙_}
-use Prim.Native.Nat.{_-_, _/_, _%_, _≤_}
+use mathlib.Core.Path.{_≡_, refl}
+use Prim.Native.Nat.{_≤_}
 use native.Mathlib.Nat.{mod-lt}
 use native.Mathlib.Omega.{arith}
-use lib.ListN.{length, drop, set, length-set}
+use lib.ListN.{length, drop, length-set}
 use Rattle.model.specs.Digits as spec
 use Rattle.marklist.proofs.Texts.{put-digit, none-left}
 use borrow.Author.Needs.{needs}

@@ -1,7 +1,6 @@
 -- The invariant: the text begins with all digits exactly when it begins with those that are left.
 -- Assumes nothing.
 use mathlib.Core.Path.{_≡_, refl, sym, _∙_}
-use Prim.Native.Nat.{_-_}
 use native.Mathlib.Nat.{mod-lt}
 use native.Mathlib.Omega.{arith}
 use Rattle.model.specs.Digits as spec

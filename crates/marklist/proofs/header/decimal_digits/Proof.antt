@@ -2,7 +2,6 @@
 -- Assumes nothing.
 use Rattle.model.specs.MarkList as spec
 use borrow.Author.Tests.{lt-ltb, le-ltb}
-use borrow.Author.Needs.{needs}
 use Rattle.marklist.proofs.header.decimal_digits.Statement.{statement}
 use Rattle.marklist.proofs.header.decimal_digits.Tie as tie
 

@@ -1,8 +1,6 @@
 -- The text is compared with the first line of what it shows, written into a line of its own.
 -- Assumes nothing.
-use mathlib.Core.Path.{_∙_, refl, sym}
 use Rattle.model.specs.MarkList as spec
-use native.Mathlib.Omega.{arith}
 use borrow.Author.Tests.{lt-ltb, le-ltb}
 use Rattle.marklist.proofs.HeaderLaws.{small-header, line-long, line-begin, begin-long}
 use borrow.Author.Needs.{needs}

@@ -2,7 +2,6 @@
 -- Assumes nothing.
 use Rattle.model.specs.MarkList as spec
 use borrow.Author.Tests.{eq-eqb, ne-eqb}
-use borrow.Author.Needs.{needs}
 use Rattle.marklist.proofs.lines.kind_letter.Statement.{statement}
 use Rattle.marklist.proofs.lines.kind_letter.Tie as tie
 

@@ -3,7 +3,6 @@
 use Rattle.model.specs.MarkList as spec
 use borrow.Author.Tests.{eq-eqb, ne-eqb}
 use native.Mathlib.Omega.{arith}
-use borrow.Author.Needs.{needs}
 use Rattle.marklist.proofs.lines.kind_shown.Statement.{statement}
 use Rattle.marklist.proofs.lines.kind_shown.Tie as tie
 

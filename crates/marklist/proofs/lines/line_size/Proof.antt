@@ -1,7 +1,6 @@
 -- By the test of a start.
 -- Assumes nothing.
 use Rattle.model.specs.MarkList as spec
-use mathlib.Core.Path.{sym}
 use borrow.Author.Needs.{needs}
 use Rattle.marklist.proofs.lines.line_size.Statement.{statement}
 use Rattle.marklist.proofs.lines.line_size.Tie as tie

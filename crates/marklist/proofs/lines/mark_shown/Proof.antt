@@ -1,10 +1,9 @@
 -- Each exit has passed the tests of a line in their order.
 -- Assumes nothing.
-use mathlib.Core.Path.{_≡_, refl, sym, _∙_}
-use mathlib.Core.Bool.{true, false, _&&_}
+use mathlib.Core.Path.{sym}
+use mathlib.Core.Bool.{true, false}
 use native.Mathlib.Omega.{arith}
 use borrow.Author.Tests.{not-true, not-false}
-use lib.ListN.{length, drop}
 use Rattle.model.specs.Digits.{digits}
 use Rattle.model.proofs.Digits.{length-digits, starts-long}
 use Rattle.marklist.proofs.Pages.{part-whole}

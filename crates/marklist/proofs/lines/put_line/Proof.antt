@@ -1,6 +1,6 @@
 -- The address is in front, the fields behind it; for no start nothing is written.
 -- Assumes nothing.
-use mathlib.Core.Path.{refl, sym}
+use mathlib.Core.Path.{sym}
 use native.Mathlib.Omega.{arith}
 use borrow.Author.Tests.{not-true, not-false}
 use Rattle.model.specs.MarkList as spec

@@ -1,8 +1,8 @@
 -- The invariant: the marks before i are filled, and the text from the place on shows the others.
 -- Assumes nothing.
-use Prim.Native.Nat.{_+_, _-_, _≤_}
+use Prim.Native.Nat.{_-_}
 use native.Mathlib.Omega.{arith}
-use lib.ListN.{length, drop}
+use lib.ListN.{length}
 use Rattle.marklist.proofs.Pages.{part-whole}
 use Rattle.marklist.proofs.Walks.{Filled, none-filled, one-more-filled, all-filled}
 use borrow.Author.Needs.{needs}

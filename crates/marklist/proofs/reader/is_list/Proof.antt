@@ -4,7 +4,7 @@ use native.Mathlib.Nat.{mod-lt}
 use native.Mathlib.Omega.{arith}
 use borrow.Author.Tests.{not-true, not-false}
 use Rattle.model.specs.Image.{bankSize}
-use Rattle.marklist.proofs.Reading.{Headed, headed, no-header, list-by-end}
+use Rattle.marklist.proofs.Reading.{headed, no-header, list-by-end}
 use borrow.Author.Needs.{needs}
 use Rattle.marklist.proofs.reader.is_list.Statement.{statement}
 use Rattle.marklist.proofs.reader.is_list.Tie as tie

@@ -1,8 +1,7 @@
 -- The invariant: what is left from the place on for the addresses to come is what is left of the whole.
 -- Assumes nothing.
-use Prim.Native.Nat.{_+_, _-_, _≤_}
+use Prim.Native.Nat.{_-_}
 use native.Mathlib.Omega.{arith}
-use lib.ListN.{length, drop, length-drop}
 use Rattle.marklist.proofs.Pages.{part-whole}
 use Rattle.marklist.proofs.Walks.{Left, none-walked, one-more-walked, all-walked}
 use borrow.Author.Needs.{needs}

@@ -8,7 +8,7 @@ use lib.ListN.{length}
 use Rattle.model.specs.Image.{bankSize}
 use Rattle.model.specs.declared.lists.Refusal.the-variants.{WrongLength, WrongBase, WrongReset, NotAList}
 use Rattle.model.proofs.Image.{right-length}
-use Rattle.marklist.proofs.Reading.{Headed, list-headed, keeps, fills, not-a-list, wrong-length, wrong-base}
+use Rattle.marklist.proofs.Reading.{list-headed, keeps, fills, not-a-list, wrong-length, wrong-base}
 use Rattle.marklist.proofs.Reading.{wrong-reset, is-read, all-marks}
 use borrow.Author.Needs.{needs}
 use Rattle.marklist.proofs.reader.read_list.Statement.{statement}

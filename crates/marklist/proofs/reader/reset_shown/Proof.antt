@@ -1,10 +1,11 @@
 -- The mark at the reset address is shown behind the lines of the addresses before it.
 -- Assumes nothing.
+use Rattle.model.proofs.ListAnswers.{length-marks-of}
 use native.Mathlib.Nat.{mod-lt}
 use native.Mathlib.Omega.{arith}
 use Rattle.model.specs.Image.{bankSize}
 use Rattle.marklist.proofs.Pages.{part-whole}
-use Rattle.marklist.proofs.Reading.{Headed, list-headed, length-marks-of, below-base, past-end, at-offset}
+use Rattle.marklist.proofs.Reading.{list-headed, below-base, past-end, at-offset}
 use borrow.Author.Needs.{needs}
 use Rattle.marklist.proofs.reader.reset_shown.Statement.{statement}
 use Rattle.marklist.proofs.reader.reset_shown.Tie as tie
