@@ -1,27 +1,17 @@
+-- The reader's answer fits its packing.
+-- Assumes nothing.
+use Rattle.loader.proofs.Answers.{read-fits}
+use Rattle.loader.specs.Packed.{packedRead}
+use mathlib.Core.Path.{_∙_, ap}
 use borrow.Author.Needs.{needs}
 use Rattle.loader.proofs.m7700_read_list.Statement.{statement}
 use Rattle.loader.proofs.m7700_read_list.Tie as tie
-use Rattle.loader.proofs.m7700_read_list.Reads as reads
-use Rattle.loader.proofs.m7700_read_list.Lts as lts
-use Rattle.loader.proofs.pack_read.Reads as pack-read-reads
-use Rattle.marklist.proofs.reader.read_list.Reads as read-list-reads
 
--- src/lib.rt:72:15
-read-list-requires : tie.Need-read-list-requires
-read-list-requires c κs = search needs
-
--- src/lib.rt:72:5
 pack-read-requires : tie.Need-pack-read-requires
-pack-read-requires c κs = ?
+pack-read-requires c κs = rw (c .before .before .read-list .ensures .0) (read-fits (c .before .before .before .before .before .before .args .text .now) (c .before .before .before .before .before .before .args .marks .now))
 
--- src/lib.rt:67:1
-same-length : tie.Need-same-length
-same-length c = search needs
-
--- src/lib.rt:67:1
 returns : tie.Need-returns
-returns c = ?
+returns c = (c .pack-read .ensures ∙ ap packedRead (c .before .before .before .read-list .ensures .0), c .before .before .before .read-list .ensures .1)
 
 pub m7700-read-list-spec : {M : Type 1} → statement M
-m7700-read-list-spec =
-    tie.close (tie.spec read-list-requires pack-read-requires same-length returns)
+m7700-read-list-spec = tie.close (tie.spec (λ c κs. search needs) pack-read-requires (λ c. search needs) returns)

@@ -1,61 +1,15 @@
+-- The base and the reset address of a list that was read are small.
+-- Assumes nothing.
+use native.Mathlib.Omega.{arith}
 use borrow.Author.Needs.{needs}
 use Rattle.loader.proofs.pack_read.Statement.{statement}
 use Rattle.loader.proofs.pack_read.Tie as tie
-use Rattle.loader.proofs.pack_read.Reads as reads
-use Rattle.loader.proofs.pack_read.Lts as lts
-use Rattle.loader.proofs.refusal_number.Reads as refusal-number-reads
 
--- src/lib.rt:51:27
-enum-known-answer : tie.Need-enum-known-answer
-enum-known-answer c = search needs
-
--- src/lib.rt:51:39
-refusal-number-requires : tie.Need-refusal-number-requires
-refusal-number-requires c κs = search needs
-
--- src/lib.rt:52:24
-enum-known-answer-2 : tie.Need-enum-known-answer-2
-enum-known-answer-2 c = search needs
-
--- src/lib.rt:52:30
-cast-result : tie.Need-cast-result
-cast-result c = search needs
-
--- src/lib.rt:52:30
-mul-result : tie.Need-mul-result
-mul-result c = search needs
-
--- src/lib.rt:52:52
-cast-result-2 : tie.Need-cast-result-2
-cast-result-2 c = search needs
-
--- src/lib.rt:52:52
-mul-result-2 : tie.Need-mul-result-2
-mul-result-2 c = search needs
-
--- src/lib.rt:52:30
 add-result : tie.Need-add-result
-add-result c = ?
+add-result c = let fits = rw (c .before .before .before .answer2 .given .1) at (c .before .before .before .before .before .pre) in omega (arith, fits .0, fits .1)
 
--- src/lib.rt:46:1
-returns : tie.Need-returns
-returns c = search needs
-
--- src/lib.rt:46:1
 returns-2 : tie.Need-returns-2
-returns-2 c = ?
+returns-2 c = rw (c .before .before .before .answer2 .given .1)
 
 pub pack-read-spec : {M : Type 1} → statement M
-pack-read-spec =
-    tie.close
-    (tie.spec
-    enum-known-answer
-    refusal-number-requires
-    enum-known-answer-2
-    cast-result
-    mul-result
-    cast-result-2
-    mul-result-2
-    add-result
-    returns
-    returns-2)
+pack-read-spec = tie.close (tie.spec (λ c. search needs) (λ c κs. search needs) (λ c. search needs) (λ c. search needs) (λ c. search needs) (λ c. search needs) (λ c. search needs) add-result (λ c. search needs) returns-2)

@@ -1,41 +1,15 @@
+-- The length of a list is small.
+-- Assumes nothing.
+use native.Mathlib.Omega.{arith}
 use borrow.Author.Needs.{needs}
 use Rattle.loader.proofs.pack_written.Statement.{statement}
 use Rattle.loader.proofs.pack_written.Tie as tie
-use Rattle.loader.proofs.pack_written.Reads as reads
-use Rattle.loader.proofs.pack_written.Lts as lts
-use Rattle.loader.proofs.refusal_number.Reads as refusal-number-reads
 
--- src/lib.rt:61:33
-enum-known-answer : tie.Need-enum-known-answer
-enum-known-answer c = search needs
-
--- src/lib.rt:61:45
-refusal-number-requires : tie.Need-refusal-number-requires
-refusal-number-requires c κs = search needs
-
--- src/lib.rt:62:30
-enum-known-answer-2 : tie.Need-enum-known-answer-2
-enum-known-answer-2 c = search needs
-
--- src/lib.rt:62:41
 mul-result : tie.Need-mul-result
-mul-result c = ?
+mul-result c = let fits = rw (c .before .answer2 .given .1) at (c .before .before .before .pre) in omega (arith, fits)
 
--- src/lib.rt:56:1
-returns : tie.Need-returns
-returns c = search needs
-
--- src/lib.rt:56:1
 returns-2 : tie.Need-returns-2
-returns-2 c = ?
+returns-2 c = rw (c .before .answer2 .given .1)
 
 pub pack-written-spec : {M : Type 1} → statement M
-pack-written-spec =
-    tie.close
-    (tie.spec
-    enum-known-answer
-    refusal-number-requires
-    enum-known-answer-2
-    mul-result
-    returns
-    returns-2)
+pack-written-spec = tie.close (tie.spec (λ c. search needs) (λ c κs. search needs) (λ c. search needs) mul-result (λ c. search needs) returns-2)
