@@ -1,8 +1,13 @@
 /* loader IMAGE MARKS BASE RESET
+ * loader write-list MARKS BASE RESET LENGTH LIST
+ * loader read-list LIST LENGTH MARKS
  *
- * Reads an image and its mark bytes from two files, checks them, and prints one
- * line. BASE and RESET are hexadecimal. The exit status is 0 if accepted, 1 if
- * refused, 2 if there was nothing to check. */
+ * The first form reads an image and its mark bytes from two files, checks them,
+ * and prints one line. The second writes the list of a file's marks into a page
+ * of LENGTH bytes and the whole page into the file LIST; the third reads the file
+ * LIST into LENGTH marks and writes them into the file MARKS. Both buffers hold
+ * dots before. BASE, RESET and LENGTH are hexadecimal. The exit status is 0 if
+ * accepted, written or read, 1 if refused, 2 if there was nothing to work on. */
 #include <errno.h>
 #include <stdio.h>
 #include <string.h>
@@ -11,15 +16,16 @@
 
 enum { ACCEPTED = 0, REFUSED = 1, UNREAD = 2 };
 
-/* A byte over the limit: the check sees that a file is too long. */
-enum { LIMIT = M7700_IMAGE_BYTES + 1 };
+/* A byte over the limit of an image and of a list: the library sees that a file
+ * is too long. */
+enum { LIMIT = M7700_LIST_BYTES + 1 };
 
 struct bytes {
     uint8_t at[LIMIT];
     size_t length;
 };
 
-static struct bytes image, marks;
+static struct bytes image, marks, list;
 
 static const char *word(uint32_t number)
 {
@@ -44,6 +50,10 @@ static const char *word(uint32_t number)
         return "widths";
     case M7700_RETURN:
         return "return";
+    case M7700_LIST:
+        return "list";
+    case M7700_PAGE:
+        return "page";
     default:
         return "unknown";
     }
@@ -83,12 +93,86 @@ static int read_hex(const char *text, uint32_t *into)
     return 1;
 }
 
+/* Writes a file; 0 if it can't. */
+static int write_file(const char *name, const struct bytes *from)
+{
+    FILE *file = fopen(name, "wb");
+    int failed = file == NULL || fwrite(from->at, 1, from->length, file) != from->length;
+
+    if (file != NULL && fclose(file) != 0)
+        failed = 1;
+    if (failed)
+        fprintf(stderr, "loader: %s: %s\n", name, strerror(errno));
+    return !failed;
+}
+
+/* Fills a buffer of so many bytes with dots; 0 if it can't be so long. */
+static int lend(const char *length, struct bytes *buffer)
+{
+    uint32_t count;
+
+    if (!read_hex(length, &count))
+        return 0;
+    if (count > LIMIT) {
+        fprintf(stderr, "loader: no buffer of %u bytes\n", (unsigned)count);
+        return 0;
+    }
+    buffer->length = count;
+    memset(buffer->at, '.', count);
+    return 1;
+}
+
+static int refused(uint32_t number)
+{
+    printf("refused: %u %s\n", (unsigned)number, word(number));
+    return REFUSED;
+}
+
+static int write_list(char **arguments)
+{
+    uint32_t base, reset;
+    uint64_t result;
+
+    if (!read_file(arguments[0], &marks) || !read_hex(arguments[1], &base) ||
+        !read_hex(arguments[2], &reset) || !lend(arguments[3], &list))
+        return UNREAD;
+    result = m7700_write_list(marks.at, marks.length, base, reset, list.at, list.length);
+    if (!write_file(arguments[4], &list))
+        return UNREAD;
+    if (M7700_LIST_NUMBER(result) != 0)
+        return refused(M7700_LIST_NUMBER(result));
+    printf("written: %u bytes\n", (unsigned)M7700_LIST_LENGTH(result));
+    return ACCEPTED;
+}
+
+static int read_list(char **arguments)
+{
+    uint64_t result;
+
+    if (!read_file(arguments[0], &list) || !lend(arguments[1], &marks))
+        return UNREAD;
+    result = m7700_read_list(list.at, list.length, marks.at, marks.length);
+    if (!write_file(arguments[2], &marks))
+        return UNREAD;
+    if (M7700_LIST_NUMBER(result) != 0)
+        return refused(M7700_LIST_NUMBER(result));
+    printf("read: base %06X, reset %04X\n", (unsigned)M7700_LIST_BASE(result),
+           (unsigned)M7700_LIST_RESET(result));
+    return ACCEPTED;
+}
+
 int main(int argc, char **argv)
 {
     uint32_t base, reset, result;
 
+    if (argc == 7 && strcmp(argv[1], "write-list") == 0)
+        return write_list(argv + 2);
+    if (argc == 5 && strcmp(argv[1], "read-list") == 0)
+        return read_list(argv + 2);
     if (argc != 5) {
-        fprintf(stderr, "usage: loader IMAGE MARKS BASE RESET\n");
+        fprintf(stderr, "usage: loader IMAGE MARKS BASE RESET\n"
+                        "       loader write-list MARKS BASE RESET LENGTH LIST\n"
+                        "       loader read-list LIST LENGTH MARKS\n");
         return UNREAD;
     }
     if (!read_file(argv[1], &image) || !read_file(argv[2], &marks) ||

@@ -14,8 +14,8 @@
  * Two conditions on pointers are left to the caller, since C can't express
  * them. Nothing else is asked:
  *
- *   - A pointer is valid for its length: so many bytes may be read there.
- *     At length 0 any pointer will do.
+ *   - A pointer is valid for its length: so many bytes may be read there, and
+ *     written where the function writes. At length 0 any pointer will do.
  *   - A buffer that a function writes overlaps no other. Image and marks are
  *     only read, so for the check they may overlap.
  */
@@ -47,6 +47,10 @@ extern "C" {
 #define M7700_WIDTHS 9   /* widths: one of those breaks its rule on widths, kind or return */
 #define M7700_RETURN 10  /* return: RTS or RTL not under its kind or not at its return widths */
 
+/* Two numbers more that the functions on lists answer, beside 1, 2, 3 and 4. */
+#define M7700_LIST 14    /* list: text is not a mark list */
+#define M7700_PAGE 15    /* page: output buffer shorter than the list */
+
 /* The two parts of the check's result. */
 #define M7700_NUMBER(result) ((uint32_t)(result) >> 16)
 #define M7700_OFFSET(result) ((uint32_t)(result) & 0xFFFFu)
@@ -66,6 +70,67 @@ extern "C" {
 uint32_t m7700_check(const uint8_t *image, size_t image_len,
                      const uint8_t *marks, size_t marks_len,
                      uint32_t base, uint32_t reset);
+
+/* A mark list is text, one record a line, its fields parted by one tab (09), each
+ * line closed by 0A:
+ *
+ *   I  base  length  reset             the first line: base in six hexadecimal
+ *                                      digits, length in decimal without a leading
+ *                                      zero, reset in four hexadecimal digits
+ *   address  m  x  kind  m  x          a line for each start, ascending: address in
+ *                                      the bank in four digits, m and x there, kind
+ *                                      (N, S or L for 0, 1, 2), m and x at the return
+ *
+ * Hexadecimal letters are capitals; under N the last two fields are 0. A start's
+ * address is one of the length's many from the base's low 16 bits on, up to FFFF.
+ *
+ * The longest list that is written, in bytes. */
+#define M7700_LIST_BYTES 245780
+
+/* The parts of the results of the two functions below. */
+#define M7700_LIST_NUMBER(result) ((uint32_t)((uint64_t)(result) & 0xFFu))
+#define M7700_LIST_BASE(result) ((uint32_t)((uint64_t)(result) >> 8 & 0xFFFFFFu))
+#define M7700_LIST_RESET(result) ((uint32_t)((uint64_t)(result) >> 32 & 0xFFFFFFu))
+#define M7700_LIST_LENGTH(result) ((uint64_t)(result) >> 8)
+
+/* Reads a list into marks of the image's length.
+ *
+ * Bits 0 to 7 of the result are the number, 0 if the list was read; then bits 8
+ * to 31 are its base and bits 32 to 55 its reset address (its length is
+ * marks_len). The tests go in the order
+ *
+ *   14  the text is not a list, by its own length, whatever marks_len is
+ *    1  the list's length is 0 or over 16,384, or marks_len is another
+ *    2  the list's base and length cross a bank end
+ *    3  the list has no start with m=0, x=0, kind 0 at its reset address
+ *
+ * and the first that fails decides; the other bits are then 0 and the marks are
+ * as given. If the list was read, every mark is written: 0 where no instruction
+ * starts. Every text and every length is answered. The function reads only the
+ * text, writes only the marks, and keeps no pointer. */
+uint64_t m7700_read_list(const uint8_t *text, size_t text_len,
+                         uint8_t *marks, size_t marks_len);
+
+/* Writes the list of marks at the front of a page.
+ *
+ * Bits 0 to 7 of the result are the number, 0 if the list was written; then bits 8
+ * to 63 are its length in bytes. The tests go in the order
+ *
+ *    1  no marks, or over 16,384
+ *    2  base above FFFFFF, or base and marks_len cross a bank end
+ *    4  a mark not of the form above
+ *    3  no mark 01 at the reset address, or reset above FFFF
+ *   15  the page is shorter than the list
+ *
+ * and the first that fails decides; the other bits are then 0 and the page is as
+ * given. If the list was written, the bytes of the page behind it are as given.
+ * Every base, reset and length and every mark is answered. The function reads only
+ * the marks, writes only the page, and keeps no pointer. What it wrote, read into
+ * marks of the same length, gives the same marks, base and reset; and a list that
+ * was read is written as the same bytes. */
+uint64_t m7700_write_list(const uint8_t *marks, size_t marks_len,
+                          uint32_t base, uint32_t reset,
+                          uint8_t *page, size_t page_len);
 
 #ifdef __cplusplus
 }
