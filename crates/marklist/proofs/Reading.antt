@@ -17,7 +17,7 @@ use Rattle.model.specs.declared.lists.ListRead.the-variants.{NotRead, Read}
 use Rattle.model.specs.Digits.{startsWith}
 use Rattle.model.specs.Image.{bankSize, inBankOf, lengthFits, baseFits, markAt, resetFits}
 use Rattle.model.specs.MarkList.{lengthLimit, headerText, headerShown, isHeader, markShown, lineSize, marksShown, linesLeft}
-use Rattle.model.specs.MarkList.{linesText, marksOf, isList, readAs, readList, marksBy, marksRead}
+use Rattle.model.specs.MarkList.{linesText, leftOf, marksOf, isList, readAs, readList, marksBy, marksRead}
 use Rattle.model.proofs.Digits.{starts-long}
 use Rattle.model.proofs.Verdict.{both-true}
 
@@ -45,7 +45,7 @@ module _ (h : Header) (text : List ℕ) where
   pub list-by-end : (end : ℕ) → isHeader h text ≡ true → end ≤ length text
       → drop end text ≡ linesLeft (h .base % bankSize) (h .length) (drop (length (headerText h)) text)
       → eqb end (length text) ≡ isList h text
-  unfolding isList linesText
+  unfolding isList leftOf linesText
   list-by-end end e inside left = rw (e, ← left, length-drop end text) (by (eqb end (length text)) refl)
     where
       by : (b : Bool) → eqb end (length text) ≡ b → b ≡ eqb (length text - end) 0

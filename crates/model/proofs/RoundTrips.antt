@@ -16,7 +16,7 @@ use Rattle.model.specs.declared.lists.ListWritten.the-variants.{Written}
 use Rattle.model.specs.Digits.{startsWith}
 use Rattle.model.specs.Image.{bankSize, addressLimit, isFormed, baseFits}
 use Rattle.model.specs.Verdict.{firstFrom, badMark, unformedAt}
-use Rattle.model.specs.MarkList.{lengthLimit, headerText, lines, listText, headerShown, isHeader, linesLeft, linesText}
+use Rattle.model.specs.MarkList.{lengthLimit, headerText, lines, listText, headerShown, isHeader, linesLeft, linesText, leftOf}
 use Rattle.model.specs.MarkList.{marksShown, marksOf, isList, readAs, readList, marksBy, marksRead, writeList, pageBy}
 use Rattle.model.specs.MarkList.{pageWritten}
 use Rattle.model.proofs.First.{passed-all}
@@ -24,25 +24,27 @@ use Rattle.model.proofs.Image.{right-length, base-below}
 use Rattle.model.proofs.Verdict.{both-true, none-found}
 use Rattle.model.proofs.ListAnswers.{Passes, passes, length-marks-of, Written-as, written-as, reset-below}
 use Rattle.model.proofs.Digits.{starts-split, starts-append}
-use Rattle.model.proofs.MarkList.{length-shown, all-formed, shown-lines, lines-again, header-again}
+use Rattle.model.proofs.MarkList.{all-formed, shown-lines, lines-again, header-again}
 
 -- a text that is a list is the text of the first line and the marks that it shows
 nothing : (l : List ℕ) → eqb (length l) 0 ≡ true → l ≡ []
 nothing [] h = refl
 nothing (b ∷ l) h = absurd (omega (arith, eqb-true (length (b ∷ l)) 0 h))
 
+lines-and-left : (h : Header) (text : List ℕ) → linesText h text ≡ lines (h .base % bankSize) (marksOf h text) ++ leftOf h text
+unfolding marksOf leftOf
+lines-and-left h text = shown-lines (h .base % bankSize) (h .length) (linesText h text)
+
 is-text : (h : Header) (text : List ℕ) → isList h text ≡ true → listText (marksOf h text) (h .base) (h .reset) ≡ text
-unfolding isList isHeader listText marksOf linesText
+unfolding isList isHeader listText linesText
 is-text h text e =
-    let first = h .base % bankSize in
-    let rest = linesText h text in
-    let outer = both-true (isHeader h text) (eqb (length (linesLeft first (h .length) rest)) 0) e in
+    let marks = lines (h .base % bankSize) (marksOf h text) in
+    let outer = both-true (isHeader h text) (eqb (length (leftOf h text)) 0) e in
     let header = both-true (ltb (h .length) lengthLimit) (startsWith (headerText h) text) (outer .0) in
     let split = starts-split (headerText h) text (header .1) in
-    let all = shown-lines first (h .length) rest in
-    let none = nothing (linesLeft first (h .length) rest) (outer .1) in
-    let whole : lines first (marksOf h text) ≡ rest = sym (append-nil (lines first (marksOf h text))) ∙ sym (rw none at all) in
-    rw (length-shown first (h .length) rest) (ap (headerText h ++_) whole ∙ sym split)
+    let none = nothing (leftOf h text) (outer .1) in
+    let whole : marks ≡ linesText h text = sym (append-nil marks) ∙ sym (rw none at (lines-and-left h text)) in
+    rw (length-marks-of h text) (ap (headerText h ++_) whole ∙ sym split)
 
 -- all marks of a list are in form
 formed-marks : (h : Header) (text : List ℕ) → eqb (badMark (marksOf h text)) (length (marksOf h text)) ≡ true
@@ -105,7 +107,7 @@ module _ (marks : List ℕ) (base reset n : ℕ) (page : List ℕ) (w : Written-
       (λ k inside. not-false (isFormed (getD marks k 0)) (none-found (unformedAt marks) (length marks) (w .formed) k inside))
 
   read-again : (lent : ℕ) → lent ≡ length marks → readAs first-line (listText marks base reset) lent ≡ Read first-line
-  unfolding readAs isList isHeader marksOf listText
+  unfolding readAs isList isHeader marksOf leftOf listText
   read-again lent same =
       rw (
         lt-ltb (length marks) lengthLimit few,

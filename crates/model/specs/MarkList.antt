@@ -144,9 +144,13 @@ linesText h text = drop (length (headerText h)) text
 unfoldable pub marksOf : Header → List ℕ → List ℕ
 marksOf h text = marksShown (h .base % bankSize) (h .length) (linesText h text)
 
+-- what these addresses leave of a text
+unfoldable pub leftOf : Header → List ℕ → List ℕ
+leftOf h text = linesLeft (h .base % bankSize) (h .length) (linesText h text)
+
 -- 14: 'text is not a mark list' unless the first line is in form and the addresses in turn take all lines, so that nothing is left
 unfoldable pub isList : Header → List ℕ → Bool
-isList h text = isHeader h text && eqb (length (linesLeft (h .base % bankSize) (h .length) (linesText h text))) 0
+isList h text = isHeader h text && eqb (length (leftOf h text)) 0
 
 -- the reader's tests of a text that shows a first line, for marks of a length
 unfoldable pub readAs : Header → List ℕ → ℕ → ListRead
