@@ -1,2 +1,3 @@
 -- The laws that the proofs of the functions share.
-pub mod Small
+pub mod Clear
+pub mod Steps

@@ -2,7 +2,7 @@
 pub mod owed;
 pub mod start;
 
-use crate::start::start_number;
+use crate::start::step_at;
 use codepages::pages;
 use image::base_fits;
 use image::byte_at;
@@ -33,19 +33,21 @@ fn bad_mark(marks: &[u8]) -> usize
     i
 }
 
-// The starts in turn, from the lowest: the first that breaks a rule refuses.
+// The starts in turn, from the lowest: the first that breaks a rule refuses. Where an instruction breaks none, no start stands on
+// its later bytes, and they are stepped over.
 fn starts_verdict(codes: &[[[u32; 16]; 16]; 3], image: &[u8], marks: &[u8], base: u32) -> Verdict
     requires { ⌜ (now codes ≡ numbers) × (base < addressLimit) × (length (now marks) ≤ imageLimit) ⌝ }
     ensures { λ r. ⌜ r ≡ spec.startsVerdict (now (image .entry)) (now (marks .entry)) base ⌝ }
 {
     let mut i = 0;
     while i < marks.len() {
-        let number = start_number(codes, image, marks, base, i);
+        let step = step_at(codes, image, marks, base, i);
+        let number = step.number;
         if number != 0 {
             let offset = i as u32;
             return Verdict::Refused { number, offset };
         }
-        i += 1;
+        i += step.bytes as usize;
     }
     Verdict::Accepted
 }

@@ -84,8 +84,11 @@ framed-nothing (b ∷ bs) m x h = absurd (omega arith)
 
 -- what a frame at a place of an image says of it
 module _ (image : List ℕ) (at m x : ℕ) (framed-here : Framed) (is-framed : framed-here ≡ framed (drop at image) m x) where
+  pub fits-in : FittingIn (length image - at) framed-here
+  fits-in = rw (is-framed, ← length-drop at image) (fitting (drop at image) m x)
+
   pub fits-at : (f : Frame) → framed-here ≡ Fits f → Fitting (length image - at) f
-  fits-at f e = rw (← is-framed, e, length-drop) at (fitting (drop at image) m x)
+  fits-at f e = rw e at fits-in
 
   pub decoded-fits : (f : Frame) (i : Instruction) → framed-here ≡ Fits f → i ≡ instructionOf (drop at image) f
       → Whole i ≡ decode (drop at image) m x

@@ -4,7 +4,7 @@
 use mathlib.Core.Path.{_≡_, refl, sym, ap, _∙_}
 use mathlib.Core.List.{List, [], _∷_}
 use Prim.Native.Nat.{ℕ, zero, suc, _+_, _-_, _*_, _/_, _%_, _^_, _≤_, _<_}
-use native.Mathlib.Nat.{pow-suc, one-le-pow, mod-one, zero-mod, mod-lt, mod-eq-of-lt, mod-eq-sub-div-mul, div-mul-le-self}
+use native.Mathlib.Nat.{pow-suc, pow-le-pow-right, one-le-pow, mod-one, zero-mod, mod-lt, mod-eq-of-lt, mod-eq-sub-div-mul, div-mul-le-self}
 use native.Mathlib.Nat.{div-add-mod, add-mul-mod-self-left, mul-assoc, mul-left-comm, mul-comm, le-of-suc-le-suc, add-assoc}
 use native.Mathlib.Numerals.{add-one}
 use native.Mathlib.Omega.{arith}
@@ -93,6 +93,17 @@ module _ (image : List ℕ) (at prefix n value : ℕ) where
   operand-of-six small some few e =
       rw (same-part, same-count) (e ∙ low-number (drop behind image) 6 (n - prefix - 1) (bytes-drop behind image small)
       (omega arith))
+
+  -- the operand as five bytes at most
+  pub operand-small : AllBytes image → n ≤ 6 → operandOf (drop at image) prefix n < 1_099_511_627_776
+  operand-small small few =
+      let k = n - (prefix + 1) in
+      let rest = drop (prefix + 1) (drop at image) in
+      let same = low-number rest k k (bytes-drop (prefix + 1) (drop at image) (bytes-drop at image small)) (omega arith) in
+      let below : number (take k rest) < 256 ^ k = rw (← same) (mod-lt (number (take k rest)) (one-le-pow k 256 (omega arith))) in
+      let short : k ≤ 5 = omega arith in
+      let top : 256 ^ k ≤ 256 ^ 5 = pow-le-pow-right (omega arith) short in
+      omega arith
 
   -- the operand as a part of the image
   pub operand-of-part : prefix < n → value ≡ number (take (at + n - behind) (drop behind image))

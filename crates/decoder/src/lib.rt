@@ -181,7 +181,9 @@ pub fn frame_at(codes: &[[[u32; 16]; 16]; 3], image: &[u8], at: usize, m: u8, x:
 // The operand of a frame at a place of an image: the bytes behind the code as one number.
 pub fn operand_at(image: &[u8], at: usize, frame: Frame) -> u64
     requires { ⌜ Fitting (length (now image) - at) frame ⌝ }
-    ensures { λ r. ⌜ r ≡ spec.operandOf (drop at (now (image .entry))) (frame .prefix) (frame .length) ⌝ }
+    ensures { λ r. ⌜
+        (r ≡ spec.operandOf (drop at (now (image .entry))) (frame .prefix) (frame .length)) × (r < 1_099_511_627_776)
+    ⌝ }
 {
     let prefix = frame.prefix;
     let length = frame.length;

@@ -264,7 +264,7 @@ pub fn flow_of(n: u32) -> Flow
     flow_at(n / 32_768 % 8)
 }
 
-pub fn target_of(n: u32) -> Target
+pub fn target_form_of(n: u32) -> Target
     ensures { λ r. ⌜ r ≡ unpacked n .target ⌝ }
 {
     target_at(n / 262_144 % 8)
@@ -298,7 +298,7 @@ pub fn unpack(n: u32) -> Entry
         accumulator: accumulator_at(n / 4_096 % 4),
         carried: is_carried(n),
         flow: flow_of(n),
-        target: target_of(n),
+        target: target_form_of(n),
         effect: effect_of(n),
         bytes: bytes_of(n),
         rule: rule_of(n),

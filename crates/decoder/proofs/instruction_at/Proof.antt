@@ -16,7 +16,7 @@ operand-at-requires c κs = search needs
 
 -- src/lib.rt:197:1
 returns : tie.Need-returns
-returns c = rw (c .before .unpack .ensures, c .operand-at .ensures)
+returns c = rw (c .before .unpack .ensures, c .operand-at .ensures .0)
 
 pub instruction-at-spec : {M : Type 1} → statement M
 instruction-at-spec = tie.close (tie.spec unpack-requires operand-at-requires returns)

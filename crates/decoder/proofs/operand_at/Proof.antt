@@ -1,4 +1,4 @@
-use Rattle.decoder.proofs.Words.{operand-of-six, operand-of-part}
+use Rattle.decoder.proofs.Words.{operand-of-six, operand-of-part, operand-small}
 use native.Mathlib.Omega.{arith}
 use borrow.Author.Needs.{needs}
 use Rattle.decoder.proofs.operand_at.Statement.{statement}
@@ -43,7 +43,7 @@ low-bytes-requires c κs = search needs
 
 -- src/lib.rt:190:9
 returns : tie.Need-returns
-returns c = operand-of-six (c .before .before .before .before .args .image .now) (c .before .before .before .before .args .at) (c .before .before .before .before .args .frame .prefix) (c .before .before .before .before .args .frame .length) (c .low-bytes .result) (λ k. omega (arith, c .before .before .before .shared-slice-known .given k)) (c .before .before .before .before .pre .1) (c .before .before .before .before .pre .2) (rw (← c .before .six-bytes .ensures) (c .low-bytes .ensures))
+returns c = let value = operand-of-six (c .before .before .before .before .args .image .now) (c .before .before .before .before .args .at) (c .before .before .before .before .args .frame .prefix) (c .before .before .before .before .args .frame .length) (c .low-bytes .result) (λ k. omega (arith, c .before .before .before .shared-slice-known .given k)) (c .before .before .before .before .pre .1) (c .before .before .before .before .pre .2) (rw (← c .before .six-bytes .ensures) (c .low-bytes .ensures)) in (value, rw value (operand-small (c .before .before .before .before .args .image .now) (c .before .before .before .before .args .at) (c .before .before .before .before .args .frame .prefix) (c .before .before .before .before .args .frame .length) (c .low-bytes .result) (λ k. omega (arith, c .before .before .before .shared-slice-known .given k)) (c .before .before .before .before .pre .2)))
 
 -- src/lib.rt:192:20
 cast-end : tie.Need-cast-end
@@ -71,7 +71,7 @@ number-requires c κs = search needs
 
 -- src/lib.rt:182:1
 returns-2 : tie.Need-returns-2
-returns-2 c = operand-of-part (c .before .before .before .before .args .image .now) (c .before .before .before .before .args .at) (c .before .before .before .before .args .frame .prefix) (c .before .before .before .before .args .frame .length) (c .number .result) (c .before .before .before .before .pre .1) (c .number .ensures)
+returns-2 c = let value = operand-of-part (c .before .before .before .before .args .image .now) (c .before .before .before .before .args .at) (c .before .before .before .before .args .frame .prefix) (c .before .before .before .before .args .frame .length) (c .number .result) (c .before .before .before .before .pre .1) (c .number .ensures) in (value, rw value (operand-small (c .before .before .before .before .args .image .now) (c .before .before .before .before .args .at) (c .before .before .before .before .args .frame .prefix) (c .before .before .before .before .args .frame .length) (c .number .result) (λ k. omega (arith, c .before .before .before .shared-slice-known .given k)) (c .before .before .before .before .pre .2)))
 
 pub operand-at-spec : {M : Type 1} → statement M
 operand-at-spec =

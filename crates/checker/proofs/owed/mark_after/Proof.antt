@@ -1,33 +1,31 @@
--- Kept widths leave the fields of the mark; else the widths after an instruction are bits again, and so fit a mark.
--- Assumes nothing.
-use Rattle.model.proofs.Widths.{m-after-bit, x-after-bit, same-fields}
-use Rattle.model.specs.Rules.{markAfter, mAfter, xAfter}
+use Rattle.model.specs.Rules.{markAfter}
+use Rattle.model.proofs.Widths.{m-after-bit, x-after-bit}
 use native.Mathlib.Omega.{arith}
 use borrow.Author.Needs.{needs}
 use Rattle.checker.proofs.owed.mark_after.Statement.{statement}
 use Rattle.checker.proofs.owed.mark_after.Tie as tie
+use Rattle.checker.proofs.owed.mark_after.Reads as reads
+use Rattle.checker.proofs.owed.mark_after.Lts as lts
+use Rattle.checker.proofs.owed.m_after.Reads as m-after-reads
+use Rattle.checker.proofs.owed.mark_of.Reads as mark-of-reads
+use Rattle.checker.proofs.owed.x_after.Reads as x-after-reads
 
-returns : tie.Need-returns
-unfolding markAfter mAfter xAfter
-returns c = rw (c .enum-told .given .1) (same-fields (c .before .before .args .mark) (omega arith))
+-- src/owed.rt:134:9
+m-after-requires : tie.Need-m-after-requires
+m-after-requires c κs = search needs
 
+-- src/owed.rt:135:9
+x-after-requires : tie.Need-x-after-requires
+x-after-requires c κs = search needs
+
+-- src/owed.rt:136:5
 mark-of-requires : tie.Need-mark-of-requires
-mark-of-requires c κs = (
-  rw (c .before .m-after .ensures) (m-after-bit _ _ _ (omega arith)),
-  rw (c .x-after .ensures) (x-after-bit _ _ _
-      (omega arith)),
-  omega arith,
-  omega arith,
-  omega arith,
-)
+mark-of-requires c κs = (rw (c .before .m-after .ensures) (m-after-bit _ _ _ (omega arith)), rw (c .x-after .ensures) (x-after-bit _ _ _ (omega arith)), omega arith, omega arith, omega arith)
 
-returns-2 : tie.Need-returns-2
+-- src/owed.rt:131:1
+returns : tie.Need-returns
 unfolding markAfter
-returns-2 c = rw (← c .before .before .m-after .ensures, ← c .before .x-after .ensures) (c .mark-of .ensures)
+returns c = rw (← c .before .before .m-after .ensures, ← c .before .x-after .ensures) (c .mark-of .ensures)
 
 pub mark-after-spec : {M : Type 1} → statement M
-mark-after-spec =
-    tie.close
-    (tie.spec
-    (λ c. search needs) (λ c. search needs) (λ c. search needs) returns (λ c κs. search needs)
-    (λ c κs. search needs) mark-of-requires returns-2)
+mark-after-spec = tie.close (tie.spec m-after-requires x-after-requires mark-of-requires returns)
