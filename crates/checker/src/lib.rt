@@ -9,15 +9,30 @@ use image::byte_at;
 use image::is_formed;
 use image::is_start;
 use image::length_fits;
+use image::misfit;
 use image::reset_fits;
 use model::rules::Verdict;
 ghost use mathlib.Core.Path.{_≡_};
 ghost use Prim.Native.Nat.{_≤_, _<_};
+ghost use lib.Dec.{eqb};
 ghost use lib.ListN.{length};
 ghost use Rattle.codepages.specs.Packing.{numbers};
 ghost use Rattle.model.specs.Choice.{pick};
 ghost use Rattle.model.specs.Image.{addressLimit, imageLimit, isStart, startCount};
 ghost use Rattle.model.specs.Verdict as spec;
+
+// Every mark has the form. The loop goes through all of them, without a branch that hangs on a mark.
+fn all_formed(marks: &[u8]) -> bool
+    ensures { λ r. ⌜ r ≡ eqb (spec.badMark (now (marks .entry))) (length (now (marks .entry))) ⌝ }
+{
+    let mut bad = 0;
+    let mut i = 0;
+    while i < marks.len() {
+        bad = bad | misfit(marks[i]);
+        i += 1;
+    }
+    bad == 0
+}
 
 // The lowest mark that is not of the form, or the number of marks.
 fn bad_mark(marks: &[u8]) -> usize
@@ -68,12 +83,9 @@ pub fn check(image: &[u8], marks: &[u8], base: u32, reset: u32) -> Verdict
             offset: 0,
         };
     }
-    let bad = bad_mark(marks);
-    if bad != marks.len() {
-        return Verdict::Refused {
-            number: 4,
-            offset: bad as u32,
-        };
+    if !all_formed(marks) {
+        let offset = bad_mark(marks) as u32;
+        return Verdict::Refused { number: 4, offset };
     }
     if !reset_fits(marks, base, reset) {
         return Verdict::Refused {
