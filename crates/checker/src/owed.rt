@@ -4,6 +4,7 @@ use decoder::operand_at;
 use entries::effect_of;
 use entries::flow_of;
 use entries::target_form_of;
+use image::choose;
 use image::mark_at;
 use model::code::Flow;
 use model::code::Kind;
@@ -20,6 +21,7 @@ ghost use Rattle.model.specs.Decode.{operandOf};
 ghost use Rattle.model.specs.Rules as rules;
 ghost use Rattle.codepages.specs.Packing.{unpacked};
 ghost use Rattle.decoder.specs.Frame.{Fitting, instructionOf};
+ghost use Rattle.checker.specs.Effects.{newWidth, ownBits, operandShare};
 
 // The limits of model/specs/Image.antt.
 const BANK_SIZE: u64 = 65_536;
@@ -50,13 +52,11 @@ fn last_byte(operand: u64, n: u8) -> u64
     requires { ⌜ n ≤ 6 ⌝ }
     ensures { λ r. ⌜ r ≡ rules.lastByte operand n ⌝ }
 {
-    match n {
-        3 => operand / 256,
-        4 => operand / 65_536,
-        5 => operand / 16_777_216,
-        6 => operand / 4_294_967_296,
-        _ => operand,
+    if n < 2 {
+        return operand;
     }
+    let bits = 8 * (n - 2) as u32;
+    operand >> bits
 }
 
 // An address in the bank of another.
@@ -81,41 +81,42 @@ fn target_of(target: Target, address: u64, n: u8, operand: u64) -> u64
     }
 }
 
-// A width after SEP with this bit.
-fn set_bit(width: u8, bit: u64) -> u8
-    ensures { λ r. ⌜ r ≡ rules.setBit width bit ⌝ }
-{
-    if bit == 1 { 1 } else { width }
-}
-
-// A width after CLP with this bit.
-fn clear_bit(width: u8, bit: u64) -> u8
-    ensures { λ r. ⌜ r ≡ rules.clearBit width bit ⌝ }
-{
-    if bit == 1 { 0 } else { width }
-}
-
-fn m_after(effect: WidthEffect, m: u8, operand: u64) -> u8
-    ensures { λ r. ⌜ r ≡ rules.mAfter effect m operand ⌝ }
+// What the widths become that an instruction names.
+fn new_width(effect: WidthEffect) -> u8
+    ensures { λ r. ⌜ r ≡ newWidth effect ⌝ }
 {
     match effect {
-        WidthEffect::KeepWidths => m,
+        WidthEffect::KeepWidths => 0,
         WidthEffect::SetM => 1,
         WidthEffect::ClearM => 0,
-        WidthEffect::SetBits => set_bit(m, operand / 32 % 2),
-        WidthEffect::ClearBits => clear_bit(m, operand / 32 % 2),
+        WidthEffect::SetBits => 1,
+        WidthEffect::ClearBits => 0,
     }
 }
 
-fn x_after(effect: WidthEffect, x: u8, operand: u64) -> u8
-    ensures { λ r. ⌜ r ≡ rules.xAfter effect x operand ⌝ }
+// The bits of the status register that an instruction names whatever its operand is.
+fn own_bits(effect: WidthEffect) -> u64
+    ensures { λ r. ⌜ r ≡ ownBits effect ⌝ }
 {
     match effect {
-        WidthEffect::KeepWidths => x,
-        WidthEffect::SetM => x,
-        WidthEffect::ClearM => x,
-        WidthEffect::SetBits => set_bit(x, operand / 16 % 2),
-        WidthEffect::ClearBits => clear_bit(x, operand / 16 % 2),
+        WidthEffect::KeepWidths => 0,
+        WidthEffect::SetM => 32,
+        WidthEffect::ClearM => 32,
+        WidthEffect::SetBits => 0,
+        WidthEffect::ClearBits => 0,
+    }
+}
+
+// 1 where an instruction names bits by its operand, else 0.
+fn operand_share(effect: WidthEffect) -> u64
+    ensures { λ r. ⌜ r ≡ operandShare effect ⌝ }
+{
+    match effect {
+        WidthEffect::KeepWidths => 0,
+        WidthEffect::SetM => 0,
+        WidthEffect::ClearM => 0,
+        WidthEffect::SetBits => 1,
+        WidthEffect::ClearBits => 1,
     }
 }
 
@@ -129,10 +130,13 @@ fn mark_of(m: u8, x: u8, kind: u8, rm: u8, rx: u8) -> u8
 
 // The mark with the widths after an instruction.
 fn mark_after(effect: WidthEffect, operand: u64, mark: u8) -> u8
+    requires { ⌜ operand < 1_099_511_627_776 ⌝ }
     ensures { λ r. ⌜ r ≡ rules.markAfter effect operand mark ⌝ }
 {
-    let m = m_after(effect, mark / 2 % 2, operand);
-    let x = x_after(effect, mark / 4 % 2, operand);
+    let bits = own_bits(effect) + operand * operand_share(effect);
+    let new = new_width(effect);
+    let m = choose(bits / 32 % 2 == 1, new, mark / 2 % 2);
+    let x = choose(bits / 16 % 2 == 1, new, mark / 4 % 2);
     mark_of(m, x, mark / 8 % 4, mark / 32 % 2, mark / 64 % 2)
 }
 

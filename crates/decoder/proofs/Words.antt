@@ -16,7 +16,7 @@ use Rattle.model.proofs.Decode.{AllBytes, bytes-drop}
 twice : (k v : ℕ) → 2 ^ k ≡ v → 2 ^ suc k ≡ v * 2
 twice k v e = rw (pow-suc, e)
 
-eight-bits : (n : ℕ) → 2 ^ (8 * n) ≡ 256 ^ n
+pub eight-bits : (n : ℕ) → 2 ^ (8 * n) ≡ 256 ^ n
 eight-bits zero = refl
 eight-bits (suc n) =
     let more : 8 * suc n ≡ suc (suc (suc (suc (suc (suc (suc (suc (8 * n)))))))) = omega arith in

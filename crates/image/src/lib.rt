@@ -53,7 +53,7 @@ pub fn base_fits(base: u32, n: usize) -> bool
 }
 
 // One of two numbers. Both are at hand, so that no branch is needed.
-fn choose(test: bool, yes: u8, no: u8) -> u8
+pub fn choose(test: bool, yes: u8, no: u8) -> u8
     ensures { λ r. ⌜ r ≡ pick test yes no ⌝ }
 {
     if test { yes } else { no }

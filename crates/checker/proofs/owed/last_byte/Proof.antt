@@ -1,27 +1,37 @@
--- Each length has its own power of 256; a length below three leaves the whole operand.
--- Assumes nothing.
-use Rattle.model.proofs.Widths.{whole-operand}
+use Rattle.decoder.proofs.Words.{eight-bits}
+use native.Mathlib.Omega.{arith}
+use native.Mathlib.Nat.{div-one}
+use Prim.Native.Nat.{_-_}
+use mathlib.Core.Path.{_≡_, refl, sym}
+use borrow.Author.Needs.{needs}
 use Rattle.checker.proofs.owed.last_byte.Statement.{statement}
 use Rattle.checker.proofs.owed.last_byte.Tie as tie
+use Rattle.checker.proofs.owed.last_byte.Reads as reads
+use Rattle.checker.proofs.owed.last_byte.Lts as lts
 
+-- src/owed.rt:56:9
 returns : tie.Need-returns
-returns c = rw (c .match .keys1)
+returns c = let none : c .before .args .n - 2 ≡ 0 = omega arith in rw none (sym (div-one (c .before .args .operand)))
 
+-- src/owed.rt:58:20
+cast-bits : tie.Need-cast-bits
+cast-bits c = search needs
+
+-- src/owed.rt:58:16
+mul-bits : tie.Need-mul-bits
+mul-bits c = search needs
+
+-- src/owed.rt:59:16
+cast-result : tie.Need-cast-result
+cast-result c = search needs
+
+-- src/owed.rt:59:5
+shr-result : tie.Need-shr-result
+shr-result c = search needs
+
+-- src/owed.rt:51:1
 returns-2 : tie.Need-returns-2
-returns-2 c = rw (c .match .keys2)
-
-returns-3 : tie.Need-returns-3
-returns-3 c = rw (c .match .keys3)
-
-returns-4 : tie.Need-returns-4
-returns-4 c = rw (c .match .keys4)
-
-returns-5 : tie.Need-returns-5
-returns-5 c =
-    let rest = c .match .rest in whole-operand _ _ (c .before .pre) (rest .0 .0 .0 .1) (rest .0 .0 .1) (rest .0 .1)
-    (rest .1)
+returns-2 c = rw (eight-bits (c .before .args .n - 2)) refl
 
 pub last-byte-spec : {M : Type 1} → statement M
-last-byte-spec = tie.close
-    (tie.spec
-    returns returns-2 returns-3 returns-4 returns-5)
+last-byte-spec = tie.close (tie.spec returns cast-bits mul-bits cast-result shr-result returns-2)
