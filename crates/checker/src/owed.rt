@@ -146,7 +146,7 @@ fn mark_after_frame(image: &[u8], at: usize, frame: Frame, mark: u8) -> u8
     ensures { λ r. ⌜
         r ≡ rules.markAfter (unpacked (frame .number) .effect)
         (operandOf (drop at (now (image .entry))) (frame .prefix) (frame .length)) mark
-    ⌝ }
+        ⌝ }
 {
     let effect = effect_of(frame.number);
     if let WidthEffect::KeepWidths = effect {
@@ -214,18 +214,11 @@ fn owed_by_call(marks: &[u8], base: u32, kind: Kind, mark: u8, next: u64, to: u6
 }
 
 // What the instruction of a frame at a place of the image, with a mark there, owes. Each flow reads what it needs.
-pub fn owed_at(
-    image: &[u8],
-    marks: &[u8],
-    base: u32,
-    at: usize,
-    frame: Frame,
-    mark: u8,
-) -> Owed
+pub fn owed_at(image: &[u8], marks: &[u8], base: u32, at: usize, frame: Frame, mark: u8) -> Owed
     requires { ⌜ Fitting (length (now image) - at) frame × (base < addressLimit) × (at < bankSize) ⌝ }
     ensures { λ r. ⌜
         r ≡ rules.owedAt (now (marks .entry)) base (instructionOf (drop at (now (image .entry))) frame) (base + at) mark
-    ⌝ }
+        ⌝ }
 {
     let address = base as u64 + at as u64;
     let next = next_address(address, frame.length);

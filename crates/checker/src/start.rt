@@ -139,7 +139,7 @@ fn zeros_behind(marks: &[u8], at: usize, n: u8) -> bool
     requires { ⌜ (at < bankSize) × (n ≤ 6) ⌝ }
     ensures { λ r. ⌜
         r ≡ (leb (at + 6) (length (now (marks .entry))) && ltb (decode.number (take n (drop at (now (marks .entry))))) 256)
-    ⌝ }
+        ⌝ }
 {
     if marks.len() < at + 6 {
         return false;
@@ -164,7 +164,7 @@ fn whole_number(image: &[u8], marks: &[u8], base: u32, at: usize, frame: Frame) 
     requires { ⌜ Fitting (length (now image) - at) frame × (base < addressLimit) × (at < bankSize) ⌝ }
     ensures { λ r. ⌜
         r ≡ verdict.wholeNumber (now (marks .entry)) base at (instructionOf (drop at (now (image .entry))) frame)
-    ⌝ }
+        ⌝ }
 {
     let mark = byte_at(marks, at);
     if !is_clear(marks, at, frame.length) {
@@ -173,11 +173,7 @@ fn whole_number(image: &[u8], marks: &[u8], base: u32, at: usize, frame: Frame) 
     if !return_fits(flow_of(frame.number), mark) {
         return 10;
     }
-    owed_number(
-        marks,
-        base,
-        owed_at(image, marks, base, at, frame, mark),
-    )
+    owed_number(marks, base, owed_at(image, marks, base, at, frame, mark))
 }
 
 // A place of the image: the number of the first rule that is broken there, 0 where none is or no instruction starts; and how many

@@ -183,7 +183,7 @@ pub fn operand_at(image: &[u8], at: usize, frame: Frame) -> u64
     requires { ⌜ Fitting (length (now image) - at) frame ⌝ }
     ensures { λ r. ⌜
         (r ≡ spec.operandOf (drop at (now (image .entry))) (frame .prefix) (frame .length)) × (r < 1_099_511_627_776)
-    ⌝ }
+        ⌝ }
 {
     let prefix = frame.prefix;
     let length = frame.length;

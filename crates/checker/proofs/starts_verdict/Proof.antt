@@ -1,3 +1,5 @@
+-- The invariant: every place passed breaks no rule. A step may end past the last mark.
+-- Assumes nothing.
 use borrow.Author.Needs.{needs}
 use Prim.Native.Nat.{_+_, _-_, _≤_}
 use native.Mathlib.Omega.{arith}
@@ -9,9 +11,6 @@ use Rattle.model.proofs.First.{Passed, none-passed, passed-to}
 use Rattle.model.proofs.Verdict.{stopped-at, passed-over}
 use Rattle.checker.proofs.starts_verdict.Statement.{statement}
 use Rattle.checker.proofs.starts_verdict.Tie as tie
-use Rattle.checker.proofs.starts_verdict.Reads as reads
-use Rattle.checker.proofs.starts_verdict.Lts as lts
-use Rattle.checker.proofs.start.step_at.Reads as step-at-reads
 
 abbrev Inv-loop : tie.InvT-loop
 Inv-loop codes image marks base i₀ i = Passed (spec.brokenAt image marks base) 0 i × (i ≤ length marks + 6)
@@ -19,40 +18,28 @@ Inv-loop codes image marks base i₀ i = Passed (spec.brokenAt image marks base)
 abbrev μ-loop : tie.MeasureT-loop
 μ-loop codes image marks base i₀ i = length marks - i
 
--- src/lib.rt:43:5
 loop-holds : tie.Need-loop-holds Inv-loop μ-loop
 loop-holds c = (none-passed (spec.brokenAt (c .before .before .args .image .now) (c .before .before .args .marks .now) (c .before .before .args .base)) 0, omega arith)
 
--- src/lib.rt:44:13
 step-at-requires : tie.Need-step-at-requires Inv-loop μ-loop
 step-at-requires c κs = (c .before .before .before .before .pre .0, c .before .before .before .before .pre .1, omega arith)
 
--- src/lib.rt:47:26
 cast-offset : tie.Need-cast-offset Inv-loop μ-loop
 cast-offset c = omega (arith, c .before .before .before .before .before .before .pre .2, c .before .before .loop-test .taken)
 
--- src/lib.rt:48:13
 returns : tie.Need-returns Inv-loop μ-loop
 unfolding badStart
 returns c = let broken = spec.brokenAt (c .before .before .before .before .before .before .args .image .now) (c .before .before .before .before .before .before .args .marks .now) (c .before .before .before .before .before .before .args .base) in let here = passed-to broken 0 (c .before .before .before .loop .i) (length (c .before .before .before .before .before .before .args .marks .now)) (c .before .before .before .loop .inv .0) (omega (arith, c .before .before .loop-test .taken)) (ends-at (c .before .before .before .before .before .before .args .image .now) (c .before .before .before .before .before .before .args .marks .now) (c .before .before .before .before .before .before .args .base) (c .before .before .before .loop .i) (c .before .step-at .result) (c .before .step-at .ensures) (c .if1 .taken)) in stopped-at (c .before .before .before .before .before .before .args .image .now) (c .before .before .before .before .before .before .args .marks .now) (c .before .before .before .before .before .before .args .base) (c .before .before .before .loop .i) (c .before .step-at .result .number) here (c .before .before .loop-test .taken) (step-number (c .before .before .before .before .before .before .args .image .now) (c .before .before .before .before .before .before .args .marks .now) (c .before .before .before .before .before .before .args .base) (c .before .before .before .loop .i) (c .before .step-at .result) (c .before .step-at .ensures))
 
--- src/lib.rt:50:14
-cast-i : tie.Need-cast-i Inv-loop μ-loop
-cast-i c = search needs
-
--- src/lib.rt:50:9
 add-i : tie.Need-add-i Inv-loop μ-loop
 add-i c = omega (arith, few-bytes (c .before .before .before .before .before .before .before .args .image .now) (c .before .before .before .before .before .before .before .args .marks .now) (c .before .before .before .before .before .before .before .args .base) (c .before .before .before .before .loop .i) (c .before .before .step-at .result) (c .before .before .step-at .ensures) .1, c .before .before .before .before .loop .inv .1, c .before .before .before .before .before .before .before .pre .2)
 
--- src/lib.rt:43:5
 loop-less : tie.Need-loop-less Inv-loop μ-loop
 loop-less c = omega (arith, few-bytes (c .before .before .before .before .before .before .before .args .image .now) (c .before .before .before .before .before .before .before .args .marks .now) (c .before .before .before .before .before .before .before .args .base) (c .before .before .before .before .loop .i) (c .before .before .step-at .result) (c .before .before .step-at .ensures) .0, c .before .before .before .loop-test .taken)
 
--- src/lib.rt:43:5
 loop-again : tie.Need-loop-again Inv-loop μ-loop
 loop-again c = (goes-on (c .before .before .before .before .before .before .before .args .image .now) (c .before .before .before .before .before .before .before .args .marks .now) (c .before .before .before .before .before .before .before .args .base) (c .before .before .before .before .loop .i) (c .before .before .step-at .result) (c .before .before .step-at .ensures) (c .before .if1 .left) (c .before .before .before .before .loop .inv .0), omega (arith, few-bytes (c .before .before .before .before .before .before .before .args .image .now) (c .before .before .before .before .before .before .before .args .marks .now) (c .before .before .before .before .before .before .before .args .base) (c .before .before .before .before .loop .i) (c .before .before .step-at .result) (c .before .before .step-at .ensures) .1, c .before .before .before .loop-test .taken))
 
--- src/lib.rt:38:1
 returns-2 : tie.Need-returns-2 Inv-loop μ-loop
 unfolding badStart
 returns-2 c = let here = passed-past (spec.brokenAt (c .before .before .before .before .args .image .now) (c .before .before .before .before .args .marks .now) (c .before .before .before .before .args .base)) (c .before .loop .i) (length (c .before .before .before .before .args .marks .now)) (c .before .loop .inv .0) (c .loop-test .left) in passed-over (c .before .before .before .before .args .image .now) (c .before .before .before .before .args .marks .now) (c .before .before .before .before .args .base) (length (c .before .before .before .before .args .marks .now)) here (omega arith) (omega arith)
@@ -67,7 +54,7 @@ starts-verdict-spec =
     step-at-requires
     cast-offset
     returns
-    cast-i
+    (λ c. search needs)
     add-i
     loop-less
     loop-again
