@@ -30,14 +30,17 @@ later-zeros (b ∷ bs) (suc n) j e h =
     zeros bs n j (omega arith) (omega arith)
 
 module _ (marks : List ℕ) (at n : ℕ) where
-  no-start : number (take n (drop at marks)) < 256 → (k : ℕ) → at + 1 ≤ k → k < at + 1 + (n - 1) → startAt marks k ≡ false
+  no-start : number (take n (drop at marks)) < 256 → (k : ℕ) → at + 1 ≤ k → k < at + 1 + (n - 1) → startAt marks k ≡
+      false
   no-start e k low high =
       let place : at + suc (k - at - 1) ≡ k = omega arith in
-      let here : getD (drop at marks) (suc (k - at - 1)) 0 ≡ 0 = later-zeros (drop at marks) n (k - at - 1) e (omega arith) in
+      let here : getD (drop at marks) (suc (k - at - 1)) 0 ≡ 0 = later-zeros (drop at marks) n (k - at - 1) e (omega
+      arith) in
       let same : getD marks k 0 ≡ 0 = rw (getD-drop, place) at here in
       rw same refl
 
-  pub clear-by-zeros : (leb (at + 6) (length marks) && ltb (number (take n (drop at marks))) 256) ≡ true → true ≡ isClear marks at n
+  pub clear-by-zeros : (leb (at + 6) (length marks) && ltb (number (take n (drop at marks))) 256) ≡ true → true ≡
+      isClear marks at n
   unfolding isClear
   clear-by-zeros h =
       let few = ltb-true (number (take n (drop at marks))) 256 (both-true (leb (at + 6) (length marks)) (ltb (number

@@ -53,10 +53,13 @@ share-small SetBits operand = omega arith
 share-small ClearBits operand = omega arith
 
 -- the same of numbers that are known to be these
-module _ (effect : WidthEffect) (operand own share new : ℕ) (is-own : own ≡ ownBits effect) (is-share : share ≡ operandShare effect)
+module _ (effect : WidthEffect) (operand own share new : ℕ) (is-own : own ≡ ownBits effect) (is-share : share ≡
+    operandShare effect)
     (is-new : new ≡ newWidth effect) where
-  pub m-chosen : (m after : ℕ) → after ≡ pick (eqb ((own + operand * share) / 32 % 2) 1) new m → after ≡ mAfter effect m operand
+  pub m-chosen : (m after : ℕ) → after ≡ pick (eqb ((own + operand * share) / 32 % 2) 1) new m → after ≡ mAfter
+      effect m operand
   m-chosen m after e = rw e (rw (is-own, is-share, is-new) (m-named effect m operand))
 
-  pub x-chosen : (x after : ℕ) → after ≡ pick (eqb ((own + operand * share) / 16 % 2) 1) new x → after ≡ xAfter effect x operand
+  pub x-chosen : (x after : ℕ) → after ≡ pick (eqb ((own + operand * share) / 16 % 2) 1) new x → after ≡ xAfter
+      effect x operand
   x-chosen x after e = rw e (rw (is-own, is-share, is-new) (x-named effect x operand))

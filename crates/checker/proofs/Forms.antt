@@ -1,4 +1,5 @@
--- A loop over all marks that only remembers whether a test held somewhere: it held nowhere, or there is a place where it did.
+-- A loop over all marks that only remembers whether a test held somewhere: it held nowhere, or there is a place where
+-- it did.
 -- Assumes nothing.
 use mathlib.Core.Path.{_≡_, refl, sym}
 use mathlib.Core.Logic.{_⊎_, inl, inr}

@@ -1,5 +1,5 @@
--- A place that breaks no rule lets the search go on behind its instruction: no start stands on the later bytes, and a place without
--- a start breaks no rule. A step has 1 to 6 bytes.
+-- A place that breaks no rule lets the search go on behind its instruction: no start stands on the later bytes, and a
+-- place without a start breaks no rule. A step has 1 to 6 bytes.
 -- Assumes nothing.
 use mathlib.Core.Path.{_≡_, refl}
 use mathlib.Core.Logic.{_⊎_, inl, inr}
@@ -33,7 +33,11 @@ module _ (image marks : List ℕ) (at : ℕ) where
     where
       by : (d : Decoded) → decoded-here ≡ d → (1 ≤ bytesOf d) × (bytesOf d ≤ 6)
       by (Whole i) e =
-          let d = decodes (drop at image) (markM (getD marks at 0)) (markX (getD marks at 0)) i e in (d .at-least, d .at-most)
+          let d = decodes (drop at image) (markM (getD marks at 0)) (markX (getD marks at 0)) i e in (
+            d .at-least,
+            d
+                .at-most,
+          )
       by NotCarried e = (omega arith, omega arith)
       by CutOff e = (omega arith, omega arith)
 
@@ -89,7 +93,8 @@ module _ (image marks : List ℕ) (base at : ℕ) (s : Step) (e : s ≡ stepAt i
   few-bytes = rw e (step-bytes image marks at)
 
   -- the search goes on behind a step without a number
-  pub goes-on : s .number ≡ 0 → Passed (brokenAt image marks base) 0 at → Passed (brokenAt image marks base) 0 (at + s .bytes)
+  pub goes-on : s .number ≡ 0 → Passed (brokenAt image marks base) 0 at → Passed (brokenAt image marks base) 0 (at +
+      s .bytes)
   goes-on zero-number p = rw e (stepped image marks base at (rw e at zero-number) p)
 
   -- and ends at one with a number

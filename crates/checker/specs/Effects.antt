@@ -1,5 +1,5 @@
--- What an instruction does to the widths, as numbers that the check works with instead of a branch: the bits of the status register
--- that it names, and what the widths among them become.
+-- What an instruction does to the widths, as numbers that the check works with instead of a branch: the bits of the
+-- status register that it names, and what the widths among them become.
 -- Assumes nothing.
 use Prim.Native.Nat.{ℕ, _+_, _*_}
 use Rattle.model.specs.declared.code.WidthEffect.{WidthEffect}

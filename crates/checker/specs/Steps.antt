@@ -1,5 +1,5 @@
--- The check's way over the places of an image: from a place that breaks no rule it goes on behind the instruction that is read
--- there, since no start stands on its later bytes.
+-- The check's way over the places of an image: from a place that breaks no rule it goes on behind the instruction that
+-- is read there, since no start stands on its later bytes.
 -- Assumes nothing.
 use Prim.Native.Nat.{ℕ}
 use mathlib.Core.List.{List}

@@ -48,8 +48,8 @@ fn bad_mark(marks: &[u8]) -> usize
     i
 }
 
-// The starts in turn, from the lowest: the first that breaks a rule refuses. Where an instruction breaks none, no start stands on
-// its later bytes, and they are stepped over.
+// The starts in turn, from the lowest: the first that breaks a rule refuses. Where an instruction breaks none, no
+// start stands on its later bytes, and they are stepped over.
 fn starts_verdict(codes: &[[[u32; 16]; 16]; 3], image: &[u8], marks: &[u8], base: u32) -> Verdict
     requires { ⌜ (now codes ≡ numbers) × (base < addressLimit) × (length (now marks) ≤ imageLimit) ⌝ }
     ensures { λ r. ⌜ r ≡ spec.startsVerdict (now (image .entry)) (now (marks .entry)) base ⌝ }

@@ -138,7 +138,8 @@ fn less_one(n: u8) -> usize
 fn zeros_behind(marks: &[u8], at: usize, n: u8) -> bool
     requires { ⌜ (at < bankSize) × (n ≤ 6) ⌝ }
     ensures { λ r. ⌜
-        r ≡ (leb (at + 6) (length (now (marks .entry))) && ltb (decode.number (take n (drop at (now (marks .entry))))) 256)
+        r ≡ (leb (at + 6) (length (now (marks .entry)))
+        && ltb (decode.number (take n (drop at (now (marks .entry))))) 256)
         ⌝ }
 {
     if marks.len() < at + 6 {
@@ -176,8 +177,8 @@ fn whole_number(image: &[u8], marks: &[u8], base: u32, at: usize, frame: Frame) 
     owed_number(marks, base, owed_at(image, marks, base, at, frame, mark))
 }
 
-// A place of the image: the number of the first rule that is broken there, 0 where none is or no instruction starts; and how many
-// bytes stand there, one where no instruction is read.
+// A place of the image: the number of the first rule that is broken there, 0 where none is or no instruction starts;
+// and how many bytes stand there, one where no instruction is read.
 pub struct Step {
     pub number: u8,
     pub bytes: u8,

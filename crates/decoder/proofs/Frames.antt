@@ -1,5 +1,5 @@
--- A frame decides what is decoded, and keeps the bounds of the code map's rule. Both go by the tests of the definition, which are
--- the tests of the decoder; the number of a page keeps the entry of the definition.
+-- A frame decides what is decoded, and keeps the bounds of the code map's rule. Both go by the tests of the
+-- definition, which are the tests of the decoder; the number of a page keeps the entry of the definition.
 -- Assumes nothing.
 use mathlib.Core.Path.{_≡_, refl}
 use mathlib.Core.Bool.{Bool, true, false}
@@ -83,22 +83,23 @@ framed-nothing [] m x h = refl
 framed-nothing (b ∷ bs) m x h = absurd (omega arith)
 
 -- what a frame at a place of an image says of it
-module _ (image : List ℕ) (at m x : ℕ) (framed-here : Framed) (is-framed : framed-here ≡ framed (drop at image) m x) where
-  pub fits-in : FittingIn (length image - at) framed-here
-  fits-in = rw (is-framed, ← length-drop at image) (fitting (drop at image) m x)
+module _ (image : List ℕ) (at m x : ℕ) (framed-here : Framed) (is-framed : framed-here ≡ framed (drop at image) m x)
+  where
+    pub fits-in : FittingIn (length image - at) framed-here
+    fits-in = rw (is-framed, ← length-drop at image) (fitting (drop at image) m x)
 
-  pub fits-at : (f : Frame) → framed-here ≡ Fits f → Fitting (length image - at) f
-  fits-at f e = rw e at fits-in
+    pub fits-at : (f : Frame) → framed-here ≡ Fits f → Fitting (length image - at) f
+    fits-at f e = rw e at fits-in
 
-  pub decoded-fits : (f : Frame) (i : Instruction) → framed-here ≡ Fits f → i ≡ instructionOf (drop at image) f
-      → Whole i ≡ decode (drop at image) m x
-  decoded-fits f i e same = rw (decoded-framed (drop at image) m x, ← is-framed, e, same)
+    pub decoded-fits : (f : Frame) (i : Instruction) → framed-here ≡ Fits f → i ≡ instructionOf (drop at image) f
+        → Whole i ≡ decode (drop at image) m x
+    decoded-fits f i e same = rw (decoded-framed (drop at image) m x, ← is-framed, e, same)
 
-  pub decoded-uncarried : framed-here ≡ Uncarried → NotCarried ≡ decode (drop at image) m x
-  decoded-uncarried e = rw (decoded-framed (drop at image) m x, ← is-framed, e)
+    pub decoded-uncarried : framed-here ≡ Uncarried → NotCarried ≡ decode (drop at image) m x
+    decoded-uncarried e = rw (decoded-framed (drop at image) m x, ← is-framed, e)
 
-  pub decoded-short : framed-here ≡ Short → CutOff ≡ decode (drop at image) m x
-  decoded-short e = rw (decoded-framed (drop at image) m x, ← is-framed, e)
+    pub decoded-short : framed-here ≡ Short → CutOff ≡ decode (drop at image) m x
+    decoded-short e = rw (decoded-framed (drop at image) m x, ← is-framed, e)
 
 -- The definition's cases, a law each, for the code that walks them.
 module _ (image : List ℕ) (at m x : ℕ) where

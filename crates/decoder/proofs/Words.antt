@@ -1,11 +1,13 @@
--- Six bytes as one number: it is made of three pairs, and its low bytes are the number of the first bytes. So an operand needs no
--- loop where six bytes are there to be read.
+-- Six bytes as one number: it is made of three pairs, and its low bytes are the number of the first bytes. So an
+-- operand needs no loop where six bytes are there to be read.
 -- Assumes nothing.
 use mathlib.Core.Path.{_≡_, refl, sym, ap, _∙_}
 use mathlib.Core.List.{List, [], _∷_}
 use Prim.Native.Nat.{ℕ, zero, suc, _+_, _-_, _*_, _/_, _%_, _^_, _≤_, _<_}
-use native.Mathlib.Nat.{pow-suc, pow-le-pow-right, one-le-pow, mod-one, zero-mod, mod-lt, mod-eq-of-lt, mod-eq-sub-div-mul, div-mul-le-self}
-use native.Mathlib.Nat.{div-add-mod, add-mul-mod-self-left, mul-assoc, mul-left-comm, mul-comm, le-of-suc-le-suc, add-assoc}
+use native.Mathlib.Nat.{pow-suc, pow-le-pow-right, one-le-pow, mod-one}
+use native.Mathlib.Nat.{zero-mod, mod-lt, mod-eq-of-lt, mod-eq-sub-div-mul, div-mul-le-self}
+use native.Mathlib.Nat.{div-add-mod, add-mul-mod-self-left, mul-assoc}
+use native.Mathlib.Nat.{mul-left-comm, mul-comm, le-of-suc-le-suc, add-assoc}
 use native.Mathlib.Numerals.{add-one}
 use native.Mathlib.Omega.{arith}
 use lib.ListN.{length, getD, take, drop, length-drop}
@@ -21,7 +23,8 @@ eight-bits zero = refl
 eight-bits (suc n) =
     let more : 8 * suc n ≡ suc (suc (suc (suc (suc (suc (suc (suc (8 * n)))))))) = omega arith in
     let last : 256 ^ suc n ≡ 256 ^ n * 256 = pow-suc 256 n in
-    rw (more, last) (twice _ _ (twice _ _ (twice _ _ (twice _ _ (twice _ _ (twice _ _ (twice _ _ (twice _ _ (eight-bits n))))))))
+    rw (more, last) (twice _ _ (twice _ _ (twice _ _ (twice _ _ (twice _ _ (twice _ _ (twice _ _ (twice _ _
+    (eight-bits n))))))))
     ∙ omega arith)
 
 -- the bits above a place, taken away
@@ -39,11 +42,13 @@ low-bits value n h =
     let inside : value / 256 ^ n * 256 ^ n < 18446744073709551616 = omega arith in
     rw (power, mod-eq-of-lt inside) (sym (mod-eq-sub-div-mul value (256 ^ n)))
 
-pub two-at : (l : List ℕ) (at : ℕ) → at + 2 ≤ length l → getD l at 0 + 256 * getD l (at + 1) 0 ≡ number (take 2 (drop at l))
+pub two-at : (l : List ℕ) (at : ℕ) → at + 2 ≤ length l → getD l at 0 + 256 * getD l (at + 1) 0 ≡ number (take 2
+    (drop at l))
 two-at l at h = rw (drop-cons l at 0 (omega arith), drop-cons l (suc at) 0 (omega arith), add-one) (omega arith)
 
 six : (l : List ℕ) → 6 ≤ length l
-    → number (take 2 l) + 65536 * number (take 2 (drop 2 l)) + 4294967296 * number (take 2 (drop 4 l)) ≡ number (take 6 l)
+    → number (take 2 l) + 65536 * number (take 2 (drop 2 l)) + 4294967296 * number (take 2 (drop 4 l)) ≡ number
+    (take 6 l)
 six (a ∷ b ∷ c ∷ d ∷ e ∷ f ∷ l) h = omega arith
 six (a ∷ b ∷ c ∷ d ∷ e ∷ []) h = absurd (omega arith)
 six (a ∷ b ∷ c ∷ d ∷ []) h = absurd (omega arith)
@@ -89,7 +94,8 @@ module _ (image : List ℕ) (at prefix n value : ℕ) where
 
   -- the operand as the low bytes of six
   pub operand-of-six : AllBytes image → prefix < n → n ≤ 6
-      → value ≡ number (take 6 (drop behind image)) % 256 ^ (n - prefix - 1) → value ≡ operandOf (drop at image) prefix n
+      → value ≡ number (take 6 (drop behind image)) % 256 ^ (n - prefix - 1) → value ≡ operandOf (drop at image)
+      prefix n
   operand-of-six small some few e =
       rw (same-part, same-count) (e ∙ low-number (drop behind image) 6 (n - prefix - 1) (bytes-drop behind image small)
       (omega arith))
@@ -99,8 +105,10 @@ module _ (image : List ℕ) (at prefix n value : ℕ) where
   operand-small small few =
       let k = n - (prefix + 1) in
       let rest = drop (prefix + 1) (drop at image) in
-      let same = low-number rest k k (bytes-drop (prefix + 1) (drop at image) (bytes-drop at image small)) (omega arith) in
-      let below : number (take k rest) < 256 ^ k = rw (← same) (mod-lt (number (take k rest)) (one-le-pow k 256 (omega arith))) in
+      let same = low-number rest k k (bytes-drop (prefix + 1) (drop at image) (bytes-drop at image small)) (omega
+      arith) in
+      let below : number (take k rest) < 256 ^ k = rw (← same) (mod-lt (number (take k rest)) (one-le-pow k 256
+      (omega arith))) in
       let short : k ≤ 5 = omega arith in
       let top : 256 ^ k ≤ 256 ^ 5 = pow-le-pow-right (omega arith) short in
       omega arith

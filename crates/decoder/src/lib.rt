@@ -18,8 +18,8 @@ ghost use Rattle.model.specs.Decode as spec;
 ghost use Rattle.codepages.specs.Packing.{numbers, unpacked};
 ghost use Rattle.decoder.specs.Frame.{fitted, framed, instructionOf, Fitting};
 
-// What a code and the widths decide of an instruction, before its operand is read: the number of its entry, how many prefix bytes
-// it has, its length.
+// What a code and the widths decide of an instruction, before its operand is read: the number of its entry, how many
+// prefix bytes it has, its length.
 pub struct Frame {
     pub number: u32,
     pub prefix: u8,

@@ -1,4 +1,5 @@
--- The form of a mark, worked out without a branch, is the definition's: one test over the 256 marks, which antt computes.
+-- The form of a mark, worked out without a branch, is the definition's: one test over the 256 marks, which antt
+-- computes.
 -- Assumes nothing.
 use mathlib.Core.Path.{_≡_, refl}
 use mathlib.Core.Bool.{Bool, true, false}
@@ -22,7 +23,8 @@ all-same = tt
 
 pub chosen-formed : (mark : ℕ) → mark < 256 → chosen mark ≡ pick (isFormed mark) 0 1
 chosen-formed mark h =
-    eqb→eq (chosen mark) (pick (isFormed mark) 0 1) (below-all (λ k. eqb (chosen k) (pick (isFormed k) 0 1)) 256 all-same mark h)
+    eqb→eq (chosen mark) (pick (isFormed mark) 0 1) (below-all (λ k. eqb (chosen k) (pick (isFormed k) 0 1)) 256
+    all-same mark h)
 
 pub no-misfit : (b : Bool) → eqb (pick b 0 1) 0 ≡ b
 no-misfit true = refl

@@ -59,8 +59,8 @@ pub fn choose(test: bool, yes: u8, no: u8) -> u8
     if test { yes } else { no }
 }
 
-// 1 for a mark that is not of the form, else 0: a byte without a start is 00, bit 7 is 0, kind 3 is unused, kind 0 has no return
-// widths.
+// 1 for a mark that is not of the form, else 0: a byte without a start is 00, bit 7 is 0, kind 3 is unused, kind 0 has
+// no return widths.
 pub fn misfit(mark: u8) -> u8
     ensures { λ r. ⌜ r ≡ pick (isFormed mark) 0 1 ⌝ }
 {

@@ -22,11 +22,24 @@ loop-holds : tie.Need-loop-holds Inv-loop μ-loop
 loop-holds c = (nothing-told (spec.unformedAt (c .before .args .marks .now)), omega arith)
 
 loop-again : tie.Need-loop-again Inv-loop μ-loop
-loop-again c = (one-more-told (spec.unformedAt (c .before .before .before .before .before .args .marks .now)) (c .before .before .before .loop .bad) (c .before .before .before .loop .i) (c .misfit .result) (c .misfit .ensures ∙ misfit-unformed (isFormed (getD (c .before .before .before .before .before .args .marks .now) (c .before .before .before .loop .i) 0))) (c .before .before .before .loop .inv .0), omega (arith, c .before .before .loop-test .taken))
+loop-again c = (
+  one-more-told (spec.unformedAt (c .before .before .before .before .before .args .marks .now)) (c .before
+      .before .before .loop .bad) (c .before .before .before .loop .i) (c .misfit .result) (c .misfit .ensures ∙
+      misfit-unformed (isFormed (getD (c .before .before .before .before .before .args .marks .now) (c .before .before
+      .before .loop .i) 0))) (c .before .before .before .loop .inv .0),
+  omega (
+    arith,
+    c .before .before .loop-test
+        .taken,
+  ),
+)
 
 returns : tie.Need-returns Inv-loop μ-loop
 unfolding badMark
-returns c = all-told-at (spec.unformedAt (c .before .before .before .args .marks .now)) (c .before .loop .bad) (c .before .loop .i) (length (c .before .before .before .args .marks .now)) (c .before .loop .inv .0) (c .before .loop .inv .1) (c .loop-test .left)
+returns c =
+    all-told-at (spec.unformedAt (c .before .before .before .args .marks .now)) (c .before .loop .bad) (c .before
+    .loop .i) (length (c .before .before .before .args .marks .now)) (c .before .loop .inv .0) (c .before .loop .inv
+    .1) (c .loop-test .left)
 
 pub all-formed-spec : {M : Type 1} → statement M
 all-formed-spec =

@@ -16,25 +16,107 @@ returns c = rw (← c .before .length-fits .ensures, not-true (c .before .length
 
 returns-2 : tie.Need-returns-2
 unfolding verdict
-returns-2 c = rw (← c .before .before .before .length-fits .ensures, not-false (c .before .before .before .length-fits .result) (c .before .before .if1 .left), ← c .before .base-fits .ensures, not-true (c .before .base-fits .result) (c .if2 .taken))
+returns-2 c =
+    rw (
+      ← c .before .before .before .length-fits .ensures,
+      not-false (c .before .before .before .length-fits
+          .result) (c .before .before .if1 .left),
+      ← c .before .base-fits .ensures,
+      not-true (c .before .base-fits
+          .result) (c .if2 .taken),
+    )
 
 cast-offset : tie.Need-cast-offset
-cast-offset c = let r = right-length (length (c .before .before .before .before .before .before .before .before .before .args .image .now)) (length (c .before .before .before .before .before .before .before .before .before .args .marks .now)) (rw (← c .before .before .before .before .before .before .length-fits .ensures) (not-false (c .before .before .before .before .before .before .length-fits .result) (c .before .before .before .before .before .if1 .left))) in omega (arith, r .few, r .same, c .bad-mark .ensures, bad-mark-most (c .before .before .before .before .before .before .before .before .before .args .marks .now))
+cast-offset c =
+    let r = right-length (length (c .before .before .before .before .before .before .before .before .before .args
+    .image .now)) (length (c .before .before .before .before .before .before .before .before .before .args .marks
+    .now)) (rw (← c .before .before .before .before .before .before .length-fits .ensures) (not-false (c .before
+    .before .before .before .before .before .length-fits .result) (c .before .before .before .before .before .if1
+    .left))) in omega (
+      arith,
+      r .few,
+      r .same,
+      c .bad-mark .ensures,
+      bad-mark-most (c .before .before .before
+          .before .before .before .before .before .before .args .marks .now),
+    )
 
 returns-3 : tie.Need-returns-3
 unfolding verdict
-returns-3 c = rw (← c .before .before .before .before .before .before .length-fits .ensures, not-false (c .before .before .before .before .before .before .length-fits .result) (c .before .before .before .before .before .if1 .left), ← c .before .before .before .before .base-fits .ensures, not-false (c .before .before .before .before .base-fits .result) (c .before .before .before .if2 .left), ← c .before .before .all-formed .ensures, not-true (c .before .before .all-formed .result) (c .before .if3 .taken), c .bad-mark .ensures)
+returns-3 c =
+    rw (
+      ← c .before .before .before .before .before .before .length-fits .ensures,
+      not-false (c .before .before
+          .before .before .before .before .length-fits .result) (c .before .before .before .before .before .if1 .left),
+      ←
+          c .before .before .before .before .base-fits .ensures,
+      not-false (c .before .before .before .before .base-fits
+          .result) (c .before .before .before .if2 .left),
+      ← c .before .before .all-formed .ensures,
+      not-true (c .before
+          .before .all-formed .result) (c .before .if3 .taken),
+      c .bad-mark .ensures,
+    )
 
 returns-4 : tie.Need-returns-4
 unfolding verdict
-returns-4 c = rw (← c .before .before .before .before .before .before .before .length-fits .ensures, not-false (c .before .before .before .before .before .before .before .length-fits .result) (c .before .before .before .before .before .before .if1 .left), ← c .before .before .before .before .before .base-fits .ensures, not-false (c .before .before .before .before .before .base-fits .result) (c .before .before .before .before .if2 .left), ← c .before .before .before .all-formed .ensures, not-false (c .before .before .before .all-formed .result) (c .before .before .if3 .left), ← c .before .reset-fits .ensures, not-true (c .before .reset-fits .result) (c .if4 .taken))
+returns-4 c =
+    rw (
+      ← c .before .before .before .before .before .before .before .length-fits .ensures,
+      not-false (c .before
+          .before .before .before .before .before .before .length-fits .result) (c .before .before .before
+          .before .before
+          .before .if1 .left),
+      ← c .before .before .before .before .before .base-fits .ensures,
+      not-false (c .before
+          .before .before .before .before .base-fits .result) (c .before .before .before .before .if2 .left),
+      ← c .before
+          .before .before .all-formed .ensures,
+      not-false (c .before .before .before .all-formed .result) (c .before
+          .before .if3 .left),
+      ← c .before .reset-fits .ensures,
+      not-true (c .before .reset-fits .result) (c .if4 .taken),
+    )
 
 starts-verdict-requires : tie.Need-starts-verdict-requires
-starts-verdict-requires c κs = let r = right-length (length (c .before .before .before .before .before .before .before .before .before .before .before .before .args .image .now)) (length (c .before .before .before .before .before .before .before .before .before .before .before .before .args .marks .now)) (rw (← c .before .before .before .before .before .before .before .before .before .length-fits .ensures) (not-false (c .before .before .before .before .before .before .before .before .before .length-fits .result) (c .before .before .before .before .before .before .before .before .if1 .left))) in (c .before .pages .ensures, base-below (c .before .before .before .before .before .before .before .before .before .before .before .before .args .base) (length (c .before .before .before .before .before .before .before .before .before .before .before .before .args .image .now)) (rw (← c .before .before .before .before .before .before .before .base-fits .ensures) (not-false (c .before .before .before .before .before .before .before .base-fits .result) (c .before .before .before .before .before .before .if2 .left))), omega (arith, r .few, r .same))
+starts-verdict-requires c κs =
+    let r = right-length (length (c .before .before .before .before .before .before .before .before .before .before
+    .before .before .args .image .now)) (length (c .before .before .before .before .before .before .before .before
+    .before .before .before .before .args .marks .now)) (rw (← c .before .before .before .before .before .before
+    .before .before .before .length-fits .ensures) (not-false (c .before .before .before .before .before .before
+    .before .before .before .length-fits .result) (c .before .before .before .before .before .before .before .before
+    .if1 .left))) in (
+      c .before .pages .ensures,
+      base-below (c .before .before .before .before .before .before
+          .before .before .before .before .before .before .args .base) (length (c .before .before .before
+          .before .before
+          .before .before .before .before .before .before .before .args .image .now)) (rw (← c .before .before .before
+          .before .before .before .before .base-fits .ensures) (not-false (c .before .before .before .before .before
+          .before .before .base-fits .result) (c .before .before .before .before .before .before .if2 .left))),
+      omega
+          (arith, r .few, r .same),
+    )
 
 returns-5 : tie.Need-returns-5
 unfolding verdict
-returns-5 c = rw (← c .before .before .before .before .before .before .before .before .before .before .length-fits .ensures, not-false (c .before .before .before .before .before .before .before .before .before .before .length-fits .result) (c .before .before .before .before .before .before .before .before .before .if1 .left), ← c .before .before .before .before .before .before .before .before .base-fits .ensures, not-false (c .before .before .before .before .before .before .before .before .base-fits .result) (c .before .before .before .before .before .before .before .if2 .left), ← c .before .before .before .before .before .before .all-formed .ensures, not-false (c .before .before .before .before .before .before .all-formed .result) (c .before .before .before .before .before .if3 .left), ← c .before .before .before .before .reset-fits .ensures, not-false (c .before .before .before .before .reset-fits .result) (c .before .before .before .if4 .left)) (c .starts-verdict .ensures)
+returns-5 c =
+    rw (
+      ← c .before .before .before .before .before .before .before .before .before .before .length-fits .ensures,
+      not-false (c .before .before .before .before .before .before .before .before .before .before .length-fits
+          .result) (c .before .before .before .before .before .before .before .before .before .if1 .left),
+      ← c .before
+          .before .before .before .before .before .before .before .base-fits .ensures,
+      not-false (c .before .before
+          .before .before .before .before .before .before .base-fits .result) (c .before .before .before .before .before
+          .before .before .if2 .left),
+      ← c .before .before .before .before .before .before .all-formed .ensures,
+      not-false
+          (c .before .before .before .before .before .before .all-formed .result) (c .before .before .before .before
+          .before .if3 .left),
+      ← c .before .before .before .before .reset-fits .ensures,
+      not-false (c .before .before
+          .before .before .reset-fits .result) (c .before .before .before .if4 .left),
+    ) (c .starts-verdict .ensures)
 
 pub check-spec : {M : Type 1} → statement M
 check-spec =

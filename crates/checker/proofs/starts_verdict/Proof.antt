@@ -19,30 +19,90 @@ abbrev μ-loop : tie.MeasureT-loop
 μ-loop codes image marks base i₀ i = length marks - i
 
 loop-holds : tie.Need-loop-holds Inv-loop μ-loop
-loop-holds c = (none-passed (spec.brokenAt (c .before .before .args .image .now) (c .before .before .args .marks .now) (c .before .before .args .base)) 0, omega arith)
+loop-holds c = (
+  none-passed (spec.brokenAt (c .before .before .args .image .now) (c .before .before .args .marks .now) (c
+      .before .before .args .base)) 0,
+  omega arith,
+)
 
 step-at-requires : tie.Need-step-at-requires Inv-loop μ-loop
-step-at-requires c κs = (c .before .before .before .before .pre .0, c .before .before .before .before .pre .1, omega arith)
+step-at-requires c κs =
+    (c .before .before .before .before .pre .0, c .before .before .before .before .pre .1, omega arith)
 
 cast-offset : tie.Need-cast-offset Inv-loop μ-loop
-cast-offset c = omega (arith, c .before .before .before .before .before .before .pre .2, c .before .before .loop-test .taken)
+cast-offset c =
+    omega (arith, c .before .before .before .before .before .before .pre .2, c .before .before .loop-test .taken)
 
 returns : tie.Need-returns Inv-loop μ-loop
 unfolding badStart
-returns c = let broken = spec.brokenAt (c .before .before .before .before .before .before .args .image .now) (c .before .before .before .before .before .before .args .marks .now) (c .before .before .before .before .before .before .args .base) in let here = passed-to broken 0 (c .before .before .before .loop .i) (length (c .before .before .before .before .before .before .args .marks .now)) (c .before .before .before .loop .inv .0) (omega (arith, c .before .before .loop-test .taken)) (ends-at (c .before .before .before .before .before .before .args .image .now) (c .before .before .before .before .before .before .args .marks .now) (c .before .before .before .before .before .before .args .base) (c .before .before .before .loop .i) (c .before .step-at .result) (c .before .step-at .ensures) (c .if1 .taken)) in stopped-at (c .before .before .before .before .before .before .args .image .now) (c .before .before .before .before .before .before .args .marks .now) (c .before .before .before .before .before .before .args .base) (c .before .before .before .loop .i) (c .before .step-at .result .number) here (c .before .before .loop-test .taken) (step-number (c .before .before .before .before .before .before .args .image .now) (c .before .before .before .before .before .before .args .marks .now) (c .before .before .before .before .before .before .args .base) (c .before .before .before .loop .i) (c .before .step-at .result) (c .before .step-at .ensures))
+returns c =
+    let broken = spec.brokenAt (c .before .before .before .before .before .before .args .image .now) (c .before
+    .before .before .before .before .before .args .marks .now) (c .before .before .before .before .before .before
+    .args .base) in let here = passed-to broken 0 (c .before .before .before .loop .i) (length (c .before .before
+    .before .before .before .before .args .marks .now)) (c .before .before .before .loop .inv .0) (omega (
+      arith,
+      c
+          .before .before .loop-test .taken,
+    )) (ends-at (c .before .before .before .before .before .before .args .image
+    .now) (c .before .before .before .before .before .before .args .marks .now) (c .before .before .before .before
+    .before .before .args .base) (c .before .before .before .loop .i) (c .before .step-at .result) (c .before
+    .step-at .ensures) (c .if1 .taken)) in stopped-at (c .before .before .before .before .before .before .args
+    .image .now) (c .before .before .before .before .before .before .args .marks .now) (c .before .before .before
+    .before .before .before .args .base) (c .before .before .before .loop .i) (c .before .step-at .result .number)
+    here (c .before .before .loop-test .taken) (step-number (c .before .before .before .before .before .before .args
+    .image .now) (c .before .before .before .before .before .before .args .marks .now) (c .before .before .before
+    .before .before .before .args .base) (c .before .before .before .loop .i) (c .before .step-at .result) (c
+    .before .step-at .ensures))
 
 add-i : tie.Need-add-i Inv-loop μ-loop
-add-i c = omega (arith, few-bytes (c .before .before .before .before .before .before .before .args .image .now) (c .before .before .before .before .before .before .before .args .marks .now) (c .before .before .before .before .before .before .before .args .base) (c .before .before .before .before .loop .i) (c .before .before .step-at .result) (c .before .before .step-at .ensures) .1, c .before .before .before .before .loop .inv .1, c .before .before .before .before .before .before .before .pre .2)
+add-i c =
+    omega (
+      arith,
+      few-bytes (c .before .before .before .before .before .before .before .args .image .now) (c .before
+          .before .before .before .before .before .before .args .marks .now) (c .before .before .before .before .before
+          .before .before .args .base) (c .before .before .before .before .loop .i) (c .before .before .step-at .result)
+          (c .before .before .step-at .ensures) .1,
+      c .before .before .before .before .loop .inv .1,
+      c .before .before
+          .before .before .before .before .before .pre .2,
+    )
 
 loop-less : tie.Need-loop-less Inv-loop μ-loop
-loop-less c = omega (arith, few-bytes (c .before .before .before .before .before .before .before .args .image .now) (c .before .before .before .before .before .before .before .args .marks .now) (c .before .before .before .before .before .before .before .args .base) (c .before .before .before .before .loop .i) (c .before .before .step-at .result) (c .before .before .step-at .ensures) .0, c .before .before .before .loop-test .taken)
+loop-less c =
+    omega (
+      arith,
+      few-bytes (c .before .before .before .before .before .before .before .args .image .now) (c .before
+          .before .before .before .before .before .before .args .marks .now) (c .before .before .before .before .before
+          .before .before .args .base) (c .before .before .before .before .loop .i) (c .before .before .step-at .result)
+          (c .before .before .step-at .ensures) .0,
+      c .before .before .before .loop-test .taken,
+    )
 
 loop-again : tie.Need-loop-again Inv-loop μ-loop
-loop-again c = (goes-on (c .before .before .before .before .before .before .before .args .image .now) (c .before .before .before .before .before .before .before .args .marks .now) (c .before .before .before .before .before .before .before .args .base) (c .before .before .before .before .loop .i) (c .before .before .step-at .result) (c .before .before .step-at .ensures) (c .before .if1 .left) (c .before .before .before .before .loop .inv .0), omega (arith, few-bytes (c .before .before .before .before .before .before .before .args .image .now) (c .before .before .before .before .before .before .before .args .marks .now) (c .before .before .before .before .before .before .before .args .base) (c .before .before .before .before .loop .i) (c .before .before .step-at .result) (c .before .before .step-at .ensures) .1, c .before .before .before .loop-test .taken))
+loop-again c = (
+  goes-on (c .before .before .before .before .before .before .before .args .image .now) (c .before .before
+      .before .before .before .before .before .args .marks .now) (c .before .before .before .before .before .before
+      .before .args .base) (c .before .before .before .before .loop .i) (c .before .before .step-at .result) (c
+      .before .before .step-at .ensures) (c .before .if1 .left) (c .before .before .before .before .loop .inv .0),
+  omega (
+    arith,
+    few-bytes (c .before .before .before .before .before .before .before .args .image .now) (c .before
+        .before .before .before .before .before .before .args .marks .now) (c .before .before .before .before .before
+        .before .before .args .base) (c .before .before .before .before .loop .i) (c .before .before .step-at .result)
+        (c .before .before .step-at .ensures) .1,
+    c .before .before .before .loop-test .taken,
+  ),
+)
 
 returns-2 : tie.Need-returns-2 Inv-loop μ-loop
 unfolding badStart
-returns-2 c = let here = passed-past (spec.brokenAt (c .before .before .before .before .args .image .now) (c .before .before .before .before .args .marks .now) (c .before .before .before .before .args .base)) (c .before .loop .i) (length (c .before .before .before .before .args .marks .now)) (c .before .loop .inv .0) (c .loop-test .left) in passed-over (c .before .before .before .before .args .image .now) (c .before .before .before .before .args .marks .now) (c .before .before .before .before .args .base) (length (c .before .before .before .before .args .marks .now)) here (omega arith) (omega arith)
+returns-2 c =
+    let here = passed-past (spec.brokenAt (c .before .before .before .before .args .image .now) (c .before .before
+    .before .before .args .marks .now) (c .before .before .before .before .args .base)) (c .before .loop .i) (length
+    (c .before .before .before .before .args .marks .now)) (c .before .loop .inv .0) (c .loop-test .left) in
+    passed-over (c .before .before .before .before .args .image .now) (c .before .before .before .before .args
+    .marks .now) (c .before .before .before .before .args .base) (length (c .before .before .before .before .args
+    .marks .now)) here (omega arith) (omega arith)
 
 pub starts-verdict-spec : {M : Type 1} → statement M
 starts-verdict-spec =

@@ -12,11 +12,27 @@ returns c = rw (← c .before .is-carried .ensures, not-true (c .before .is-carr
 
 returns-2 : tie.Need-returns-2
 unfolding fitted
-returns-2 c = rw (← c .before .before .before .is-carried .ensures, not-false (c .before .before .before .is-carried .result) (c .before .before .if1 .left), ← c .before .length-of .ensures, lt-leb (c .before .length-of .result) (c .before .before .before .before .args .left) (c .if2 .taken))
+returns-2 c =
+    rw (
+      ← c .before .before .before .is-carried .ensures,
+      not-false (c .before .before .before .is-carried .result)
+          (c .before .before .if1 .left),
+      ← c .before .length-of .ensures,
+      lt-leb (c .before .length-of .result) (c
+          .before .before .before .before .args .left) (c .if2 .taken),
+    )
 
 returns-3 : tie.Need-returns-3
 unfolding fitted
-returns-3 c = rw (← c .before .before .before .is-carried .ensures, not-false (c .before .before .before .is-carried .result) (c .before .before .if1 .left), ← c .before .length-of .ensures, le-leb (c .before .length-of .result) (c .before .before .before .before .args .left) (c .if2 .left))
+returns-3 c =
+    rw (
+      ← c .before .before .before .is-carried .ensures,
+      not-false (c .before .before .before .is-carried .result)
+          (c .before .before .if1 .left),
+      ← c .before .length-of .ensures,
+      le-leb (c .before .length-of .result) (c
+          .before .before .before .before .args .left) (c .if2 .left),
+    )
 
 pub fit-spec : {M : Type 1} → statement M
 fit-spec =

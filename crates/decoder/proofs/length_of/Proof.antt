@@ -7,7 +7,14 @@ use Rattle.decoder.proofs.length_of.Statement.{statement}
 use Rattle.decoder.proofs.length_of.Tie as tie
 
 add-result : tie.Need-add-result
-add-result c = omega (arith, c .before .before .bytes-of .ensures .1, c .more-bytes .ensures, more-at-most (c .before .rule-of .result) (c .before .before .before .args .m) (c .before .before .before .args .x))
+add-result c =
+    omega (
+      arith,
+      c .before .before .bytes-of .ensures .1,
+      c .more-bytes .ensures,
+      more-at-most (c .before .rule-of
+          .result) (c .before .before .before .args .m) (c .before .before .before .args .x),
+    )
 
 returns : tie.Need-returns
 returns c = rw (c .before .before .bytes-of .ensures .0, c .more-bytes .ensures, c .before .rule-of .ensures)

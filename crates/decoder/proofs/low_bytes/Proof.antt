@@ -16,4 +16,5 @@ returns c = low-bits (c .args .value) (c .args .n) (omega arith)
 pub low-bytes-spec : {M : Type 1} → statement M
 low-bytes-spec =
     tie.close
-    (tie.spec (λ c. search needs) (λ c. search needs) (λ c. search needs) (λ c. search needs) (λ c. search needs) sub-result returns)
+    (tie.spec (λ c. search needs) (λ c. search needs) (λ c. search needs) (λ c. search needs) (λ c. search needs)
+    sub-result returns)

@@ -8,13 +8,41 @@ use Rattle.decoder.proofs.pair.Statement.{statement}
 use Rattle.decoder.proofs.pair.Tie as tie
 
 mul-result : tie.Need-mul-result
-mul-result c = omega (arith, c .wide2 .ensures, c .before .shared-slice-known3 .given (c .before .before .before .before .before .args .at + 1))
+mul-result c =
+    omega (
+      arith,
+      c .wide2 .ensures,
+      c .before .shared-slice-known3 .given (c .before .before .before .before
+          .before .args .at + 1),
+    )
 
 add-result : tie.Need-add-result
-add-result c = omega (arith, c .wide2 .ensures, c .before .before .wide .ensures, c .before .shared-slice-known3 .given (c .before .before .before .before .before .args .at + 1), c .before .shared-slice-known3 .given (c .before .before .before .before .before .args .at))
+add-result c =
+    omega (
+      arith,
+      c .wide2 .ensures,
+      c .before .before .wide .ensures,
+      c .before .shared-slice-known3 .given (c
+          .before .before .before .before .before .args .at + 1),
+      c .before .shared-slice-known3 .given (c .before .before
+          .before .before .before .args .at),
+    )
 
 returns : tie.Need-returns
-returns c = (rw (c .before .before .wide .ensures, c .wide2 .ensures) (two-at (c .before .before .before .before .before .args .bytes .now) (c .before .before .before .before .before .args .at) (c .before .before .before .before .before .pre)), omega (arith, c .wide2 .ensures, c .before .before .wide .ensures, c .before .shared-slice-known3 .given (c .before .before .before .before .before .args .at + 1), c .before .shared-slice-known3 .given (c .before .before .before .before .before .args .at)))
+returns c = (
+  rw (c .before .before .wide .ensures, c .wide2 .ensures) (two-at (c .before .before .before .before .before
+      .args .bytes .now) (c .before .before .before .before .before .args .at) (c .before .before .before .before
+      .before .pre)),
+  omega (
+    arith,
+    c .wide2 .ensures,
+    c .before .before .wide .ensures,
+    c .before
+        .shared-slice-known3 .given (c .before .before .before .before .before .args .at + 1),
+    c .before
+        .shared-slice-known3 .given (c .before .before .before .before .before .args .at),
+  ),
+)
 
 pub pair-spec : {M : Type 1} → statement M
 pair-spec =

@@ -19,7 +19,10 @@ add-result : tie.Need-add-result
 add-result c = omega (arith, c .before .pair2 .ensures .1, c .before .before .pair .ensures .1, c .pair3 .ensures .1)
 
 returns : tie.Need-returns
-returns c = six-at (c .before .before .before .before .args .bytes .now) (c .before .before .before .before .args .at) (c .before .before .pair .result) (c .before .pair2 .result) (c .pair3 .result) (c .before .before .before .before .pre) (c .before .before .pair .ensures .0) (c .before .pair2 .ensures .0) (c .pair3 .ensures .0)
+returns c =
+    six-at (c .before .before .before .before .args .bytes .now) (c .before .before .before .before .args .at) (c
+    .before .before .pair .result) (c .before .pair2 .result) (c .pair3 .result) (c .before .before .before .before
+    .pre) (c .before .before .pair .ensures .0) (c .before .pair2 .ensures .0) (c .pair3 .ensures .0)
 
 pub six-bytes-spec : {M : Type 1} → statement M
 six-bytes-spec =

@@ -7,7 +7,24 @@ use Rattle.entries.proofs.unpack.Tie as tie
 
 returns : tie.Need-returns
 unfolding unpacked
-returns c = rw (c .before .before .before .before .before .before .before .before .before .operation-at .ensures, c .before .before .before .before .before .before .before .before .mode-at .ensures, c .before .before .before .before .before .before .before .accumulator-at .ensures, c .before .before .before .before .before .before .is-carried .ensures, c .before .before .before .before .before .flow-of .ensures, c .before .before .before .before .target-form-of .ensures, c .before .before .before .effect-of .ensures, c .before .before .bytes-of .ensures .0, c .before .rule-of .ensures, c .width-at .ensures)
+returns c =
+    rw (
+      c .before .before .before .before .before .before .before .before .before .operation-at .ensures,
+      c .before
+          .before .before .before .before .before .before .before .mode-at .ensures,
+      c .before .before .before .before
+          .before .before .before .accumulator-at .ensures,
+      c .before .before .before .before .before .before .is-carried
+          .ensures,
+      c .before .before .before .before .before .flow-of .ensures,
+      c .before .before .before .before
+          .target-form-of .ensures,
+      c .before .before .before .effect-of .ensures,
+      c .before .before .bytes-of .ensures
+          .0,
+      c .before .rule-of .ensures,
+      c .width-at .ensures,
+    )
 
 pub unpack-spec : {M : Type 1} → statement M
 unpack-spec =

@@ -16,4 +16,6 @@ returns-2 : tie.Need-returns-2
 returns-2 c = rw (eight-bits (c .before .args .n - 2)) refl
 
 pub last-byte-spec : {M : Type 1} → statement M
-last-byte-spec = tie.close (tie.spec returns (λ c. search needs) (λ c. search needs) (λ c. search needs) (λ c. search needs) returns-2)
+last-byte-spec =
+    tie.close (tie.spec returns (λ c. search needs) (λ c. search needs) (λ c. search needs) (λ c. search needs)
+    returns-2)

@@ -9,10 +9,14 @@ use Rattle.checker.proofs.owed.mark_after_frame.Tie as tie
 
 returns : tie.Need-returns
 unfolding markAfter mAfter xAfter
-returns c = rw (← c .before .before .effect-of .ensures, c .enum-told .given .1) (same-fields (c .before .before .before .before .args .mark) (omega arith))
+returns c =
+    rw (← c .before .before .effect-of .ensures, c .enum-told .given .1) (same-fields (c .before .before .before
+    .before .args .mark) (omega arith))
 
 returns-2 : tie.Need-returns-2
-returns-2 c = rw (← c .before .before .before .effect-of .ensures, ← c .before .operand-at .ensures .0) (c .mark-after .ensures)
+returns-2 c =
+    rw (← c .before .before .before .effect-of .ensures, ← c .before .operand-at .ensures .0) (c .mark-after
+    .ensures)
 
 pub mark-after-frame-spec : {M : Type 1} → statement M
 mark-after-frame-spec =

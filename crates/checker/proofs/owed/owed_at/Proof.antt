@@ -7,19 +7,57 @@ use Rattle.checker.proofs.owed.owed_at.Tie as tie
 
 returns : tie.Need-returns
 unfolding owedAt owedBy
-returns c = rw (← c .before .before .before .before .flow-of .ensures, c .before .before .enum-told .given .1, c .want .ensures, c .before .before .before .before .before .next-address .ensures, c .before .mark-after-frame .ensures)
+returns c =
+    rw (
+      ← c .before .before .before .before .flow-of .ensures,
+      c .before .before .enum-told .given .1,
+      c .want
+          .ensures,
+      c .before .before .before .before .before .next-address .ensures,
+      c .before .mark-after-frame
+          .ensures,
+    )
 
 returns-2 : tie.Need-returns-2
 unfolding owedAt owedBy
-returns-2 c = rw (← c .before .before .before .before .before .before .flow-of .ensures, c .before .before .before .before .enum-told2 .given .1, c .before .want2 .ensures, c .want3 .ensures, c .before .before .before .before .before .before .before .next-address .ensures, c .before .before .before .mark-after-frame2 .ensures, c .before .before .target-of-frame .ensures)
+returns-2 c =
+    rw (
+      ← c .before .before .before .before .before .before .flow-of .ensures,
+      c .before .before .before .before
+          .enum-told2 .given .1,
+      c .before .want2 .ensures,
+      c .want3 .ensures,
+      c .before .before .before .before .before
+          .before .before .next-address .ensures,
+      c .before .before .before .mark-after-frame2 .ensures,
+      c .before .before
+          .target-of-frame .ensures,
+    )
 
 returns-3 : tie.Need-returns-3
 unfolding owedAt owedBy
-returns-3 c = rw (← c .before .before .before .before .before .flow-of .ensures, c .before .before .before .enum-told3 .given .1, c .want4 .ensures, c .before .before .mark-after-frame3 .ensures, c .before .target-of-frame2 .ensures)
+returns-3 c =
+    rw (
+      ← c .before .before .before .before .before .flow-of .ensures,
+      c .before .before .before .enum-told3 .given
+          .1,
+      c .want4 .ensures,
+      c .before .before .mark-after-frame3 .ensures,
+      c .before .target-of-frame2 .ensures,
+    )
 
 returns-4 : tie.Need-returns-4
 unfolding owedAt owedBy
-returns-4 c = rw (← c .before .before .before .before .before .flow-of .ensures, c .before .before .before .kind .given .1, c .owed-by-call .ensures, c .before .before .before .before .before .before .next-address .ensures, c .before .target-of-frame3 .ensures)
+returns-4 c =
+    rw (
+      ← c .before .before .before .before .before .flow-of .ensures,
+      c .before .before .before .kind .given .1,
+      c
+          .owed-by-call .ensures,
+      c .before .before .before .before .before .before .next-address .ensures,
+      c .before
+          .target-of-frame3 .ensures,
+    )
 
 returns-5 : tie.Need-returns-5
 unfolding owedAt owedBy

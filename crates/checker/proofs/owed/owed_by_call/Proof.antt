@@ -7,7 +7,15 @@ use Rattle.checker.proofs.owed.owed_by_call.Tie as tie
 
 returns : tie.Need-returns
 unfolding owedBy
-returns c = rw (c .before .before .want .ensures, c .want2 .ensures, c .before .before .before .mark-of-routine .ensures, c .before .mark-on-return .ensures, c .before .before .before .before .mark-at .ensures)
+returns c =
+    rw (
+      c .before .before .want .ensures,
+      c .want2 .ensures,
+      c .before .before .before .mark-of-routine .ensures,
+      c
+          .before .mark-on-return .ensures,
+      c .before .before .before .before .mark-at .ensures,
+    )
 
 pub owed-by-call-spec : {M : Type 1} → statement M
 owed-by-call-spec =

@@ -6,7 +6,12 @@ use Rattle.checker.proofs.start.framed_step.Statement.{statement}
 use Rattle.checker.proofs.start.framed_step.Tie as tie
 
 whole-number-requires : tie.Need-whole-number-requires
-whole-number-requires c κs = (rw (c .before .framed .given .1) at (c .before .before .before .before .before .pre .0), c .before .before .before .before .before .pre .1, c .before .before .before .before .before .pre .2)
+whole-number-requires c κs = (
+  rw (c .before .framed .given .1) at (c .before .before .before .before .before .pre .0),
+  c .before .before
+      .before .before .before .pre .1,
+  c .before .before .before .before .before .pre .2,
+)
 
 returns : tie.Need-returns
 unfolding decodedNumber

@@ -7,7 +7,9 @@ use Rattle.checker.proofs.start.is_clear.Statement.{statement}
 use Rattle.checker.proofs.start.is_clear.Tie as tie
 
 returns : tie.Need-returns
-returns c = clear-by-zeros (c .before .before .before .args .marks .now) (c .before .before .before .args .at) (c .before .before .before .args .n) (rw (← c .before .zeros-behind .ensures) (c .if1 .taken))
+returns c =
+    clear-by-zeros (c .before .before .before .args .marks .now) (c .before .before .before .args .at) (c .before
+    .before .before .args .n) (rw (← c .before .zeros-behind .ensures) (c .if1 .taken))
 
 returns-2 : tie.Need-returns-2
 unfolding isClear
