@@ -1,17 +1,17 @@
 -- Six bytes as one number: it is made of three pairs, and its low bytes are the number of the first bytes. So an
 -- operand needs no loop where six bytes are there to be read.
 -- Assumes nothing.
-use mathlib.Core.Path.{_≡_, refl, sym, ap, _∙_}
+use mathlib.Core.Path.{_≡_, refl, sym, _∙_}
 use mathlib.Core.List.{List, [], _∷_}
 use Prim.Native.Nat.{ℕ, zero, suc, _+_, _-_, _*_, _/_, _%_, _^_, _≤_, _<_}
 use native.Mathlib.Nat.{pow-suc, pow-le-pow-right, one-le-pow, mod-one}
 use native.Mathlib.Nat.{zero-mod, mod-lt, mod-eq-of-lt, mod-eq-sub-div-mul, div-mul-le-self}
 use native.Mathlib.Nat.{div-add-mod, add-mul-mod-self-left, mul-assoc}
-use native.Mathlib.Nat.{mul-left-comm, mul-comm, le-of-suc-le-suc, add-assoc}
+use native.Mathlib.Nat.{mul-comm, le-of-suc-le-suc, add-assoc}
 use native.Mathlib.Numerals.{add-one}
 use native.Mathlib.Omega.{arith}
 use lib.ListN.{length, getD, take, drop, length-drop}
-use lib.Seq.{drop-cons, drop-drop, getD-drop}
+use lib.Seq.{drop-cons, drop-drop}
 use Rattle.model.specs.Decode.{number, operandOf}
 use Rattle.model.proofs.Decode.{AllBytes, bytes-drop}
 

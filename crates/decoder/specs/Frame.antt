@@ -1,7 +1,7 @@
 -- The frame of an instruction: what its code and the widths decide, before its operand is read. The check asks for the
 -- operand of a few instructions only.
 -- Assumes nothing.
-use Prim.Native.Nat.{ℕ, _+_, _≤_, _<_}
+use Prim.Native.Nat.{ℕ, _≤_, _<_}
 use mathlib.Core.List.{List}
 use lib.Dec.{ltb, leb}
 use lib.ListN.{length, getD}

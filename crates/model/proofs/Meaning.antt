@@ -23,7 +23,7 @@ use Rattle.model.specs.Choice.{pick}
 use Rattle.model.specs.Image.{isStart, isFormed, lengthFits, baseFits, markAt, resetFits}
 use Rattle.model.specs.Rules.{returnFits}
 use Rattle.model.specs.Meaning.{Among, instructionAt, owedThere, StartBreaks, FormedBelow, Breaks}
-use Rattle.model.specs.Verdict.{firstFrom, unless, orElse, startAt, isClear, wantsStart, allStarts, wantsMark}
+use Rattle.model.specs.Verdict.{firstFrom, startAt, isClear, wantsStart, allStarts, wantsMark}
 use Rattle.model.specs.Verdict.{allMarks, owedNumber, wholeNumber, decodedNumber, startNumber, badMark, badStart}
 use Rattle.model.specs.Verdict.{startsVerdict, verdict}
 use Rattle.model.proofs.First.{first-is}
@@ -91,29 +91,28 @@ module _ (image marks : List ℕ) (base at : ℕ) where
   whole-breaks i whole broken =
       by (isClear marks at (i .length)) (returnFits (i .entry .flow) (getD marks at 0)) (allStarts marks base o)
       (allMarks marks base o)
-      refl refl refl refl broken
+      refl refl refl refl
     where
       o : Owed
       o = owedThere image marks base at i
 
-      chain : Bool → Bool → Bool → Bool → ℕ
-      chain c r s m = orElse (unless c 7) (orElse (unless r 10) (orElse (unless s 8) (unless m 9)))
-
       by : (c r s m : Bool) → isClear marks at (i .length) ≡ c → returnFits (i .entry .flow) (getD marks at 0) ≡ r
-          → allStarts marks base o ≡ s → allMarks marks base o ≡ m → (chain c r s m ≡ 0 → ⊥)
-          → StartBreaks image marks base at (chain c r s m)
-      by false r s m ec er es em nz =
+          → allStarts marks base o ≡ s → allMarks marks base o ≡ m
+          → StartBreaks image marks base at (wholeNumber marks base at i)
+      by false r s m ec er es em =
           let f = not-clear marks at (i .length) ec in
-          StartBreaks.overlap i whole (f .0) (f .1) (f .2) (f .3)
-      by true false s m ec er es em nz = StartBreaks.return i whole (clear-all marks at (i .length) ec) er
-      by true true false m ec er es em nz =
+          simp ec (StartBreaks.overlap i whole (f .0) (f .1) (f .2) (f .3))
+      by true false s m ec er es em =
+          simp (ec, er) (StartBreaks.return i whole (clear-all marks at (i .length) ec) er)
+      by true true false m ec er es em =
           let f = no-start marks base o es in
-          StartBreaks.flow i whole (clear-all marks at (i .length) ec) er (f .0) (f .1) (f .2)
-      by true true true false ec er es em nz =
+          simp (ec, er, es) (StartBreaks.flow i whole (clear-all marks at (i .length) ec) er (f .0) (f .1) (f .2))
+      by true true true false ec er es em =
           let f = other-mark marks base o em in
-          StartBreaks.widths i whole (clear-all marks at (i .length) ec) er (every-start marks base o es) (f .0) (f
-          .1) (f .2)
-      by true true true true ec er es em nz = absurd (nz refl)
+          simp (ec, er, es, em)
+          (StartBreaks.widths i whole (clear-all marks at (i .length) ec) er (every-start marks base o es) (f .0) (f
+          .1) (f .2))
+      by true true true true ec er es em = absurd (broken (simp (ec, er, es, em) refl))
 
   start-breaks : startAt marks at ≡ true → (startNumber image marks base at ≡ 0 → ⊥)
       → StartBreaks image marks base at (startNumber image marks base at)
