@@ -54,7 +54,8 @@ module _ (marks : List ℕ) (base : ℕ) where
   no-start (One w) h = (w, refl, h)
   no-start (Two v w) h = one-of-two (wantsStart marks base) v w h
 
-  other-mark : (o : Owed) → allMarks marks base o ≡ false → Failing (λ w. markAt marks base (w .address) ≡ w .mark → ⊥) o
+  other-mark : (o : Owed) → allMarks marks base o ≡ false → Failing (λ w. markAt marks base (w .address) ≡ w .mark →
+      ⊥) o
   unfolding allMarks wantsMark
   other-mark Nothing h = let z : _≡_ {A = ℕ} 0 1 = cc in absurd (omega arith)
   other-mark (One w) h = (w, refl, eqb-false (markAt marks base (w .address)) (w .mark) h)
@@ -137,7 +138,8 @@ module _ (image marks : List ℕ) (base at : ℕ) where
 -- ---- the refusals
 
 found-at : (test : ℕ → Bool) (n : ℕ) → eqb (firstFrom test 0 n) n ≡ false
-    → (firstFrom test 0 n < n) × (test (firstFrom test 0 n) ≡ true) × ((k : ℕ) → k < firstFrom test 0 n → test k ≡ false)
+    → (firstFrom test 0 n < n) × (test (firstFrom test 0 n) ≡ true) × ((k : ℕ) → k < firstFrom test 0 n → test k ≡
+    false)
 found-at test n h =
     let f = first-is test 0 n in
     let below = below-end (firstFrom test 0 n) n (omega (arith, f .at-most)) (eqb-false (firstFrom test 0 n) n h) in
@@ -212,7 +214,8 @@ start-number-small image marks base at n (StartBreaks.widths i e c f all w a s) 
 few-marks : (image marks : List ℕ) → lengthFits (length image) (length marks) ≡ true → length marks ≤ 16_384
 few-marks image marks h = let r = right-length (length image) (length marks) h in omega (arith, r .few, r .same)
 
-breaks-small : (image marks : List ℕ) (base reset n at : ℕ) → Breaks image marks base reset n at → (n ≤ 10) × (at < 65_536)
+breaks-small : (image marks : List ℕ) (base reset n at : ℕ) → Breaks image marks base reset n at → (n ≤ 10) × (at <
+    65_536)
 breaks-small image marks base reset n at (Breaks.wrong-length l) = (omega arith, omega arith)
 breaks-small image marks base reset n at (Breaks.wrong-base l b) = (omega arith, omega arith)
 breaks-small image marks base reset n at (Breaks.wrong-mark l b at′ inside f below) =

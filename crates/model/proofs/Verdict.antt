@@ -40,14 +40,16 @@ both-true false b h = let z : _≡_ {A = ℕ} 0 1 = cc in absurd (omega arith)
 
 -- ---- 7: no start on the later bytes
 
-pub clear-all : (marks : List ℕ) (at n : ℕ) → isClear marks at n ≡ true → (k : ℕ) → at < k → k < at + n → startAt marks k ≡ false
+pub clear-all : (marks : List ℕ) (at n : ℕ) → isClear marks at n ≡ true → (k : ℕ) → at < k → k < at + n → startAt
+    marks k ≡ false
 unfolding isClear
 clear-all marks at n h k low high =
     let f = first-is (startAt marks) (at + 1) (n - 1) in
     let e = eqb-true (firstFrom (startAt marks) (at + 1) (n - 1)) (at + 1 + (n - 1)) h in
     f .before k (omega arith) (omega arith)
 
-all-clear : (marks : List ℕ) (at n : ℕ) → ((k : ℕ) → at < k → k < at + n → startAt marks k ≡ false) → isClear marks at n ≡ true
+all-clear : (marks : List ℕ) (at n : ℕ) → ((k : ℕ) → at < k → k < at + n → startAt marks k ≡ false) → isClear marks
+    at n ≡ true
 unfolding isClear
 all-clear marks at n h =
     eq-eqb (firstFrom (startAt marks) (at + 1) (n - 1)) (at + 1 + (n - 1))
@@ -62,7 +64,8 @@ all-clear marks at n h =
 
 -- ---- 8 and 9: the wants
 
-met-tests : (marks : List ℕ) (base : ℕ) (w : Want) → wantsStart marks base w ≡ true → wantsMark marks base w ≡ true → Met marks base w
+met-tests : (marks : List ℕ) (base : ℕ) (w : Want) → wantsStart marks base w ≡ true → wantsMark marks base w ≡ true
+    → Met marks base w
 unfolding wantsStart wantsMark
 met-tests marks base w s m = record {
   is-start = s;
@@ -77,7 +80,8 @@ met-mark : (marks : List ℕ) (base : ℕ) (w : Want) → Met marks base w → w
 unfolding wantsMark
 met-mark marks base w m = eq-eqb (markAt marks base (w .address)) (w .mark) (m .has-mark)
 
-all-met : (marks : List ℕ) (base : ℕ) (o : Owed) → allStarts marks base o ≡ true → allMarks marks base o ≡ true → AllMet marks base o
+all-met : (marks : List ℕ) (base : ℕ) (o : Owed) → allStarts marks base o ≡ true → allMarks marks base o ≡ true →
+    AllMet marks base o
 unfolding allStarts allMarks
 all-met marks base Nothing s m = tt
 all-met marks base (One w) s m = met-tests marks base w s m
@@ -117,7 +121,8 @@ module _ (image marks : List ℕ) (base at : ℕ) where
       marks base at
   unfolding wholeNumber
   whole-zero i h whole =
-      by (isClear marks at (i .length)) (returnFits (i .entry .flow) (getD marks at 0)) (owedNumber marks base o) refl refl refl
+      by (isClear marks at (i .length)) (returnFits (i .entry .flow) (getD marks at 0)) (owedNumber marks base o)
+      refl refl refl
     where
       o : Owed
       o = owedAt marks base i (base + at) (getD marks at 0)

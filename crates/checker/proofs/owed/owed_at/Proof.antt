@@ -25,13 +25,13 @@ returns-2 c =
       ← c .before .before .before .before .before .before .flow-of .ensures,
       c .before .before .before .before
           .enum-told2 .given .1,
-      c .before .want2 .ensures,
+      ← c .before .before .before .before .before .before .before .next-address .ensures,
+      ← c
+          .before .before .before .mark-after-frame2 .ensures,
+      ← c .before .before .target-of-frame .ensures,
+      c .before
+          .want2 .ensures,
       c .want3 .ensures,
-      c .before .before .before .before .before
-          .before .before .next-address .ensures,
-      c .before .before .before .mark-after-frame2 .ensures,
-      c .before .before
-          .target-of-frame .ensures,
     )
 
 returns-3 : tie.Need-returns-3
