@@ -1,8 +1,8 @@
 // The records of check-NN.bin: base u32, reset u32, image bytes, marks bytes, answer u32.
-use crate::parts::bytes_at;
-use crate::parts::u32_at;
 use crate::parts::Bytes;
 use crate::parts::Part;
+use crate::parts::bytes_at;
+use crate::parts::u32_at;
 ghost use mathlib.Core.Path.{_≡_};
 ghost use Rattle.vectors.specs.Checks.{checkAt};
 

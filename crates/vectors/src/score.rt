@@ -1,6 +1,6 @@
 // The score of a trial: how many records of a file agree, and over all files how many there are of each number.
 ghost use mathlib.Core.Path.{_≡_};
-ghost use Rattle.vectors.specs.Scores.{oneMore, begunWith, countedIn, withAgreed, endedAs};
+ghost use Rattle.vectors.specs.Scores.{oneMore, nothingCounted, beforeFile, countedIn, withAgreed, afterFile};
 
 // The numbers of the papers end at 27.
 const NUMBERS: usize = 28;
@@ -19,10 +19,22 @@ fn one_more(n: u64) -> u64
     if n < u64::MAX { n + 1 } else { n }
 }
 
-// The score at the beginning of a file.
-pub fn begun_with(numbers: [u64; 28]) -> Score
-    ensures { λ r. ⌜ r ≡ begunWith numbers ⌝ }
+// The score before all files.
+pub fn nothing_counted() -> Score
+    ensures { λ r. ⌜ r ≡ nothingCounted ⌝ }
 {
+    Score {
+        agreed: 0,
+        whole: false,
+        numbers: [0; 28],
+    }
+}
+
+// The score before a file: its numbers go on from the files before.
+pub fn before_file(score: Score) -> Score
+    ensures { λ r. ⌜ r ≡ beforeFile score ⌝ }
+{
+    let numbers = score.numbers;
     Score {
         agreed: 0,
         whole: false,
@@ -54,9 +66,9 @@ pub fn with_agreed(score: Score, number: usize) -> Score
     }
 }
 
-// The score at the end of a file.
-pub fn ended_as(score: Score, whole: bool) -> Score
-    ensures { λ r. ⌜ r ≡ endedAs score whole ⌝ }
+// The score after a file that was found to be whole or not.
+pub fn after_file(score: Score, whole: bool) -> Score
+    ensures { λ r. ⌜ r ≡ afterFile score whole ⌝ }
 {
     let numbers = score.numbers;
     Score {
