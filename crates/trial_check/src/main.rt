@@ -1,5 +1,6 @@
-// Tries the check that loaders call on the simulator's vectors, data/check-00.bin to check-07.bin: a line for each file, how many
-// records agree out of how many, then a line for each number, how many records had an answer of that number and agreed.
+// Tries the check that loaders call on the simulator's vectors, check-00.bin to check-07.bin: a line for each file, how
+// many records agree out of how many, then a line for each number, how many records had an answer of that number and
+// agreed.
 use libc::STDOUT_FILENO;
 use loader::m7700_check;
 use vectors::checks::Case;

@@ -9,7 +9,7 @@ const NUMBERS: usize = 28;
 pub struct Score {
     pub agreed: u64,
     pub whole: bool,
-    pub numbers: [u64; 28],
+    pub numbers: [u64; NUMBERS],
 }
 
 // One more, up to the last that a counter can hold.
@@ -26,7 +26,7 @@ pub fn nothing_counted() -> Score
     Score {
         agreed: 0,
         whole: false,
-        numbers: [0; 28],
+        numbers: [0; NUMBERS],
     }
 }
 
@@ -43,7 +43,7 @@ pub fn before_file(score: Score) -> Score
 }
 
 // The counters with one more of a number; a number without a counter is not counted.
-fn counted(mut numbers: [u64; 28], number: usize) -> [u64; 28]
+fn counted(mut numbers: [u64; NUMBERS], number: usize) -> [u64; NUMBERS]
     ensures { λ r. ⌜ r ≡ countedIn numbers number ⌝ }
 {
     if NUMBERS <= number {

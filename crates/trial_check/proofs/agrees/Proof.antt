@@ -7,7 +7,9 @@ use Rattle.trial_check.proofs.agrees.Tie as tie
 
 returns : tie.Need-returns
 unfolding spec.agrees
-returns c = rw (c .before .m7700-check .ensures, c .before .before .part-of2 .ensures, c .before .before .before .part-of .ensures)
+returns c =
+    let parts = c .before .before in
+    rw (c .before .m7700-check .ensures, parts .part-of2 .ensures, parts .before .part-of .ensures)
 
 pub agrees-spec : {M : Type 1} → statement M
 agrees-spec = tie.close (tie.spec

@@ -23,9 +23,10 @@ returns c =
     let turn = c .before .before .before .before in
     let begun = turn .before in
     let file = begun .before .before .before .args .file .now in
-    let cut : checkAt file (turn .loop .at) ≡ Cut = rw (← c .before .before .check-at .ensures) (c .enum-told .given .1) in
+    let found = c .before .before in
+    let cut : checkAt file (turn .loop .at) ≡ Cut = rw (← found .check-at .ensures) (c .enum-told .given .1) in
     rw (← begun .u32-at .ensures, ← begun .before .before-file .ensures)
-    (one-cut file _ (turn .loop .left) (turn .loop .at) (turn .loop .score) (c .before .before .before .loop-test .taken)
+    (one-cut file _ (turn .loop .left) (turn .loop .at) (turn .loop .score) (found .before .loop-test .taken)
     (turn .loop .inv) cut)
 
 loop-again : tie.Need-loop-again Inv-loop μ-loop
@@ -34,7 +35,8 @@ loop-again c =
     let turn = found .before .before .before .before in
     let file = turn .before .before .before .before .args .file .now in
     let case = found .case .given .0 .0 in
-    let whole : checkAt file (turn .loop .at) ≡ Whole case = rw (← found .before .before .check-at .ensures) (found .case .given .1) in
+    let whole : checkAt file (turn .loop .at) ≡ Whole case =
+    rw (← found .before .before .check-at .ensures) (found .case .given .1) in
     rw (c .after .ensures)
     (one-worked file _ (turn .loop .left) (turn .loop .at) (turn .loop .score) case
     (found .before .before .before .loop-test .taken) (turn .loop .inv) whole)
@@ -45,7 +47,8 @@ returns-2 c =
     let begun = turn .before in
     let file = begun .before .before .before .args .file .now in
     rw (c .after-file .ensures, ← begun .u32-at .ensures, ← begun .before .before-file .ensures)
-    (all-worked file _ (turn .loop .left) (turn .loop .at) (turn .loop .score) (c .before .loop-test .left) (turn .loop .inv))
+    (all-worked file _ (turn .loop .left) (turn .loop .at) (turn .loop .score) (c .before .loop-test .left)
+    (turn .loop .inv))
 
 pub tried-spec : {M : Type 1} → statement M
 tried-spec =

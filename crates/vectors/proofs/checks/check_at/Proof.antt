@@ -1,4 +1,4 @@
--- Each exit has found what the definition finds: no run of bytes, or a record that the file does not hold whole, is cut.
+-- Each exit has found what the definition finds; what the file does not hold whole is cut.
 -- Assumes nothing.
 use Prim.Native.Nat.{_+_}
 use lib.ListN.{length}
@@ -14,7 +14,9 @@ returns : tie.Need-returns
 returns c = cut-before-image (c .before .before .args .file .now) (c .before .before .args .at) (omega arith)
 
 returns-2 : tie.Need-returns-2
-returns-2 c = cut-before-image (c .before .before .before .args .file .now) (c .before .before .before .args .at) (omega arith)
+returns-2 c =
+    let args = c .before .before .before .args in
+    cut-before-image (args .file .now) (args .at) (omega arith)
 
 returns-3 : tie.Need-returns-3
 unfolding checkAt withImage

@@ -6,7 +6,19 @@ use Rattle.vectors.proofs.parts.first_four.Statement.{statement}
 use Rattle.vectors.proofs.parts.first_four.Tie as tie
 
 returns : tie.Need-returns
-returns c = rw (c .wide4 .ensures, c .before .before .wide3 .ensures, c .before .before .before .before .wide2 .ensures, c .before .before .before .before .before .before .wide .ensures, c .before .byte-at4 .ensures, c .before .before .before .byte-at3 .ensures, c .before .before .before .before .before .byte-at2 .ensures, c .before .before .before .before .before .before .before .byte-at .ensures) (four (c .before .before .before .before .before .before .before .before .before .args .bytes .now))
+returns c =
+    let second = c .before .before .before .before in
+    let first = second .before .before in
+    rw (
+      c .wide4 .ensures,
+      c .before .before .wide3 .ensures,
+      second .wide2 .ensures,
+      first .wide .ensures,
+      c .before .byte-at4 .ensures,
+      c .before .before .before .byte-at3 .ensures,
+      second .before .byte-at2 .ensures,
+      first .before .byte-at .ensures,
+    ) (four (first .before .before .before .args .bytes .now))
 
 pub first-four-spec : {M : Type 1} → statement M
 first-four-spec =

@@ -9,15 +9,27 @@ use Rattle.vectors.proofs.parts.part_of.Tie as tie
 
 returns : tie.Need-returns
 unfolding partOf
-returns c = rw (lt-leb (c .before .before .args .part .end) (length (c .before .before .args .file .now)) (c .before .if1 .taken))
+returns c =
+    let args = c .before .before .args in
+    rw (lt-leb (args .part .end) (length (args .file .now)) (c .before .if1 .taken))
 
 returns-2 : tie.Need-returns-2
 unfolding partOf
-returns-2 c = rw (le-leb (c .before .before .before .args .part .end) (length (c .before .before .before .args .file .now)) (c .before .before .if1 .left), lt-leb (c .before .before .before .args .part .first) (c .before .before .before .args .part .end) (c .before .if2 .taken))
+returns-2 c =
+    let args = c .before .before .before .args in
+    rw (
+      le-leb (args .part .end) (length (args .file .now)) (c .before .before .if1 .left),
+      lt-leb (args .part .first) (args .part .end) (c .before .if2 .taken),
+    )
 
 returns-3 : tie.Need-returns-3
 unfolding partOf
-returns-3 c = rw (le-leb (c .before .before .before .args .part .end) (length (c .before .before .before .args .file .now)) (c .before .before .if1 .left), le-leb (c .before .before .before .args .part .first) (c .before .before .before .args .part .end) (c .before .if2 .left))
+returns-3 c =
+    let args = c .before .before .before .args in
+    rw (
+      le-leb (args .part .end) (length (args .file .now)) (c .before .before .if1 .left),
+      le-leb (args .part .first) (args .part .end) (c .before .if2 .left),
+    )
 
 pub part-of-spec : {M : Type 1} → statement M
 part-of-spec =

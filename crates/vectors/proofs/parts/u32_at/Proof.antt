@@ -12,7 +12,9 @@ returns c = past-the-end (c .before .before .args .file .now) (c .before .before
 
 returns-2 : tie.Need-returns-2
 unfolding u32At
-returns-2 c = rw (rest-whole (c .before .before .before .before .args .file .now) (c .before .before .before .before .args .at)) at (c .first-four .ensures)
+returns-2 c =
+    let args = c .before .before .before .before .args in
+    rw (rest-whole (args .file .now) (args .at)) at (c .first-four .ensures)
 
 pub u32-at-spec : {M : Type 1} → statement M
 u32-at-spec =

@@ -9,7 +9,10 @@ use Rattle.vectors.proofs.score.counted.Statement.{statement}
 use Rattle.vectors.proofs.score.counted.Tie as tie
 
 returns : tie.Need-returns
-returns c = let past : length (c .before .args .t1) ≤ c .before .args .number = search needs in sym (set-out (c .before .args .t1) (c .before .args .number) _ past)
+returns c =
+    let args = c .before .args in
+    let past : length (args .t1) ≤ args .number = search needs in
+    sym (set-out (args .t1) (args .number) _ past)
 
 returns-2 : tie.Need-returns-2
 returns-2 c = rw (c .one-more .ensures)
