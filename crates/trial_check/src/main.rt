@@ -14,7 +14,6 @@ use vectors::score::before_file;
 use vectors::score::nothing_counted;
 use vectors::score::with_agreed;
 ghost use mathlib.Core.Path.{_≡_};
-ghost use Prim.Native.Nat.{_<_};
 ghost use Rattle.trial_check.specs.Trial as spec;
 
 // The check gives a record's answer.

@@ -3,7 +3,7 @@
 use mathlib.Core.Path.{sym}
 use Prim.Native.Nat.{_≤_}
 use lib.Seq.{set-out}
-use lib.ListN.{length, getD}
+use lib.ListN.{length}
 use borrow.Author.Needs.{needs}
 use Rattle.vectors.proofs.score.counted.Statement.{statement}
 use Rattle.vectors.proofs.score.counted.Tie as tie
