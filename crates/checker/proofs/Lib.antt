@@ -1,2 +1,5 @@
 -- The laws that the proofs of the functions share.
-pub mod Small
+pub mod Clear
+pub mod Effects
+pub mod Forms
+pub mod Steps

@@ -2,50 +2,53 @@
 pub mod owed;
 pub mod start;
 
-use crate::start::start_number;
+use crate::start::step_at;
 use codepages::pages;
+use image::bad_mark;
 use image::base_fits;
 use image::byte_at;
-use image::is_formed;
 use image::is_start;
 use image::length_fits;
+use image::misfit;
 use image::reset_fits;
 use model::rules::Verdict;
 ghost use mathlib.Core.Path.{_≡_};
 ghost use Prim.Native.Nat.{_≤_, _<_};
+ghost use lib.Dec.{eqb};
 ghost use lib.ListN.{length};
 ghost use Rattle.codepages.specs.Packing.{numbers};
 ghost use Rattle.model.specs.Choice.{pick};
 ghost use Rattle.model.specs.Image.{addressLimit, imageLimit, isStart, startCount};
 ghost use Rattle.model.specs.Verdict as spec;
 
-// The lowest mark that is not of the form, or the number of marks.
-fn bad_mark(marks: &[u8]) -> usize
-    ensures { λ r. ⌜ r ≡ spec.badMark (now (marks .entry)) ⌝ }
+// Every mark has the form. The loop goes through all of them, without a branch that hangs on a mark.
+fn all_formed(marks: &[u8]) -> bool
+    ensures { λ r. ⌜ r ≡ eqb (spec.badMark (now (marks .entry))) (length (now (marks .entry))) ⌝ }
 {
+    let mut bad = 0;
     let mut i = 0;
     while i < marks.len() {
-        if !is_formed(byte_at(marks, i)) {
-            return i;
-        }
+        bad = bad | misfit(marks[i]);
         i += 1;
     }
-    i
+    bad == 0
 }
 
-// The starts in turn, from the lowest: the first that breaks a rule refuses.
+// The starts in turn, from the lowest: the first that breaks a rule refuses. Where an instruction breaks none, no
+// start stands on its later bytes, and they are stepped over.
 fn starts_verdict(codes: &[[[u32; 16]; 16]; 3], image: &[u8], marks: &[u8], base: u32) -> Verdict
     requires { ⌜ (now codes ≡ numbers) × (base < addressLimit) × (length (now marks) ≤ imageLimit) ⌝ }
     ensures { λ r. ⌜ r ≡ spec.startsVerdict (now (image .entry)) (now (marks .entry)) base ⌝ }
 {
     let mut i = 0;
     while i < marks.len() {
-        let number = start_number(codes, image, marks, base, i);
+        let step = step_at(codes, image, marks, base, i);
+        let number = step.number;
         if number != 0 {
             let offset = i as u32;
             return Verdict::Refused { number, offset };
         }
-        i += 1;
+        i += step.bytes as usize;
     }
     Verdict::Accepted
 }
@@ -66,12 +69,9 @@ pub fn check(image: &[u8], marks: &[u8], base: u32, reset: u32) -> Verdict
             offset: 0,
         };
     }
-    let bad = bad_mark(marks);
-    if bad != marks.len() {
-        return Verdict::Refused {
-            number: 4,
-            offset: bad as u32,
-        };
+    if !all_formed(marks) {
+        let offset = bad_mark(marks) as u32;
+        return Verdict::Refused { number: 4, offset };
     }
     if !reset_fits(marks, base, reset) {
         return Verdict::Refused {

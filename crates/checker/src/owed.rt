@@ -1,16 +1,27 @@
 // What a start owes its successors.
+use decoder::Frame;
+use decoder::operand_at;
+use entries::effect_of;
+use entries::flow_of;
+use entries::target_form_of;
+use image::choose;
 use image::mark_at;
 use model::code::Flow;
-use model::code::Instruction;
 use model::code::Kind;
 use model::code::Target;
 use model::code::WidthEffect;
 use model::rules::Owed;
 use model::rules::Want;
 ghost use mathlib.Core.Path.{_≡_};
-ghost use Prim.Native.Nat.{_+_, _*_, _≤_, _<_};
-ghost use Rattle.model.specs.Image.{addressLimit, markM, markX, markKind, returnM, returnX, markOf, inBankOf};
+ghost use Prim.Native.Nat.{_+_, _-_, _*_, _≤_, _<_};
+ghost use lib.ListN.{length, drop};
+ghost use Rattle.model.specs.Image.{addressLimit, bankSize, markOf, markAt, inBankOf};
+ghost use Rattle.model.specs.declared.code.Flow.the-variants.{Call};
+ghost use Rattle.model.specs.Decode.{operandOf};
 ghost use Rattle.model.specs.Rules as rules;
+ghost use Rattle.codepages.specs.Packing.{unpacked};
+ghost use Rattle.decoder.specs.Frame.{Fitting, instructionOf};
+ghost use Rattle.checker.specs.Effects.{newWidth, ownBits, operandShare};
 
 // The limits of model/specs/Image.antt.
 const BANK_SIZE: u64 = 65_536;
@@ -41,13 +52,11 @@ fn last_byte(operand: u64, n: u8) -> u64
     requires { ⌜ n ≤ 6 ⌝ }
     ensures { λ r. ⌜ r ≡ rules.lastByte operand n ⌝ }
 {
-    match n {
-        3 => operand / 256,
-        4 => operand / 65_536,
-        5 => operand / 16_777_216,
-        6 => operand / 4_294_967_296,
-        _ => operand,
+    if n < 2 {
+        return operand;
     }
+    let bits = 8 * (n - 2) as u32;
+    operand >> bits
 }
 
 // An address in the bank of another.
@@ -72,41 +81,42 @@ fn target_of(target: Target, address: u64, n: u8, operand: u64) -> u64
     }
 }
 
-// A width after SEP with this bit.
-fn set_bit(width: u8, bit: u64) -> u8
-    ensures { λ r. ⌜ r ≡ rules.setBit width bit ⌝ }
-{
-    if bit == 1 { 1 } else { width }
-}
-
-// A width after CLP with this bit.
-fn clear_bit(width: u8, bit: u64) -> u8
-    ensures { λ r. ⌜ r ≡ rules.clearBit width bit ⌝ }
-{
-    if bit == 1 { 0 } else { width }
-}
-
-fn m_after(effect: WidthEffect, m: u8, operand: u64) -> u8
-    ensures { λ r. ⌜ r ≡ rules.mAfter effect m operand ⌝ }
+// What the widths become that an instruction names.
+fn new_width(effect: WidthEffect) -> u8
+    ensures { λ r. ⌜ r ≡ newWidth effect ⌝ }
 {
     match effect {
-        WidthEffect::KeepWidths => m,
+        WidthEffect::KeepWidths => 0,
         WidthEffect::SetM => 1,
         WidthEffect::ClearM => 0,
-        WidthEffect::SetBits => set_bit(m, operand / 32 % 2),
-        WidthEffect::ClearBits => clear_bit(m, operand / 32 % 2),
+        WidthEffect::SetBits => 1,
+        WidthEffect::ClearBits => 0,
     }
 }
 
-fn x_after(effect: WidthEffect, x: u8, operand: u64) -> u8
-    ensures { λ r. ⌜ r ≡ rules.xAfter effect x operand ⌝ }
+// The bits of the status register that an instruction names whatever its operand is.
+fn own_bits(effect: WidthEffect) -> u64
+    ensures { λ r. ⌜ r ≡ ownBits effect ⌝ }
 {
     match effect {
-        WidthEffect::KeepWidths => x,
-        WidthEffect::SetM => x,
-        WidthEffect::ClearM => x,
-        WidthEffect::SetBits => set_bit(x, operand / 16 % 2),
-        WidthEffect::ClearBits => clear_bit(x, operand / 16 % 2),
+        WidthEffect::KeepWidths => 0,
+        WidthEffect::SetM => 32,
+        WidthEffect::ClearM => 32,
+        WidthEffect::SetBits => 0,
+        WidthEffect::ClearBits => 0,
+    }
+}
+
+// 1 where an instruction names bits by its operand, else 0.
+fn operand_share(effect: WidthEffect) -> u64
+    ensures { λ r. ⌜ r ≡ operandShare effect ⌝ }
+{
+    match effect {
+        WidthEffect::KeepWidths => 0,
+        WidthEffect::SetM => 0,
+        WidthEffect::ClearM => 0,
+        WidthEffect::SetBits => 1,
+        WidthEffect::ClearBits => 1,
     }
 }
 
@@ -120,14 +130,38 @@ fn mark_of(m: u8, x: u8, kind: u8, rm: u8, rx: u8) -> u8
 
 // The mark with the widths after an instruction.
 fn mark_after(effect: WidthEffect, operand: u64, mark: u8) -> u8
+    requires { ⌜ operand < 1_099_511_627_776 ⌝ }
     ensures { λ r. ⌜ r ≡ rules.markAfter effect operand mark ⌝ }
 {
+    let bits = own_bits(effect) + operand * operand_share(effect);
+    let new = new_width(effect);
+    let m = choose(bits / 32 % 2 == 1, new, mark / 2 % 2);
+    let x = choose(bits / 16 % 2 == 1, new, mark / 4 % 2);
+    mark_of(m, x, mark / 8 % 4, mark / 32 % 2, mark / 64 % 2)
+}
+
+// The mark with the widths after the instruction of a frame. Most keep them, and their operand need not be read.
+fn mark_after_frame(image: &[u8], at: usize, frame: Frame, mark: u8) -> u8
+    requires { ⌜ Fitting (length (now image) - at) frame ⌝ }
+    ensures { λ r. ⌜
+        r ≡ rules.markAfter (unpacked (frame .number) .effect)
+        (operandOf (drop at (now (image .entry))) (frame .prefix) (frame .length)) mark
+        ⌝ }
+{
+    let effect = effect_of(frame.number);
     if let WidthEffect::KeepWidths = effect {
         return mark / 2 % 64 * 2 + 1;
     }
-    let m = m_after(effect, mark / 2 % 2, operand);
-    let x = x_after(effect, mark / 4 % 2, operand);
-    mark_of(m, x, mark / 8 % 4, mark / 32 % 2, mark / 64 % 2)
+    mark_after(effect, operand_at(image, at, frame), mark)
+}
+
+// Where the instruction of a frame at an address goes by its target.
+fn target_of_frame(image: &[u8], at: usize, frame: Frame, address: u64) -> u64
+    requires { ⌜ Fitting (length (now image) - at) frame × (address < 4_294_967_296) ⌝ }
+    ensures { λ r. ⌜ r ≡ rules.targetAddress (instructionOf (drop at (now (image .entry))) frame) address ⌝ }
+{
+    let target = target_form_of(frame.number);
+    target_of(target, address, frame.length, operand_at(image, at, frame))
 }
 
 // The kind as a mark has it.
@@ -168,39 +202,42 @@ fn mark_on_return(mark: u8, there: u8) -> u8
     mark_of(m, x, mark / 8 % 4, mark / 32 % 2, mark / 64 % 2)
 }
 
-fn owed_by(flow: Flow, mark: u8, after: u8, next: u64, target: u64, there: u8) -> Owed
-    ensures { λ r. ⌜ r ≡ rules.owedBy flow mark after next target there ⌝ }
+// What a call at an address with a mark owes, by its target and the address after it.
+fn owed_by_call(marks: &[u8], base: u32, kind: Kind, mark: u8, next: u64, to: u64) -> Owed
+    ensures { λ r. ⌜ r ≡ rules.owedBy (Call kind) mark 0 next to (markAt (now (marks .entry)) base to) ⌝ }
 {
-    match flow {
-        Flow::Next => Owed::One(want(next, after)),
-        Flow::Branch => Owed::Two(want(next, after), want(target, after)),
-        Flow::Jump => Owed::One(want(target, after)),
-        Flow::Call(kind) => Owed::Two(
-            want(target, mark_of_routine(kind, mark, there)),
-            want(next, mark_on_return(mark, there)),
-        ),
+    let there = mark_at(marks, base, to);
+    Owed::Two(
+        want(to, mark_of_routine(kind, mark, there)),
+        want(next, mark_on_return(mark, there)),
+    )
+}
+
+// What the instruction of a frame at a place of the image, with a mark there, owes. Each flow reads what it needs.
+pub fn owed_at(image: &[u8], marks: &[u8], base: u32, at: usize, frame: Frame, mark: u8) -> Owed
+    requires { ⌜ Fitting (length (now image) - at) frame × (base < addressLimit) × (at < bankSize) ⌝ }
+    ensures { λ r. ⌜
+        r ≡ rules.owedAt (now (marks .entry)) base (instructionOf (drop at (now (image .entry))) frame) (base + at) mark
+        ⌝ }
+{
+    let address = base as u64 + at as u64;
+    let next = next_address(address, frame.length);
+    match flow_of(frame.number) {
+        Flow::Next => Owed::One(want(next, mark_after_frame(image, at, frame, mark))),
+        Flow::Branch => {
+            let after = mark_after_frame(image, at, frame, mark);
+            let to = target_of_frame(image, at, frame, address);
+            Owed::Two(want(next, after), want(to, after))
+        }
+        Flow::Jump => {
+            let after = mark_after_frame(image, at, frame, mark);
+            Owed::One(want(target_of_frame(image, at, frame, address), after))
+        }
+        Flow::Call(kind) => {
+            let to = target_of_frame(image, at, frame, address);
+            owed_by_call(marks, base, kind, mark, next, to)
+        }
         Flow::Return(_) => Owed::Nothing,
         Flow::Halt => Owed::Nothing,
     }
-}
-
-// What an instruction at an address, with a mark there, owes.
-pub fn owed_at(marks: &[u8], base: u32, i: Instruction, address: u64, mark: u8) -> Owed
-    requires { ⌜ (address < 4_294_967_296) × (i .length ≤ 6) × (i .operand < 1_099_511_627_776) ⌝ }
-    ensures { λ r. ⌜ r ≡ rules.owedAt (now (marks .entry)) base i address mark ⌝ }
-{
-    let entry = i.entry;
-    let flow = entry.flow;
-    let target = entry.target;
-    let effect = entry.effect;
-    let length = i.length;
-    let operand = i.operand;
-    let after = mark_after(effect, operand, mark);
-    let next = next_address(address, length);
-    // Most instructions have no target, and need not look for one.
-    if let Flow::Next = flow {
-        return Owed::One(want(next, after));
-    }
-    let to = target_of(target, address, length, operand);
-    owed_by(flow, mark, after, next, to, mark_at(marks, base, to))
 }

@@ -1,23 +1,31 @@
 // The rules at one start, as the number of the first that is broken.
 use crate::owed::kind_number;
 use crate::owed::owed_at;
-use decoder::decode_at;
+use decoder::Frame;
+use decoder::Framed;
+use decoder::frame_at;
+use decoder::low_bytes;
+use decoder::six_bytes;
+use entries::flow_of;
 use image::byte_at;
 use image::is_start;
 use image::mark_at;
-use model::code::Decoded;
 use model::code::Flow;
-use model::code::Instruction;
 use model::code::Kind;
 use model::rules::Owed;
 use model::rules::Want;
 ghost use mathlib.Core.Path.{_≡_};
-ghost use Prim.Native.Nat.{_+_, _-_, _<_};
+ghost use Prim.Native.Nat.{_+_, _-_, _≤_, _<_};
+ghost use mathlib.Core.Bool.{_&&_};
+ghost use lib.Dec.{ltb, leb};
+ghost use lib.ListN.{length, take, drop};
 ghost use Rattle.codepages.specs.Packing.{numbers};
 ghost use Rattle.model.specs.Image.{addressLimit, bankSize};
 ghost use Rattle.model.specs.Rules as rules;
 ghost use Rattle.model.specs.Verdict as verdict;
-ghost use Rattle.checker.specs.Bounds.{Small, SmallIn};
+ghost use Rattle.model.specs.Decode as decode;
+ghost use Rattle.decoder.specs.Frame.{Fitting, FittingIn, instructionOf, decodedOf};
+ghost use Rattle.checker.specs.Steps.{decodedStep, stepAt};
 
 fn wants_start(marks: &[u8], base: u32, w: Want) -> bool
     ensures { λ r. ⌜ r ≡ verdict.wantsStart (now (marks .entry)) base w ⌝ }
@@ -126,64 +134,95 @@ fn less_one(n: u8) -> usize
     if n == 0 { 0 } else { (n - 1) as usize }
 }
 
+// All marks behind the first of n, up to six, are 00. Asked only where six are there to be read at once.
+fn zeros_behind(marks: &[u8], at: usize, n: u8) -> bool
+    requires { ⌜ (at < bankSize) × (n ≤ 6) ⌝ }
+    ensures { λ r. ⌜
+        r ≡ (leb (at + 6) (length (now (marks .entry)))
+        && ltb (decode.number (take n (drop at (now (marks .entry))))) 256)
+        ⌝ }
+{
+    if marks.len() < at + 6 {
+        return false;
+    }
+    low_bytes(six_bytes(marks, at), n) < 256
+}
+
 // Number 7: no start on the later bytes of an instruction of n bytes.
 fn is_clear(marks: &[u8], at: usize, n: u8) -> bool
-    requires { ⌜ at < bankSize ⌝ }
+    requires { ⌜ (at < bankSize) × (n ≤ 6) ⌝ }
     ensures { λ r. ⌜ r ≡ verdict.isClear (now (marks .entry)) at n ⌝ }
 {
+    if zeros_behind(marks, at, n) {
+        return true;
+    }
     let later = less_one(n);
     first_start(marks, at + 1, later) == at + 1 + later
 }
 
-// Numbers 7, 10, 8, 9 of a whole instruction at a place.
-fn whole_number(marks: &[u8], base: u32, at: usize, i: Instruction) -> u8
-    requires { ⌜ Small i × (base < addressLimit) × (at < bankSize) ⌝ }
-    ensures { λ r. ⌜ r ≡ verdict.wholeNumber (now (marks .entry)) base at i ⌝ }
+// Numbers 7, 10, 8, 9 of the instruction of a frame at a place.
+fn whole_number(image: &[u8], marks: &[u8], base: u32, at: usize, frame: Frame) -> u8
+    requires { ⌜ Fitting (length (now image) - at) frame × (base < addressLimit) × (at < bankSize) ⌝ }
+    ensures { λ r. ⌜
+        r ≡ verdict.wholeNumber (now (marks .entry)) base at (instructionOf (drop at (now (image .entry))) frame)
+        ⌝ }
 {
     let mark = byte_at(marks, at);
-    let entry = i.entry;
-    let flow = entry.flow;
-    let length = i.length;
-    if !is_clear(marks, at, length) {
+    if !is_clear(marks, at, frame.length) {
         return 7;
     }
-    if !return_fits(flow, mark) {
+    if !return_fits(flow_of(frame.number), mark) {
         return 10;
     }
-    owed_number(
-        marks,
-        base,
-        owed_at(marks, base, i, base as u64 + at as u64, mark),
-    )
+    owed_number(marks, base, owed_at(image, marks, base, at, frame, mark))
 }
 
-// The number of what was decoded at a place.
-fn decoded_number(marks: &[u8], base: u32, at: usize, decoded: Decoded) -> u8
-    requires { ⌜ SmallIn decoded × (base < addressLimit) × (at < bankSize) ⌝ }
-    ensures { λ r. ⌜ r ≡ verdict.decodedNumber (now (marks .entry)) base at decoded ⌝ }
+// A place of the image: the number of the first rule that is broken there, 0 where none is or no instruction starts;
+// and how many bytes stand there, one where no instruction is read.
+pub struct Step {
+    pub number: u8,
+    pub bytes: u8,
+}
+
+// The step of a frame at a place.
+fn framed_step(image: &[u8], marks: &[u8], base: u32, at: usize, framed: Framed) -> Step
+    requires { ⌜ FittingIn (length (now image) - at) framed × (base < addressLimit) × (at < bankSize) ⌝ }
+    ensures { λ r. ⌜ r ≡ decodedStep (now (marks .entry)) base at (decodedOf (drop at (now (image .entry))) framed) ⌝ }
 {
-    match decoded {
-        Decoded::Whole(i) => whole_number(marks, base, at, i),
-        Decoded::NotCarried => 5,
-        Decoded::CutOff => 6,
+    match framed {
+        Framed::Fits(frame) => Step {
+            number: whole_number(image, marks, base, at, frame),
+            bytes: frame.length,
+        },
+        Framed::Uncarried => Step {
+            number: 5,
+            bytes: 1,
+        },
+        Framed::Short => Step {
+            number: 6,
+            bytes: 1,
+        },
     }
 }
 
-// The number of the first rule that is broken at a place, 0 where none is or no instruction starts.
-pub fn start_number(
+// The step at a place.
+pub fn step_at(
     codes: &[[[u32; 16]; 16]; 3],
     image: &[u8],
     marks: &[u8],
     base: u32,
     at: usize,
-) -> u8
+) -> Step
     requires { ⌜ (now codes ≡ numbers) × (base < addressLimit) × (at < bankSize) ⌝ }
-    ensures { λ r. ⌜ r ≡ verdict.startNumber (now (image .entry)) (now (marks .entry)) base at ⌝ }
+    ensures { λ r. ⌜ r ≡ stepAt (now (image .entry)) (now (marks .entry)) base at ⌝ }
 {
     let mark = byte_at(marks, at);
     if !is_start(mark) {
-        return 0;
+        return Step {
+            number: 0,
+            bytes: 1,
+        };
     }
-    let decoded = decode_at(codes, image, at, mark / 2 % 2, mark / 4 % 2);
-    decoded_number(marks, base, at, decoded)
+    let framed = frame_at(codes, image, at, mark / 2 % 2, mark / 4 % 2);
+    framed_step(image, marks, base, at, framed)
 }

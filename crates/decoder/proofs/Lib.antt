@@ -1,2 +1,4 @@
 -- The laws that the proofs of the functions share.
+pub mod Frames
 pub mod Reading
+pub mod Words

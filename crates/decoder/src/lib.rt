@@ -1,19 +1,37 @@
 // The decoder: what stands at a place of an image, at given widths.
 use codepages::number_at;
+use entries::bytes_of;
+use entries::is_carried;
+use entries::rule_of;
 use entries::unpack;
 use model::code::Decoded;
 use model::code::Entry;
 use model::code::Instruction;
 use model::code::LengthRule;
 ghost use mathlib.Core.Path.{_≡_};
-ghost use Prim.Native.Nat.{_≤_, _<_};
-ghost use lib.ListN.{length, drop};
-ghost use mathlib.Core.Bool.{true};
+ghost use Prim.Native.Nat.{_+_, _-_, _%_, _^_, _≤_, _<_};
+ghost use lib.ListN.{length, take, drop};
 ghost use lib.Dec.{eqb};
 ghost use Rattle.model.specs.Choice.{pick};
 ghost use Rattle.model.specs.CodeMap.{prefixBytes, entryAt, moreBytes, lengthAt};
 ghost use Rattle.model.specs.Decode as spec;
-ghost use Rattle.codepages.specs.Packing.{numbers};
+ghost use Rattle.codepages.specs.Packing.{numbers, unpacked};
+ghost use Rattle.decoder.specs.Frame.{fitted, framed, instructionOf, Fitting};
+
+// What a code and the widths decide of an instruction, before its operand is read: the number of its entry, how many
+// prefix bytes it has, its length.
+pub struct Frame {
+    pub number: u32,
+    pub prefix: u8,
+    pub length: u8,
+}
+
+// A frame that fits into the bytes that are left; a code that is not carried; or too few bytes.
+pub enum Framed {
+    Fits(Frame),
+    Uncarried,
+    Short,
+}
 
 // A byte, where a larger number is wanted.
 fn wide(b: u8) -> u64
@@ -36,6 +54,32 @@ fn number(bytes: &[u8]) -> u64
     value
 }
 
+// Two bytes from a place on as one number, the low byte first.
+fn pair(bytes: &[u8], at: usize) -> u64
+    requires { ⌜ at + 2 ≤ length (now bytes) ⌝ }
+    ensures { λ r. ⌜ (r ≡ spec.number (take 2 (drop at (now (bytes .entry))))) × (r < 65_536) ⌝ }
+{
+    wide(bytes[at]) + 256 * wide(bytes[at + 1])
+}
+
+// Six bytes from a place on as one number. Written out, so that a processor loads them together.
+pub fn six_bytes(bytes: &[u8], at: usize) -> u64
+    requires { ⌜ at + 6 ≤ length (now bytes) ⌝ }
+    ensures { λ r. ⌜ r ≡ spec.number (take 6 (drop at (now (bytes .entry)))) ⌝ }
+{
+    let low = pair(bytes, at) + 65_536 * pair(bytes, at + 2);
+    low + 4_294_967_296 * pair(bytes, at + 4)
+}
+
+// The n low bytes of a number.
+pub fn low_bytes(value: u64, n: u8) -> u64
+    requires { ⌜ n ≤ 6 ⌝ }
+    ensures { λ r. ⌜ r ≡ value % 256 ^ n ⌝ }
+{
+    let bits = 8 * n as u32;
+    value - (value >> bits << bits)
+}
+
 // The page that a first byte leads to.
 fn page_of(first: u8) -> usize
     ensures { λ r. ⌜ r ≡ spec.pageOf first ⌝ }
@@ -50,7 +94,7 @@ fn page_of(first: u8) -> usize
 }
 
 // How many prefix bytes stand before the codes of a page.
-fn prefix_bytes(page: usize) -> usize
+fn prefix_bytes(page: usize) -> u8
     ensures { λ r. ⌜ r ≡ prefixBytes page ⌝ }
 {
     if page == 0 { 0 } else { 1 }
@@ -91,45 +135,76 @@ pub fn length_at(entry: Entry, m: u8, x: u8) -> u8
     entry.bytes + more_bytes(rule, m, x)
 }
 
-// The instruction of an entry whose code stands behind the prefix, or what is wrong with it. The caller knows the rule of the
-// code map: a carried code has more bytes than its prefix, and at most six.
-fn judge(bytes: &[u8], prefix: usize, entry: Entry, m: u8, x: u8) -> Decoded
-    requires { ⌜ (entry .carried ≡ true → (prefix < lengthAt entry m x) × (lengthAt entry m x ≤ 6)) ⌝ }
-    ensures { λ r. ⌜ r ≡ spec.judged (now (bytes .entry)) prefix entry (lengthAt entry m x) ⌝ }
+// The length of the code that a number keeps.
+fn length_of(number: u32, m: u8, x: u8) -> u8
+    ensures { λ r. ⌜ r ≡ lengthAt (unpacked number) m x ⌝ }
 {
-    let carried = entry.carried;
-    if !carried {
-        return Decoded::NotCarried;
+    bytes_of(number) + more_bytes(rule_of(number), m, x)
+}
+
+// The frame of a number whose code stands behind the prefix, where so many bytes are left.
+fn fit(left: usize, prefix: u8, number: u32, m: u8, x: u8) -> Framed
+    ensures { λ r. ⌜ r ≡ fitted left prefix number (lengthAt (unpacked number) m x) ⌝ }
+{
+    if !is_carried(number) {
+        return Framed::Uncarried;
     }
-    let length = length_at(entry, m, x);
-    let end = length as usize;
-    if bytes.len() < end {
-        return Decoded::CutOff;
+    let length = length_of(number, m, x);
+    if left < length as usize {
+        return Framed::Short;
     }
-    let from = prefix + 1;
-    let operand = number(&bytes[from..end]);
-    Decoded::Whole(Instruction {
-        entry,
+    Framed::Fits(Frame {
+        number,
+        prefix,
         length,
-        operand,
     })
 }
 
-// What the bytes begin with, at the widths m and x.
-pub fn decode(codes: &[[[u32; 16]; 16]; 3], bytes: &[u8], m: u8, x: u8) -> Decoded
+// The frame of what stands at a place of an image, at the widths m and x.
+pub fn frame_at(codes: &[[[u32; 16]; 16]; 3], image: &[u8], at: usize, m: u8, x: u8) -> Framed
     requires { ⌜ now codes ≡ numbers ⌝ }
-    ensures { λ r. ⌜ r ≡ spec.decode (now (bytes .entry)) m x ⌝ }
+    ensures { λ r. ⌜ r ≡ framed (drop at (now (image .entry))) m x ⌝ }
 {
-    if bytes.len() == 0 {
-        return Decoded::CutOff;
+    if image.len() <= at {
+        return Framed::Short;
     }
-    let page = page_of(bytes[0]);
+    let left = image.len() - at;
+    let page = page_of(image[at]);
     let prefix = prefix_bytes(page);
-    if bytes.len() <= prefix {
-        return Decoded::CutOff;
+    if left <= prefix as usize {
+        return Framed::Short;
     }
-    let entry = entry_at(codes, page, bytes[prefix]);
-    judge(bytes, prefix, entry, m, x)
+    let code = image[at + prefix as usize];
+    fit(left, prefix, number_at(codes, page, code), m, x)
+}
+
+// The operand of a frame at a place of an image: the bytes behind the code as one number.
+pub fn operand_at(image: &[u8], at: usize, frame: Frame) -> u64
+    requires { ⌜ Fitting (length (now image) - at) frame ⌝ }
+    ensures { λ r. ⌜
+        (r ≡ spec.operandOf (drop at (now (image .entry))) (frame .prefix) (frame .length)) × (r < 1_099_511_627_776)
+        ⌝ }
+{
+    let prefix = frame.prefix;
+    let length = frame.length;
+    let from = at + prefix as usize + 1;
+    if from + 6 <= image.len() {
+        return low_bytes(six_bytes(image, from), length - prefix - 1);
+    }
+    let end = at + length as usize;
+    number(&image[from..end])
+}
+
+// The instruction of a frame at a place of an image.
+fn instruction_at(image: &[u8], at: usize, frame: Frame) -> Instruction
+    requires { ⌜ Fitting (length (now image) - at) frame ⌝ }
+    ensures { λ r. ⌜ r ≡ instructionOf (drop at (now (image .entry))) frame ⌝ }
+{
+    Instruction {
+        entry: unpack(frame.number),
+        length: frame.length,
+        operand: operand_at(image, at, frame),
+    }
 }
 
 // What stands at a place of an image, at the widths m and x.
@@ -137,8 +212,17 @@ pub fn decode_at(codes: &[[[u32; 16]; 16]; 3], image: &[u8], at: usize, m: u8, x
     requires { ⌜ now codes ≡ numbers ⌝ }
     ensures { λ r. ⌜ r ≡ spec.decode (drop at (now (image .entry))) m x ⌝ }
 {
-    if image.len() < at {
-        return Decoded::CutOff;
+    match frame_at(codes, image, at, m, x) {
+        Framed::Fits(frame) => Decoded::Whole(instruction_at(image, at, frame)),
+        Framed::Uncarried => Decoded::NotCarried,
+        Framed::Short => Decoded::CutOff,
     }
-    decode(codes, &image[at..], m, x)
+}
+
+// What the bytes begin with, at the widths m and x.
+pub fn decode(codes: &[[[u32; 16]; 16]; 3], bytes: &[u8], m: u8, x: u8) -> Decoded
+    requires { ⌜ now codes ≡ numbers ⌝ }
+    ensures { λ r. ⌜ r ≡ spec.decode (now (bytes .entry)) m x ⌝ }
+{
+    decode_at(codes, bytes, 0, m, x)
 }

@@ -12,6 +12,7 @@ use model::code::Operation;
 use model::code::Target;
 use model::code::WidthEffect;
 ghost use mathlib.Core.Path.{_≡_};
+ghost use Prim.Native.Nat.{_≤_};
 ghost use lib.ListN.{getD};
 ghost use Rattle.model.specs.declared.code.Accumulator.the-variants.{Unnamed};
 ghost use Rattle.model.specs.declared.code.DataWidth.the-variants.{NoData};
@@ -250,6 +251,43 @@ fn width_at(n: u32) -> DataWidth
     }
 }
 
+// Single fields of the entry that a number keeps, for those who need not have all of it.
+pub fn is_carried(n: u32) -> bool
+    ensures { λ r. ⌜ r ≡ unpacked n .carried ⌝ }
+{
+    n / 16_384 % 2 == 1
+}
+
+pub fn flow_of(n: u32) -> Flow
+    ensures { λ r. ⌜ r ≡ unpacked n .flow ⌝ }
+{
+    flow_at(n / 32_768 % 8)
+}
+
+pub fn target_form_of(n: u32) -> Target
+    ensures { λ r. ⌜ r ≡ unpacked n .target ⌝ }
+{
+    target_at(n / 262_144 % 8)
+}
+
+pub fn effect_of(n: u32) -> WidthEffect
+    ensures { λ r. ⌜ r ≡ unpacked n .effect ⌝ }
+{
+    effect_at(n / 2_097_152 % 8)
+}
+
+pub fn bytes_of(n: u32) -> u8
+    ensures { λ r. ⌜ (r ≡ unpacked n .bytes) × (r ≤ 7) ⌝ }
+{
+    (n / 16_777_216 % 8) as u8
+}
+
+pub fn rule_of(n: u32) -> LengthRule
+    ensures { λ r. ⌜ r ≡ unpacked n .rule ⌝ }
+{
+    rule_at(n / 134_217_728 % 4)
+}
+
 // The entry that a number keeps.
 pub fn unpack(n: u32) -> Entry
     ensures { λ r. ⌜ r ≡ unpacked n ⌝ }
@@ -258,12 +296,12 @@ pub fn unpack(n: u32) -> Entry
         operation: operation_at(n % 128),
         mode: mode_at(n / 128 % 32),
         accumulator: accumulator_at(n / 4_096 % 4),
-        carried: n / 16_384 % 2 == 1,
-        flow: flow_at(n / 32_768 % 8),
-        target: target_at(n / 262_144 % 8),
-        effect: effect_at(n / 2_097_152 % 8),
-        bytes: (n / 16_777_216 % 8) as u8,
-        rule: rule_at(n / 134_217_728 % 4),
+        carried: is_carried(n),
+        flow: flow_of(n),
+        target: target_form_of(n),
+        effect: effect_of(n),
+        bytes: bytes_of(n),
+        rule: rule_of(n),
         width: width_at(n / 536_870_912),
     }
 }

@@ -1,10 +1,9 @@
 // What the check, the machine and the lists all ask of an image and its marks.
 ghost use mathlib.Core.Path.{_≡_};
 ghost use Prim.Native.Nat.{_%_};
-ghost use mathlib.Core.Bool.{_&&_};
-ghost use lib.Dec.{eqb};
 ghost use lib.ListN.{getD};
-ghost use Rattle.model.specs.Image.{bankSize, returnM, returnX, isStart, isFormed, lengthFits, baseFits, markAt, resetFits};
+ghost use Rattle.model.specs.Choice.{pick};
+ghost use Rattle.model.specs.Image.{bankSize, isStart, isFormed, lengthFits, baseFits, markAt, resetFits};
 ghost use Rattle.model.specs.Image.{inBankOf};
 ghost use Rattle.model.specs.Verdict.{badMark};
 
@@ -55,36 +54,32 @@ pub fn base_fits(base: u32, n: usize) -> bool
     low(base) + n <= BANK_SIZE as usize
 }
 
-// The return widths of a mark are both 0.
-fn returns_wide(mark: u8) -> bool
-    ensures { λ r. ⌜ r ≡ (eqb (returnM mark) 0 && eqb (returnX mark) 0) ⌝ }
+// One of two numbers. Both are at hand, so that no branch is needed.
+pub fn choose(test: bool, yes: u8, no: u8) -> u8
+    ensures { λ r. ⌜ r ≡ pick test yes no ⌝ }
 {
-    if mark / 32 % 2 == 0 {
-        return mark / 64 % 2 == 0;
-    }
-    false
+    if test { yes } else { no }
+}
+
+// 1 for a mark that is not of the form, else 0: a byte without a start is 00, bit 7 is 0, kind 3 is unused, kind 0 has
+// no return widths.
+pub fn misfit(mark: u8) -> u8
+    ensures { λ r. ⌜ r ≡ pick (isFormed mark) 0 1 ⌝ }
+{
+    let by_kind = choose(
+        mark / 8 % 4 == 0,
+        choose(mark / 32 == 0, 0, 1),
+        choose(mark / 8 % 4 == 3, 1, 0),
+    );
+    let by_bit_7 = choose(mark < 128, by_kind, 1);
+    choose(mark % 2 == 1, by_bit_7, choose(mark == 0, 0, 1))
 }
 
 // Number 4: the form of a mark.
 pub fn is_formed(mark: u8) -> bool
     ensures { λ r. ⌜ r ≡ isFormed mark ⌝ }
 {
-    if mark == 0 {
-        return true;
-    }
-    if mark % 2 == 0 {
-        return false;
-    }
-    if 128 <= mark {
-        return false;
-    }
-    if mark / 8 % 4 == 3 {
-        return false;
-    }
-    if mark / 8 % 4 == 0 {
-        return returns_wide(mark);
-    }
-    true
+    misfit(mark) == 0
 }
 
 // An instruction starts at a mark.

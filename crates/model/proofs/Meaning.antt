@@ -23,7 +23,7 @@ use Rattle.model.specs.Choice.{pick}
 use Rattle.model.specs.Image.{isStart, isFormed, lengthFits, baseFits, markAt, resetFits}
 use Rattle.model.specs.Rules.{returnFits}
 use Rattle.model.specs.Meaning.{Among, instructionAt, owedThere, StartBreaks, FormedBelow, Breaks}
-use Rattle.model.specs.Verdict.{firstFrom, unless, orElse, startAt, isClear, wantsStart, allStarts, wantsMark}
+use Rattle.model.specs.Verdict.{firstFrom, startAt, isClear, wantsStart, allStarts, wantsMark}
 use Rattle.model.specs.Verdict.{allMarks, owedNumber, wholeNumber, decodedNumber, startNumber, badMark, badStart}
 use Rattle.model.specs.Verdict.{startsVerdict, verdict}
 use Rattle.model.proofs.First.{first-is}
@@ -54,7 +54,8 @@ module _ (marks : List ℕ) (base : ℕ) where
   no-start (One w) h = (w, refl, h)
   no-start (Two v w) h = one-of-two (wantsStart marks base) v w h
 
-  other-mark : (o : Owed) → allMarks marks base o ≡ false → Failing (λ w. markAt marks base (w .address) ≡ w .mark → ⊥) o
+  other-mark : (o : Owed) → allMarks marks base o ≡ false → Failing (λ w. markAt marks base (w .address) ≡ w .mark →
+      ⊥) o
   unfolding allMarks wantsMark
   other-mark Nothing h = let z : _≡_ {A = ℕ} 0 1 = cc in absurd (omega arith)
   other-mark (One w) h = (w, refl, eqb-false (markAt marks base (w .address)) (w .mark) h)
@@ -91,29 +92,28 @@ module _ (image marks : List ℕ) (base at : ℕ) where
   whole-breaks i whole broken =
       by (isClear marks at (i .length)) (returnFits (i .entry .flow) (getD marks at 0)) (allStarts marks base o)
       (allMarks marks base o)
-      refl refl refl refl broken
+      refl refl refl refl
     where
       o : Owed
       o = owedThere image marks base at i
 
-      chain : Bool → Bool → Bool → Bool → ℕ
-      chain c r s m = orElse (unless c 7) (orElse (unless r 10) (orElse (unless s 8) (unless m 9)))
-
       by : (c r s m : Bool) → isClear marks at (i .length) ≡ c → returnFits (i .entry .flow) (getD marks at 0) ≡ r
-          → allStarts marks base o ≡ s → allMarks marks base o ≡ m → (chain c r s m ≡ 0 → ⊥)
-          → StartBreaks image marks base at (chain c r s m)
-      by false r s m ec er es em nz =
+          → allStarts marks base o ≡ s → allMarks marks base o ≡ m
+          → StartBreaks image marks base at (wholeNumber marks base at i)
+      by false r s m ec er es em =
           let f = not-clear marks at (i .length) ec in
-          StartBreaks.overlap i whole (f .0) (f .1) (f .2) (f .3)
-      by true false s m ec er es em nz = StartBreaks.return i whole (clear-all marks at (i .length) ec) er
-      by true true false m ec er es em nz =
+          simp ec (StartBreaks.overlap i whole (f .0) (f .1) (f .2) (f .3))
+      by true false s m ec er es em =
+          simp (ec, er) (StartBreaks.return i whole (clear-all marks at (i .length) ec) er)
+      by true true false m ec er es em =
           let f = no-start marks base o es in
-          StartBreaks.flow i whole (clear-all marks at (i .length) ec) er (f .0) (f .1) (f .2)
-      by true true true false ec er es em nz =
+          simp (ec, er, es) (StartBreaks.flow i whole (clear-all marks at (i .length) ec) er (f .0) (f .1) (f .2))
+      by true true true false ec er es em =
           let f = other-mark marks base o em in
-          StartBreaks.widths i whole (clear-all marks at (i .length) ec) er (every-start marks base o es) (f .0) (f
-          .1) (f .2)
-      by true true true true ec er es em nz = absurd (nz refl)
+          simp (ec, er, es, em)
+          (StartBreaks.widths i whole (clear-all marks at (i .length) ec) er (every-start marks base o es) (f .0) (f
+          .1) (f .2))
+      by true true true true ec er es em = absurd (broken (simp (ec, er, es, em) refl))
 
   start-breaks : startAt marks at ≡ true → (startNumber image marks base at ≡ 0 → ⊥)
       → StartBreaks image marks base at (startNumber image marks base at)
@@ -138,7 +138,8 @@ module _ (image marks : List ℕ) (base at : ℕ) where
 -- ---- the refusals
 
 found-at : (test : ℕ → Bool) (n : ℕ) → eqb (firstFrom test 0 n) n ≡ false
-    → (firstFrom test 0 n < n) × (test (firstFrom test 0 n) ≡ true) × ((k : ℕ) → k < firstFrom test 0 n → test k ≡ false)
+    → (firstFrom test 0 n < n) × (test (firstFrom test 0 n) ≡ true) × ((k : ℕ) → k < firstFrom test 0 n → test k ≡
+    false)
 found-at test n h =
     let f = first-is test 0 n in
     let below = below-end (firstFrom test 0 n) n (omega (arith, f .at-most)) (eqb-false (firstFrom test 0 n) n h) in
@@ -213,7 +214,8 @@ start-number-small image marks base at n (StartBreaks.widths i e c f all w a s) 
 few-marks : (image marks : List ℕ) → lengthFits (length image) (length marks) ≡ true → length marks ≤ 16_384
 few-marks image marks h = let r = right-length (length image) (length marks) h in omega (arith, r .few, r .same)
 
-breaks-small : (image marks : List ℕ) (base reset n at : ℕ) → Breaks image marks base reset n at → (n ≤ 10) × (at < 65_536)
+breaks-small : (image marks : List ℕ) (base reset n at : ℕ) → Breaks image marks base reset n at → (n ≤ 10) × (at <
+    65_536)
 breaks-small image marks base reset n at (Breaks.wrong-length l) = (omega arith, omega arith)
 breaks-small image marks base reset n at (Breaks.wrong-base l b) = (omega arith, omega arith)
 breaks-small image marks base reset n at (Breaks.wrong-mark l b at′ inside f below) =

@@ -1,5 +1,6 @@
--- The verdict is 'accepted' exactly when all rules of acceptance hold, and each number says which rule is the first that is
--- broken, and where. Each test of the verdict is turned into the rule that it tests; the tests are then taken in their order.
+-- The verdict is 'accepted' exactly when all rules of acceptance hold. Each test of the verdict is turned into the rule that it
+-- tests, and a chain of tests gives no number exactly when all of them pass, in whatever order they stand: what the order means
+-- is said in Meaning.antt.
 -- Assumes nothing.
 use mathlib.Core.Path.{_≡_, refl}
 use mathlib.Core.Logic.{_↔_}
@@ -22,20 +23,16 @@ use Rattle.model.specs.Choice.{pick}
 use Rattle.model.specs.Image.{isStart, markM, markX, isFormed, lengthFits, baseFits, markAt, resetFits}
 use Rattle.model.specs.Rules.{owedAt, returnFits, Met, AllMet, StartRules, Accepts}
 use Rattle.model.specs.Decode.{decode}
-use Rattle.model.specs.Verdict.{firstFrom, unless, orElse, startAt, isClear, wantsStart, allStarts, wantsMark}
+use Rattle.model.specs.Verdict.{firstFrom, startAt, isClear, wantsStart, allStarts, wantsMark}
 use Rattle.model.specs.Verdict.{allMarks, owedNumber, wholeNumber, decodedNumber, startNumber, badMark, badStart}
 use Rattle.model.specs.Verdict.{unformedAt, startsVerdict, verdict}
 use Rattle.model.proofs.First.{first-is, first-only}
 
 -- ---- chains of numbers
 
-no-number : (ok : Bool) (n : ℕ) → unless ok (suc n) ≡ 0 → ok ≡ true
-no-number true n h = refl
-no-number false n h = absurd (omega arith)
-
-neither : (a b : ℕ) → orElse a b ≡ 0 → (a ≡ 0) × (b ≡ 0)
-neither zero b h = (refl, h)
-neither (suc a) b h = let z : suc a ≡ 0 = rw eqb·suc-zero at h in absurd (omega arith)
+-- a number of the paper is not 0
+some-number : {n : ℕ} → suc n ≡ 0 → ⊥
+some-number h = absurd (omega arith)
 
 pub both-true : (a b : Bool) → a && b ≡ true → (a ≡ true) × (b ≡ true)
 both-true true b h = (refl, h)
@@ -43,14 +40,16 @@ both-true false b h = let z : _≡_ {A = ℕ} 0 1 = cc in absurd (omega arith)
 
 -- ---- 7: no start on the later bytes
 
-pub clear-all : (marks : List ℕ) (at n : ℕ) → isClear marks at n ≡ true → (k : ℕ) → at < k → k < at + n → startAt marks k ≡ false
+pub clear-all : (marks : List ℕ) (at n : ℕ) → isClear marks at n ≡ true → (k : ℕ) → at < k → k < at + n → startAt
+    marks k ≡ false
 unfolding isClear
 clear-all marks at n h k low high =
     let f = first-is (startAt marks) (at + 1) (n - 1) in
     let e = eqb-true (firstFrom (startAt marks) (at + 1) (n - 1)) (at + 1 + (n - 1)) h in
     f .before k (omega arith) (omega arith)
 
-all-clear : (marks : List ℕ) (at n : ℕ) → ((k : ℕ) → at < k → k < at + n → startAt marks k ≡ false) → isClear marks at n ≡ true
+all-clear : (marks : List ℕ) (at n : ℕ) → ((k : ℕ) → at < k → k < at + n → startAt marks k ≡ false) → isClear marks
+    at n ≡ true
 unfolding isClear
 all-clear marks at n h =
     eq-eqb (firstFrom (startAt marks) (at + 1) (n - 1)) (at + 1 + (n - 1))
@@ -65,7 +64,8 @@ all-clear marks at n h =
 
 -- ---- 8 and 9: the wants
 
-met-tests : (marks : List ℕ) (base : ℕ) (w : Want) → wantsStart marks base w ≡ true → wantsMark marks base w ≡ true → Met marks base w
+met-tests : (marks : List ℕ) (base : ℕ) (w : Want) → wantsStart marks base w ≡ true → wantsMark marks base w ≡ true
+    → Met marks base w
 unfolding wantsStart wantsMark
 met-tests marks base w s m = record {
   is-start = s;
@@ -80,7 +80,8 @@ met-mark : (marks : List ℕ) (base : ℕ) (w : Want) → Met marks base w → w
 unfolding wantsMark
 met-mark marks base w m = eq-eqb (markAt marks base (w .address)) (w .mark) (m .has-mark)
 
-all-met : (marks : List ℕ) (base : ℕ) (o : Owed) → allStarts marks base o ≡ true → allMarks marks base o ≡ true → AllMet marks base o
+all-met : (marks : List ℕ) (base : ℕ) (o : Owed) → allStarts marks base o ≡ true → allMarks marks base o ≡ true →
+    AllMet marks base o
 unfolding allStarts allMarks
 all-met marks base Nothing s m = tt
 all-met marks base (One w) s m = met-tests marks base w s m
@@ -91,10 +92,13 @@ all-met marks base (Two v w) s m =
 
 owed-zero : (marks : List ℕ) (base : ℕ) (o : Owed) → owedNumber marks base o ≡ 0 → AllMet marks base o
 unfolding owedNumber
-owed-zero marks base o h =
-    let numbers = neither (unless (allStarts marks base o) 8) (unless (allMarks marks base o) 9) h in
-    all-met marks base o (no-number (allStarts marks base o) 7 (numbers .0)) (no-number (allMarks marks base o) 8
-    (numbers .1))
+owed-zero marks base o h = by (allStarts marks base o) (allMarks marks base o) refl refl
+  where
+    by : (s m : Bool) → allStarts marks base o ≡ s → allMarks marks base o ≡ m → AllMet marks base o
+    by true true es em = all-met marks base o es em
+    by true false es em = absurd (some-number (simp (es, em) at h))
+    by false true es em = absurd (some-number (simp (es, em) at h))
+    by false false es em = absurd (some-number (simp (es, em) at h))
 
 zero-owed : (marks : List ℕ) (base : ℕ) (o : Owed) → AllMet marks base o → owedNumber marks base o ≡ 0
 unfolding owedNumber allStarts allMarks
@@ -117,17 +121,26 @@ module _ (image marks : List ℕ) (base at : ℕ) where
       marks base at
   unfolding wholeNumber
   whole-zero i h whole =
-      let owed = owedNumber marks base (owedAt marks base i (base + at) (getD marks at 0)) in
-      let fits = returnFits (i .entry .flow) (getD marks at 0) in
-      let first = neither (unless (isClear marks at (i .length)) 7) (orElse (unless fits 10) owed) h in
-      let second = neither (unless fits 10) owed (first .1) in
-      record {
-        instruction = i;
-        whole = whole;
-        no-overlap = clear-all marks at (i .length) (no-number (isClear marks at (i .length)) 6 (first .0));
-        returns = no-number fits 9 (second .0);
-        successors = owed-zero marks base (owedAt marks base i (base + at) (getD marks at 0)) (second .1);
-      }
+      by (isClear marks at (i .length)) (returnFits (i .entry .flow) (getD marks at 0)) (owedNumber marks base o)
+      refl refl refl
+    where
+      o : Owed
+      o = owedAt marks base i (base + at) (getD marks at 0)
+
+      by : (c r : Bool) (n : ℕ) → isClear marks at (i .length) ≡ c → returnFits (i .entry .flow) (getD marks at 0) ≡ r
+          → owedNumber marks base o ≡ n → StartRules image marks base at
+      by true true zero ec er en =
+          record {
+            instruction = i;
+            whole = whole;
+            no-overlap = clear-all marks at (i .length) ec;
+            returns = er;
+            successors = owed-zero marks base o en;
+          }
+      by true true (suc n) ec er en = absurd (some-number (simp (ec, er, en, eqb·suc-zero) at h))
+      by true false zero ec er en = absurd (some-number (simp (ec, er, en, eqb·suc-zero) at h))
+      by true false (suc n) ec er en = absurd (some-number (simp (ec, er, en, eqb·suc-zero) at h))
+      by false r n ec er en = absurd (some-number (simp ec at h))
 
   zero-whole : (r : StartRules image marks base at) → wholeNumber marks base at (r .instruction) ≡ 0
   unfolding wholeNumber

@@ -9,16 +9,20 @@ returns : tie.Need-returns
 unfolding unpacked
 returns c =
     rw (
-      c .before .before .before .before .before .before .before .operation-at .ensures,
-      c .before .before .before
-          .before .before .before .mode-at .ensures,
-      c .before .before .before .before .before .accumulator-at .ensures,
-      c
-          .before .before .before .before .flow-at .ensures,
-      c .before .before .before .target-at .ensures,
+      c .before .before .before .before .before .before .before .before .before .operation-at .ensures,
       c .before
-          .before .effect-at .ensures,
-      c .before .rule-at .ensures,
+          .before .before .before .before .before .before .before .mode-at .ensures,
+      c .before .before .before .before
+          .before .before .before .accumulator-at .ensures,
+      c .before .before .before .before .before .before .is-carried
+          .ensures,
+      c .before .before .before .before .before .flow-of .ensures,
+      c .before .before .before .before
+          .target-form-of .ensures,
+      c .before .before .before .effect-of .ensures,
+      c .before .before .bytes-of .ensures
+          .0,
+      c .before .rule-of .ensures,
       c .width-at .ensures,
     )
 
@@ -27,5 +31,5 @@ unpack-spec =
     tie.close
     (tie.spec
     (λ c κs. search needs) (λ c κs. search needs) (λ c κs. search needs) (λ c κs. search needs)
-    (λ c κs. search needs) (λ c κs. search needs) (λ c. search needs) (λ c κs. search needs)
-    (λ c κs. search needs) returns)
+    (λ c κs. search needs) (λ c κs. search needs) (λ c κs. search needs) (λ c κs. search needs)
+    (λ c κs. search needs) (λ c κs. search needs) returns)

@@ -1,4 +1,4 @@
--- Where control falls through, the target and the mark there are not among what is owed; else each part is what its function gives.
+-- In each arm the flow is known, and what it owes is made of what the functions give.
 -- Assumes nothing.
 use Rattle.model.specs.Rules.{owedAt, owedBy}
 use borrow.Author.Needs.{needs}
@@ -9,27 +9,91 @@ returns : tie.Need-returns
 unfolding owedAt owedBy
 returns c =
     rw (
-      c .before .enum-told .given .1,
-      c .want .ensures,
-      c .before .before .before .next-address .ensures,
-      c
-          .before .before .before .before .mark-after .ensures,
+      ← c .before .before .before .before .flow-of .ensures,
+      c .before .before .enum-told .given .1,
+      c .want
+          .ensures,
+      c .before .before .before .before .before .next-address .ensures,
+      c .before .mark-after-frame
+          .ensures,
     )
 
 returns-2 : tie.Need-returns-2
-unfolding owedAt
+unfolding owedAt owedBy
 returns-2 c =
     rw (
-      c .owed-by .ensures,
-      c .before .mark-at .ensures,
-      c .before .before .before .before .next-address .ensures,
-      c .before .before .before .before .before .mark-after .ensures,
-      c .before .before .target-of .ensures,
+      ← c .before .before .before .before .before .before .flow-of .ensures,
+      c .before .before .before .before
+          .enum-told2 .given .1,
+      ← c .before .before .before .before .before .before .before .next-address .ensures,
+      ← c
+          .before .before .before .mark-after-frame2 .ensures,
+      ← c .before .before .target-of-frame .ensures,
+      c .before
+          .want2 .ensures,
+      c .want3 .ensures,
     )
+
+returns-3 : tie.Need-returns-3
+unfolding owedAt owedBy
+returns-3 c =
+    rw (
+      ← c .before .before .before .before .before .flow-of .ensures,
+      c .before .before .before .enum-told3 .given
+          .1,
+      c .want4 .ensures,
+      c .before .before .mark-after-frame3 .ensures,
+      c .before .target-of-frame2 .ensures,
+    )
+
+returns-4 : tie.Need-returns-4
+unfolding owedAt owedBy
+returns-4 c =
+    rw (
+      ← c .before .before .before .before .before .flow-of .ensures,
+      c .before .before .before .kind .given .1,
+      c
+          .owed-by-call .ensures,
+      c .before .before .before .before .before .before .next-address .ensures,
+      c .before
+          .target-of-frame3 .ensures,
+    )
+
+returns-5 : tie.Need-returns-5
+unfolding owedAt owedBy
+returns-5 c = rw (← c .before .before .flow-of .ensures, c .enum-told4 .given .1)
+
+returns-6 : tie.Need-returns-6
+unfolding owedAt owedBy
+returns-6 c = rw (← c .before .before .flow-of .ensures, c .enum-told5 .given .1)
 
 pub owed-at-spec : {M : Type 1} → statement M
 owed-at-spec =
     tie.close
     (tie.spec
-    (λ c κs. search needs) (λ c κs. search needs) (λ c. search needs) (λ c κs. search needs) returns
-    (λ c κs. search needs) (λ c κs. search needs) (λ c κs. search needs) returns-2)
+    (λ c. search needs)
+    (λ c κs. search needs)
+    (λ c κs. search needs)
+    (λ c. search needs)
+    (λ c κs. search needs)
+    (λ c κs. search needs)
+    (λ c. search needs)
+    (λ c κs. search needs)
+    (λ c κs. search needs)
+    (λ c κs. search needs)
+    (λ c κs. search needs)
+    (λ c. search needs)
+    (λ c κs. search needs)
+    (λ c κs. search needs)
+    (λ c κs. search needs)
+    (λ c. search needs)
+    (λ c κs. search needs)
+    (λ c κs. search needs)
+    (λ c. search needs)
+    (λ c. search needs)
+    returns
+    returns-2
+    returns-3
+    returns-4
+    returns-5
+    returns-6)

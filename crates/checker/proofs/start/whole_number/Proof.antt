@@ -1,7 +1,7 @@
--- The first test that fails gives the number.
+-- The tests are those of the definition, in its order.
 -- Assumes nothing.
-use Rattle.model.specs.Verdict.{wholeNumber}
 use borrow.Author.Tests.{not-true, not-false}
+use Rattle.model.specs.Verdict.{wholeNumber}
 use borrow.Author.Needs.{needs}
 use Rattle.checker.proofs.start.whole_number.Statement.{statement}
 use Rattle.checker.proofs.start.whole_number.Tie as tie
@@ -14,34 +14,44 @@ returns-2 : tie.Need-returns-2
 unfolding wholeNumber
 returns-2 c =
     rw (
-      ← c .before .before .before .is-clear .ensures,
-      not-false (c .before .before .before .is-clear .result) (c
-          .before .before .if1 .left),
-      ← c .before .before .before .before .before .byte-at .ensures,
-      ← c .before
-          .return-fits .ensures,
-      not-true (c .before .return-fits .result) (c .if2 .taken),
+      ← c .before .before .before .before .is-clear .ensures,
+      not-false (c .before .before .before .before
+          .is-clear .result) (c .before .before .before .if1 .left),
+      ← c .before .before .before .before .before .byte-at
+          .ensures,
+      ← c .before .before .flow-of .ensures,
+      ← c .before .return-fits .ensures,
+      not-true (c .before
+          .return-fits .result) (c .if2 .taken),
     )
 
 returns-3 : tie.Need-returns-3
 unfolding wholeNumber
 returns-3 c =
     rw (
-      ← c .before .before .before .before .before .is-clear .ensures,
-      not-false (c .before .before .before .before
-          .before .is-clear .result) (c .before .before .before .before .if1 .left),
-      ← c .before .before .before .before
-          .before .before .before .byte-at .ensures,
+      ← c .before .before .before .before .before .before .is-clear .ensures,
+      not-false (c .before .before .before
+          .before .before .before .is-clear .result) (c .before .before .before .before .before .if1 .left),
+      ← c .before
+          .before .before .before .before .before .before .byte-at .ensures,
+      ← c .before .owed-at .ensures,
+      ← c .before
+          .before .before .before .flow-of .ensures,
       ← c .before .before .before .return-fits .ensures,
       not-false (c
           .before .before .before .return-fits .result) (c .before .before .if2 .left),
-      ← c .before .owed-at .ensures,
-    ) (c
-    .owed-number .ensures)
+    ) (c .owed-number .ensures)
 
 pub whole-number-spec : {M : Type 1} → statement M
 whole-number-spec =
     tie.close
     (tie.spec
-    (λ c κs. search needs) (λ c κs. search needs) returns (λ c κs. search needs) returns-2
-    (λ c. search needs) (λ c κs. search needs) (λ c κs. search needs) returns-3)
+    (λ c κs. search needs)
+    (λ c κs. search needs)
+    returns
+    (λ c κs. search needs)
+    (λ c κs. search needs)
+    returns-2
+    (λ c κs. search needs)
+    (λ c κs. search needs)
+    returns-3)

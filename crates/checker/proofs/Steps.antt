@@ -1,0 +1,100 @@
+-- A place that breaks no rule lets the search go on behind its instruction: no start stands on the later bytes, and a
+-- place without a start breaks no rule. A step has 1 to 6 bytes.
+-- Assumes nothing.
+use mathlib.Core.Path.{_≡_, refl}
+use mathlib.Core.Bool.{Bool, true, false}
+use mathlib.Core.List.{List}
+use Prim.Native.Nat.{ℕ, _+_, _≤_, _<_}
+use native.Mathlib.Omega.{arith}
+use borrow.Author.Tests.{ltb-true, ltb-false, ne-eqb}
+use lib.Dec.{ltb}
+use lib.ListN.{getD, drop}
+use Rattle.model.specs.declared.code.Decoded.{Decoded}
+use Rattle.model.specs.declared.code.Decoded.the-variants.{Whole, NotCarried, CutOff}
+use Rattle.model.specs.Choice.{pick}
+use Rattle.model.specs.Image.{markM, markX}
+use Rattle.model.specs.Decode.{decode}
+use Rattle.model.specs.Rules.{StartRules}
+use Rattle.model.specs.Verdict.{firstFrom, startAt, startNumber, brokenAt}
+use Rattle.model.proofs.Decode.{decodes}
+use Rattle.model.proofs.First.{Passed, one-more-passed, passed-all}
+use Rattle.model.proofs.Verdict.{start-zero}
+use Rattle.checker.specs.declared.start.Step.{Step}
+use Rattle.checker.specs.Steps.{bytesOf, bytesAt, stepAt}
+
+module _ (image marks : List ℕ) (at : ℕ) where
+  abbrev decoded-here : Decoded
+  decoded-here = decode (drop at image) (markM (getD marks at 0)) (markX (getD marks at 0))
+
+  bytes-few : (1 ≤ bytesOf decoded-here) × (bytesOf decoded-here ≤ 6)
+  bytes-few = by decoded-here refl
+    where
+      by : (d : Decoded) → decoded-here ≡ d → (1 ≤ bytesOf d) × (bytesOf d ≤ 6)
+      by (Whole i) e =
+          let d = decodes (drop at image) (markM (getD marks at 0)) (markX (getD marks at 0)) i e in (
+            d .at-least,
+            d
+                .at-most,
+          )
+      by NotCarried e = (omega arith, omega arith)
+      by CutOff e = (omega arith, omega arith)
+
+  pub step-bytes : (1 ≤ bytesAt image marks at) × (bytesAt image marks at ≤ 6)
+  unfolding bytesAt
+  step-bytes = by (startAt marks at)
+    where
+      by : (b : Bool) → (1 ≤ pick b (bytesOf decoded-here) 1) × (pick b (bytesOf decoded-here) 1 ≤ 6)
+      by true = bytes-few
+      by false = (omega arith, omega arith)
+
+module _ (image marks : List ℕ) (base at : ℕ) where
+  abbrev broken : ℕ → Bool
+  broken = brokenAt image marks base
+
+  not-broken : startNumber image marks base at ≡ 0 → broken at ≡ false
+  not-broken h = rw h refl
+
+  at-no-start : (k : ℕ) → startAt marks k ≡ false → broken k ≡ false
+  unfolding startNumber
+  at-no-start k h = rw h refl
+
+  over : StartRules image marks base at → startNumber image marks base at ≡ 0 → Passed broken 0 at
+      → Passed broken 0 (at + bytesOf (decoded-here image marks at))
+  over r h p = rw (r .whole) (omega arith, λ k low high. by k high (ltb k at) (ltb at k) refl refl)
+    where
+      by : (k : ℕ) → k < at + r .instruction .length → (a b : Bool) → ltb k at ≡ a → ltb at k ≡ b → broken k ≡ false
+      by k high true b below above = p .1 k (omega arith) (ltb-true k at below)
+      by k high false true below above = at-no-start k (r .no-overlap k (ltb-true at k above) high)
+      by k high false false below above =
+          let here : k ≡ at = omega (arith, ltb-false k at below, ltb-false at k above) in
+          rw here (not-broken h)
+
+  pub stepped : startNumber image marks base at ≡ 0 → Passed broken 0 at → Passed broken 0 (at + bytesAt image marks at)
+  unfolding bytesAt
+  stepped h p = by (startAt marks at) refl
+    where
+      by : (b : Bool) → startAt marks at ≡ b → Passed broken 0 (at + pick b (bytesOf (decoded-here image marks at)) 1)
+      by true e = over (start-zero image marks base at e h) h p
+      by false e = one-more-passed broken 0 at p (not-broken h)
+
+-- a search that went past the end has found nothing
+pub passed-past : (test : ℕ → Bool) (i n : ℕ) → Passed test 0 i → n ≤ i → n ≡ firstFrom test 0 n
+passed-past test i n p past =
+    passed-all test 0 n n (omega arith, λ k low high. p .1 k low (omega arith)) (omega arith) (omega arith)
+
+-- the fields of a step
+module _ (image marks : List ℕ) (base at : ℕ) (s : Step) (e : s ≡ stepAt image marks base at) where
+  pub step-number : s .number ≡ startNumber image marks base at
+  step-number = rw e refl
+
+  pub few-bytes : (1 ≤ s .bytes) × (s .bytes ≤ 6)
+  few-bytes = rw e (step-bytes image marks at)
+
+  -- the search goes on behind a step without a number
+  pub goes-on : s .number ≡ 0 → Passed (brokenAt image marks base) 0 at → Passed (brokenAt image marks base) 0 (at +
+      s .bytes)
+  goes-on zero-number p = rw e (stepped image marks base at (rw e at zero-number) p)
+
+  -- and ends at one with a number
+  pub ends-at : (s .number ≡ 0 → ⊥) → brokenAt image marks base at ≡ true
+  ends-at some = rw (← step-number, ne-eqb (s .number) 0 some) refl

@@ -1,0 +1,13 @@
+-- The form of the target and the operand are those of the instruction.
+-- Assumes nothing.
+use borrow.Author.Needs.{needs}
+use Rattle.checker.proofs.owed.target_of_frame.Statement.{statement}
+use Rattle.checker.proofs.owed.target_of_frame.Tie as tie
+
+returns : tie.Need-returns
+returns c =
+    rw (← c .before .before .target-form-of .ensures, ← c .before .operand-at .ensures .0) (c .target-of .ensures)
+
+pub target-of-frame-spec : {M : Type 1} → statement M
+target-of-frame-spec =
+    tie.close (tie.spec (λ c κs. search needs) (λ c κs. search needs) (λ c κs. search needs) returns)

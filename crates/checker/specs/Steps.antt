@@ -1,0 +1,31 @@
+-- The check's way over the places of an image: from a place that breaks no rule it goes on behind the instruction that
+-- is read there, since no start stands on its later bytes.
+-- Assumes nothing.
+use Prim.Native.Nat.{ℕ}
+use mathlib.Core.List.{List}
+use lib.ListN.{getD, drop}
+use Rattle.model.specs.declared.code.Decoded.{Decoded}
+use Rattle.model.specs.declared.code.Decoded.the-variants.{Whole, NotCarried, CutOff}
+use Rattle.model.specs.Choice.{pick}
+use Rattle.model.specs.Image.{markM, markX}
+use Rattle.model.specs.Decode.{decode}
+use Rattle.model.specs.Verdict.{startAt, decodedNumber, startNumber}
+use Rattle.checker.specs.declared.start.Step.{Step}
+
+-- how many bytes are stepped over
+abbrev pub bytesOf : Decoded → ℕ
+bytesOf (Whole i) = i .length
+bytesOf NotCarried = 1
+bytesOf CutOff = 1
+
+unfoldable pub bytesAt : List ℕ → List ℕ → ℕ → ℕ
+bytesAt image marks at =
+    pick (startAt marks at) (bytesOf (decode (drop at image) (markM (getD marks at 0)) (markX (getD marks at 0)))) 1
+
+-- the step of what is decoded at a place with a start
+abbrev pub decodedStep : List ℕ → ℕ → ℕ → Decoded → Step
+decodedStep marks base at d = record { number = decodedNumber marks base at d; bytes = bytesOf d }
+
+-- the step at a place
+abbrev pub stepAt : List ℕ → List ℕ → ℕ → ℕ → Step
+stepAt image marks base at = record { number = startNumber image marks base at; bytes = bytesAt image marks at }

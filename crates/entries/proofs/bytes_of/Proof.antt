@@ -1,0 +1,13 @@
+-- The field is three bits of the number.
+-- Assumes nothing.
+use Rattle.codepages.specs.Packing.{unpacked}
+use borrow.Author.Needs.{needs}
+use Rattle.entries.proofs.bytes_of.Statement.{statement}
+use Rattle.entries.proofs.bytes_of.Tie as tie
+
+returns : tie.Need-returns
+unfolding unpacked
+returns c = search needs
+
+pub bytes-of-spec : {M : Type 1} → statement M
+bytes-of-spec = tie.close (tie.spec (λ c. search needs) returns)

@@ -1,0 +1,13 @@
+-- The field is one bit of the number.
+-- Assumes nothing.
+use Rattle.codepages.specs.Packing.{unpacked}
+use borrow.Author.Needs.{needs}
+use Rattle.entries.proofs.is_carried.Statement.{statement}
+use Rattle.entries.proofs.is_carried.Tie as tie
+
+returns : tie.Need-returns
+unfolding unpacked
+returns c = search needs
+
+pub is-carried-spec : {M : Type 1} → statement M
+is-carried-spec = tie.close (tie.spec returns)
