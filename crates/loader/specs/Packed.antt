@@ -20,7 +20,8 @@ abbrev pub Fits : Verdict → Type 0
 Fits Accepted = Unit {0}
 Fits (Refused number offset) = (number ≤ 10) × (offset < 65_536)
 
--- the reader's answer: the number in bits 0 to 7; where that is 0, the base in bits 8 to 31 and the reset address in bits 32 to 55
+-- the reader's answer: the number in bits 0 to 7; where that is 0, the base in bits 8 to 31 and the reset address in
+-- bits 32 to 55
 abbrev pub packedRead : ListRead → ℕ
 packedRead (NotRead refusal) = refusalNumber refusal
 packedRead (Read h) = h .base * 256 + h .reset * 4_294_967_296

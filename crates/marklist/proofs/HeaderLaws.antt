@@ -31,7 +31,8 @@ pub small-header : (h : Header) → length (headerText h) ≤ 20
 small-header h = omega (arith, length-header h, decimal-most (h .length))
 
 -- a line that begins with the first line
-module _ (h : Header) (n : ℕ) (line rest : List ℕ) (e : n ≡ length (headerText h)) (same : line ≡ headerText h ++ rest) where
+module _ (h : Header) (n : ℕ) (line rest : List ℕ) (e : n ≡ length (headerText h)) (same : line ≡ headerText h ++
+    rest) where
   pub line-long : n ≤ length line
   line-long = omega (arith, e, simp length-append at (ap length same))
 
@@ -64,16 +65,25 @@ abbrev Got : ℕ → ℕ → ℕ → ℕ → ℕ → List ℕ → List ℕ → T
 Got radix count n close at page part =
     part ≡ (digits radix count n ++ (close ∷ [])) ++ drop (count + 1) (take (length page - at) (drop at page))
 
-module _ (h : Header) (page : List ℕ) (k : ℕ) (e : k ≡ decimalDigits (h .length)) (room : length (headerText h) ≤ length page) where
+module _ (h : Header) (page : List ℕ) (k : ℕ) (e : k ≡ decimalDigits (h .length))
+    (room : length (headerText h) ≤ length page) where
   pub header-room : 15 + k ≤ length page
   header-room = omega (arith, length-header h, e)
 
   pub letter-put : Front page 2 (0x49 ∷ tab ∷ []) (lettered page)
   letter-put =
-      record { same = two-put page 0x49 tab (omega (arith, header-room)); long = refl; room = omega (arith, header-room) }
+      record {
+        same = two-put page 0x49 tab (omega (arith, header-room));
+        long = refl;
+        room = omega (
+          arith,
+          header-room,
+        );
+      }
 
   module _ (a : List ℕ) (got-a : Got 16 6 (h .base) tab 2 (lettered page) a) where
-    pub base-put : Front page 9 ((0x49 ∷ tab ∷ []) ++ (digits 16 6 (h .base) ++ (tab ∷ []))) (put-at 2 (lettered page) a)
+    pub base-put : Front page 9 ((0x49 ∷ tab ∷ []) ++ (digits 16 6 (h .base) ++ (tab ∷ [])))
+        (put-at 2 (lettered page) a)
     base-put = front-next 7 _ a letter-put got-a (length-field 16 6 (h .base) tab) (omega (arith, header-room))
 
     module _ (b : List ℕ) (got-b : Got 10 k (h .length) tab 9 (put-at 2 (lettered page) a) b) where
@@ -84,7 +94,8 @@ module _ (h : Header) (page : List ℕ) (k : ℕ) (e : k ≡ decimalDigits (h .l
           front-at (9 + k + 1) (omega arith)
           (front-next (k + 1) _ b base-put got-b (length-field 10 k (h .length) tab) (omega (arith, header-room)))
 
-      module _ (c : List ℕ) (got-c : Got 16 4 (h .reset) lineEnd (9 + k + 1) (put-at 9 (put-at 2 (lettered page) a) b) c) where
+      module _ (c : List ℕ)
+          (got-c : Got 16 4 (h .reset) lineEnd (9 + k + 1) (put-at 9 (put-at 2 (lettered page) a) b) c) where
         -- the fields joined are the first line
         abbrev joined : List ℕ
         joined =
@@ -95,8 +106,10 @@ module _ (h : Header) (page : List ℕ) (k : ℕ) (e : k ≡ decimalDigits (h .l
         unfolding headerText
         joined-is = rw (← e) (simp append-assoc)
 
-        pub reset-put : Front page (9 + k + 1 + 5) joined (put-at (9 + k + 1) (put-at 9 (put-at 2 (lettered page) a) b) c)
-        reset-put = front-next 5 _ c length-put got-c (length-field 16 4 (h .reset) lineEnd) (omega (arith, header-room))
+        pub reset-put : Front page (9 + k + 1 + 5) joined
+            (put-at (9 + k + 1) (put-at 9 (put-at 2 (lettered page) a) b) c)
+        reset-put =
+            front-next 5 _ c length-put got-c (length-field 16 4 (h .reset) lineEnd) (omega (arith, header-room))
 
         pub header-put : put-at (9 + k + 1) (put-at 9 (put-at 2 (lettered page) a) b) c
             ≡ headerText h ++ drop (length (headerText h)) page

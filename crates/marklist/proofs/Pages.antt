@@ -1,5 +1,5 @@
--- A page that is filled from its front on: so many bytes are written, and behind them it is as given. What a part of it that was
--- lent got in front comes behind what was written before.
+-- A page that is filled from its front on: so many bytes are written, and behind them it is as given. What a part of
+-- it that was lent got in front comes behind what was written before.
 -- Assumes nothing.
 use mathlib.Core.Path.{_≡_, sym, ap, _∙_}
 use mathlib.Core.List.{List, [], _++_, append-assoc, append-nil}
@@ -14,7 +14,8 @@ pub record Front (given : List ℕ) (n : ℕ) (written page : List ℕ) : Type 0
   pub long : length written ≡ n
   pub room : n ≤ length given
 
-pub front-length : {given : List ℕ} {n : ℕ} {written page : List ℕ} → Front given n written page → length page ≡ length given
+pub front-length : {given : List ℕ} {n : ℕ} {written page : List ℕ} → Front given n written page
+    → length page ≡ length given
 front-length {given} {n} {written} {page} f =
     rw (f .same, length-append written (drop n given), length-drop n given) (omega (arith, f .long, f .room))
 
@@ -22,7 +23,8 @@ pub front-inside : {given : List ℕ} {n : ℕ} {written page : List ℕ} → Fr
 front-inside f = omega (arith, f .room, front-length f)
 
 -- the part behind the bytes that are written, put back
-put-back : (at : ℕ) (page part : List ℕ) → at ≤ length page → putMid at (length page - at) page part ≡ take at page ++ part
+put-back : (at : ℕ) (page part : List ℕ) → at ≤ length page → putMid at (length page - at) page part ≡ take at page ++
+    part
 put-back at page part inside =
     let none : drop (length page - at) (drop at page) ≡ [] =
     drop-of-length-le (drop at page) {i = length page - at} (omega (arith, length-drop at page)) in
@@ -31,7 +33,8 @@ put-back at page part inside =
 pub part-whole : (at : ℕ) (page : List ℕ) → take (length page - at) (drop at page) ≡ drop at page
 part-whole at page = take-all (length page - at) (drop at page) (omega (arith, length-drop at page))
 
-pub front-next : {given : List ℕ} {n : ℕ} {written page : List ℕ} (k : ℕ) (more part : List ℕ) → Front given n written page
+pub front-next : {given : List ℕ} {n : ℕ} {written page : List ℕ} (k : ℕ) (more part : List ℕ)
+    → Front given n written page
     → part ≡ more ++ drop k (take (length page - n) (drop n page)) → length more ≡ k → n + k ≤ length given
     → Front given (n + k) (written ++ more) (putMid n (length page - n) page part)
 front-next {given} {n} {written} {page} k more part f e long room =
@@ -46,7 +49,8 @@ front-next {given} {n} {written} {page} k more part f e long room =
     }
 
 -- what is lent of the page behind the bytes that are written is long enough for more
-pub part-room : {given : List ℕ} {n : ℕ} {written page : List ℕ} (k : ℕ) → Front given n written page → n + k ≤ length given
+pub part-room : {given : List ℕ} {n : ℕ} {written page : List ℕ} (k : ℕ) → Front given n written page
+    → n + k ≤ length given
     → k ≤ length (take (length page - n) (drop n page))
 part-room {given} {n} {written} {page} k f room =
     rw (part-whole n page) (omega (arith, length-drop n page, front-length f))

@@ -1,5 +1,5 @@
--- The reader's tests, over plain values: a text is a list when its lines end with it; the mark at the reset address is the one
--- shown behind the lines of the addresses before it; the first test that fails gives the answer.
+-- The reader's tests, over plain values: a text is a list when its lines end with it; the mark at the reset address is
+-- the one shown behind the lines of the addresses before it; the first test that fails gives the answer.
 -- Assumes nothing.
 use mathlib.Core.Path.{_≡_, refl, sym}
 use mathlib.Core.Bool.{Bool, true, false}
@@ -16,7 +16,8 @@ use Rattle.model.specs.declared.lists.Refusal.the-variants.{WrongLength, WrongB
 use Rattle.model.specs.declared.lists.ListRead.the-variants.{NotRead, Read}
 use Rattle.model.specs.Digits.{startsWith}
 use Rattle.model.specs.Image.{bankSize, inBankOf, lengthFits, baseFits, markAt, resetFits}
-use Rattle.model.specs.MarkList.{lengthLimit, headerText, headerShown, isHeader, markShown, lineSize, marksShown, linesLeft}
+use Rattle.model.specs.MarkList.{lengthLimit, headerText, headerShown, isHeader, markShown, lineSize, marksShown}
+use Rattle.model.specs.MarkList.{linesLeft}
 use Rattle.model.specs.MarkList.{linesText, leftOf, marksOf, isList, readAs, readList, marksBy, marksRead}
 use Rattle.model.proofs.Digits.{starts-long}
 use Rattle.model.proofs.Verdict.{both-true}
@@ -56,7 +57,8 @@ module _ (h : Header) (text : List ℕ) where
 
 -- the marks filled from behind the first line on, as many as the first line says
 pub all-marks : (h : Header) (text : List ℕ) (first size n : ℕ) (filled : List ℕ) → first ≡ h .base % bankSize
-    → size ≡ length (headerText h) → n ≡ h .length → filled ≡ marksShown first n (drop size text) → filled ≡ marksOf h text
+    → size ≡ length (headerText h) → n ≡ h .length → filled ≡ marksShown first n (drop size text)
+    → filled ≡ marksOf h text
 unfolding marksOf linesText
 all-marks h text first size n filled low behind long e = rw (low, behind, long) at e
 
@@ -82,7 +84,8 @@ module _ (h : Header) (text : List ℕ) (address : ℕ) (e : address ≡ inBankO
   unfolding resetFits markAt
   past-end low high = rw (← e, le-leb (h .base) address low, List·getD-eq-default (marksOf h text) 0 high)
 
-  pub at-offset : (first place mark : ℕ) → h .base ≤ address → address - h .base < h .length → first ≡ h .base % bankSize
+  pub at-offset : (first place mark : ℕ) → h .base ≤ address → address - h .base < h .length
+      → first ≡ h .base % bankSize
       → drop place text ≡ linesLeft first (address - h .base) (drop (length (headerText h)) text)
       → mark ≡ markShown (first + (address - h .base)) (drop place text)
       → eqb mark 1 ≡ resetFits (marksOf h text) (h .base) (h .reset)
@@ -124,7 +127,8 @@ module _ (text marks : List ℕ) where
         wrong-base b = rw (← shown, l, n, b)
 
         module _ (b : baseFits (h .base) (h .length) ≡ true) where
-          pub wrong-reset : resetFits (marksOf h text) (h .base) (h .reset) ≡ false → NotRead WrongReset ≡ readList text marks
+          pub wrong-reset : resetFits (marksOf h text) (h .base) (h .reset) ≡ false
+              → NotRead WrongReset ≡ readList text marks
           unfolding readList readAs
           wrong-reset r = rw (← shown, l, n, b, r)
 

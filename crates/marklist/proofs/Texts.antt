@@ -10,7 +10,8 @@ use native.Mathlib.Omega.{arith}
 use borrow.Author.Tests.{ne-eqb, eq-eqb}
 use lib.Dec.{eqb}
 use lib.ListN.{length, getD, take, drop, set, length-set}
-use lib.Seq.{drop-cons, take-suc, take-length, drop-length, drop-set-lt, getD-set-same, getD-drop, set-at, length-take-le, append-snoc}
+use lib.Seq.{drop-cons, take-suc, take-length, drop-length, drop-set-lt, getD-set-same, getD-drop, set-at}
+use lib.Seq.{length-take-le, append-snoc}
 use Rattle.model.specs.Digits.{digit, digits, digitValue, value, startsWith}
 use Rattle.model.proofs.Digits.{digit-high, length-digits, last-digit, starts-long, starts-join}
 
@@ -51,7 +52,8 @@ pub put-first : (page : List ℕ) (byte : ℕ) → 0 < length page → set page 
 put-first [] byte some = absurd (omega arith)
 put-first (b ∷ page) byte some = refl
 
-pub put-all : (bytes page now : List ℕ) (i : ℕ) → i ≤ length bytes → length bytes ≤ i → now ≡ take i bytes ++ drop i page
+pub put-all : (bytes page now : List ℕ) (i : ℕ) → i ≤ length bytes → length bytes ≤ i
+    → now ≡ take i bytes ++ drop i page
     → now ≡ bytes ++ drop (length bytes) page
 put-all bytes page now i most least e =
     let end : i ≡ length bytes = omega arith in
@@ -94,7 +96,11 @@ pub other-digit : (radix i n d : ℕ) (text : List ℕ) → 0 < i → d ≡ digi
 other-digit radix zero n d text some e other = absurd (omega arith)
 other-digit radix (suc j) n d text some e other =
     let before : suc j - 1 ≡ j = omega arith in
-    rw (starts-digit radix j n text, ne-eqb (digit (n % radix)) (getD text j 0) (λ same. other (rw (before, e) (sym same))))
+    rw (
+      starts-digit radix j n text,
+      ne-eqb (digit (n % radix)) (getD text j 0) (λ same. other (rw (before, e) (sym
+          same))),
+    )
     (and-false (startsWith (digits radix j (n / radix)) text))
 
 pub same-digit : (radix i n d : ℕ) (text : List ℕ) → 0 < i → d ≡ digit (n % radix) → getD text (i - 1) 0 ≡ d
@@ -107,7 +113,8 @@ same-digit radix (suc j) n d text some e same =
     (and-true (startsWith (digits radix j (n / radix)) text))
 
 pub put-digit : (radix i n d : ℕ) (page whole : List ℕ) → 0 < i → i ≤ length page → d ≡ digit (n % radix)
-    → digits radix i n ++ drop i page ≡ whole → digits radix (i - 1) (n / radix) ++ drop (i - 1) (set page (i - 1) d) ≡ whole
+    → digits radix i n ++ drop i page ≡ whole → digits radix (i - 1) (n / radix) ++ drop (i - 1) (set page (i - 1) d)
+    ≡ whole
 put-digit radix zero n d page whole some room e all = absurd (omega arith)
 put-digit radix (suc j) n d page whole some room e all =
     let before : suc j - 1 ≡ j = omega arith in
@@ -156,7 +163,8 @@ module _ (radix i count v : ℕ) (text : List ℕ) (two : 2 ≤ radix) (inside :
       let scaled : (v + 255) * radix ≤ 255 * radix ^ i * radix = mul-le-mul-right radix (s .1) in
       rw (add-one i) (rw (← s .0, ← e) refl, omega (arith, pow-suc radix i))
 
-pub all-shown : (radix i count v : ℕ) (text : List ℕ) → i ≤ count → count ≤ i → Shown radix text i v → v ≡ value radix count text
+pub all-shown : (radix i count v : ℕ) (text : List ℕ) → i ≤ count → count ≤ i → Shown radix text i v
+    → v ≡ value radix count text
 all-shown radix i count v text most least s =
     let end : i ≡ count = omega arith in
     rw end at (s .0)

@@ -44,7 +44,8 @@ one-more-walked text at address count place i size inside e l =
     let next : address + i + 1 ≡ address + (i + 1) = omega arith in
     let rest = drop place text in
     let within = shown-inside (address + i) rest in
-    let same = rw (left, left-step (address + i) (count - (i + 1)) rest, next, ← e, drop-drop size place text) at (l .2) in
+    let same = rw (left, left-step (address + i) (count - (i + 1)) rest, next, ← e, drop-drop size place text) at
+    (l .2) in
     (omega arith, omega (arith, within, length-drop place text, l .1, e), same)
 
 pub all-walked : (text : List ℕ) (at address count place i : ℕ) → count ≤ i → Left text at address count place i
@@ -62,7 +63,8 @@ Filled text at address given marks place i =
     × (take i marks ++ marksShown (address + i) (length given - i) (drop place text)
     ≡ marksShown address (length given) (drop at text))
 
-pub none-filled : (text : List ℕ) (at address : ℕ) (given : List ℕ) → at ≤ length text → Filled text at address given given at 0
+pub none-filled : (text : List ℕ) (at address : ℕ) (given : List ℕ) → at ≤ length text
+    → Filled text at address given given at 0
 none-filled text at address given inside =
     let all : length given - 0 ≡ length given = omega arith in
     (omega arith, inside, refl, rw (add-zero address, all))
@@ -73,7 +75,8 @@ unfolding marksShown
 marks-step address n text = refl
 
 pub one-more-filled : (text : List ℕ) (at address : ℕ) (given marks : List ℕ) (place i mark size : ℕ) → i < length marks
-    → mark ≡ markShown (address + i) (drop place text) → size ≡ lineSize mark → Filled text at address given marks place i
+    → mark ≡ markShown (address + i) (drop place text) → size ≡ lineSize mark
+    → Filled text at address given marks place i
     → Filled text at address given (set marks i mark) (place + size) (i + 1)
 one-more-filled text at address given marks place i mark size inside shown e f =
     let left : length given - i ≡ suc (length given - (i + 1)) = omega (arith, f .2) in
@@ -81,7 +84,8 @@ one-more-filled text at address given marks place i mark size inside shown e f =
     let rest = drop place text in
     let within = shown-inside (address + i) rest in
     let sized : size ≡ lineSize (markShown (address + i) rest) = rw shown at e in
-    let step = rw (next, ← sized, drop-drop size place text, ← shown) at (marks-step (address + i) (length given - (i + 1)) rest) in
+    let step = rw (next, ← sized, drop-drop size place text, ← shown) at (marks-step (address + i) (length given - (i
+    + 1)) rest) in
     let whole = rw (left, step) at (f .3) in (
       rw (length-set marks i mark) (omega arith),
       omega (arith, within, length-drop place text, f .1, sized),
@@ -100,13 +104,15 @@ all-filled text at address given marks place i past f =
 
 abbrev pub Measured : List ℕ → ℕ → ℕ → Type 0
 Measured marks size i =
-    (i ≤ length marks) × ((address : ℕ) → size ≡ length (lines address (drop i marks))) × (size + 15 * i ≤ 15 * length marks)
+    (i ≤ length marks) × ((address : ℕ) → size ≡ length (lines address (drop i marks))) × (size + 15 * i ≤ 15 * length
+    marks)
 
 pub none-measured : (marks : List ℕ) → Measured marks 0 (length marks)
 unfolding lines
 none-measured marks = (omega arith, λ address. rw (drop-length marks), omega arith)
 
-pub one-more-measured : (marks : List ℕ) (i size k : ℕ) → 0 < i → k ≡ lineSize (getD marks (i - 1) 0) → Measured marks size i
+pub one-more-measured : (marks : List ℕ) (i size k : ℕ) → 0 < i → k ≡ lineSize (getD marks (i - 1) 0)
+    → Measured marks size i
     → Measured marks (size + k) (i - 1)
 unfolding lines
 one-more-measured marks zero size k some e m = absurd (omega arith)
@@ -144,7 +150,8 @@ none-put given address marks =
 front-take : {given : List ℕ} {n : ℕ} {written page : List ℕ} → Front given n written page → take n page ≡ written
 front-take {given} {n} {written} {page} f = ap (take n) (f .same) ∙ take-at written (drop n given) n (f .long)
 
-module _ (given : List ℕ) (address : ℕ) (marks page : List ℕ) (at i : ℕ) (room : length (lines address marks) ≤ length given)
+module _ (given : List ℕ) (address : ℕ) (marks page : List ℕ) (at i : ℕ) (room : length (lines address marks) ≤ length
+    given)
     (inside : i < length marks) (p : Put given address marks page at i) where
   lines-next : lines (address + i) (drop i marks)
       ≡ lineOf (address + i) (getD marks i 0) ++ lines (address + (i + 1)) (drop (i + 1) marks)
@@ -163,12 +170,14 @@ module _ (given : List ℕ) (address : ℕ) (marks page : List ℕ) (at i : ℕ)
       → Put given address marks (putMid at (length page - at) page part) (at + size) (i + 1)
   one-more-put size part e got =
       let mark = getD marks i 0 in
-      let f = front-next size (lineOf (address + i) mark) part (p .1) got (length-line-of (address + i) mark ∙ sym e) (rw e
+      let f = front-next size (lineOf (address + i) mark) part (p .1) got (length-line-of (address + i) mark ∙ sym e)
+      (rw e
       line-fits) in
       let rest = lines (address + (i + 1)) (drop (i + 1) marks) in (
         omega arith,
         rw (front-take f) f,
-        rw (front-take f) (append-assoc (take at page) (lineOf (address + i) mark) rest ∙ ap (take at page ++_) (sym lines-next)
+        rw (front-take f) (append-assoc (take at page) (lineOf (address + i) mark) rest ∙ ap (take at page ++_) (sym
+            lines-next)
             ∙ p .2),
       )
 

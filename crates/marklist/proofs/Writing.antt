@@ -19,7 +19,8 @@ use Rattle.model.specs.MarkList.{headerText, lines, listText, writeList, pageBy
 use Rattle.marklist.proofs.Pages.{Front, front-next}
 
 module _ (marks : List ℕ) (base reset : ℕ) (page : List ℕ) where
-  pub keeps : (refusal : Refusal) → NotWritten refusal ≡ writeList marks base reset page → page ≡ pageWritten marks base reset page
+  pub keeps : (refusal : Refusal) → NotWritten refusal ≡ writeList marks base reset page
+      → page ≡ pageWritten marks base reset page
   unfolding pageWritten pageBy
   keeps refusal e = rw (← e)
 
@@ -31,7 +32,8 @@ module _ (marks : List ℕ) (base reset : ℕ) (page : List ℕ) where
   abbrev pub first-line : Header
   first-line = record { base = base; length = length marks; reset = reset }
 
-  pub wrong-length : lengthFits (length marks) (length marks) ≡ false → NotWritten WrongLength ≡ writeList marks base reset page
+  pub wrong-length : lengthFits (length marks) (length marks) ≡ false
+      → NotWritten WrongLength ≡ writeList marks base reset page
   unfolding writeList
   wrong-length n = rw n
 
@@ -41,7 +43,8 @@ module _ (marks : List ℕ) (base reset : ℕ) (page : List ℕ) where
     wrong-base b = rw (n, b)
 
     module _ (b : baseFits base (length marks) ≡ true) where
-      pub wrong-mark : eqb (badMark marks) (length marks) ≡ false → NotWritten WrongMark ≡ writeList marks base reset page
+      pub wrong-mark : eqb (badMark marks) (length marks) ≡ false
+          → NotWritten WrongMark ≡ writeList marks base reset page
       unfolding writeList
       wrong-mark m = rw (n, b, m)
 
@@ -50,7 +53,8 @@ module _ (marks : List ℕ) (base reset : ℕ) (page : List ℕ) where
         unfolding writeList
         wrong-reset r = rw (n, b, m, r)
 
-        module _ (r : resetFits marks base reset ≡ true) (size : ℕ) (s : size ≡ length (listText marks base reset)) where
+        module _ (r : resetFits marks base reset ≡ true) (size : ℕ)
+            (s : size ≡ length (listText marks base reset)) where
           pub short-page : length page < size → NotWritten ShortPage ≡ writeList marks base reset page
           unfolding writeList
           short-page short = rw (n, b, m, r, ← s, lt-leb size (length page) short)
@@ -65,10 +69,16 @@ module _ (marks : List ℕ) (base reset : ℕ) (page : List ℕ) where
     pub list-size : first + count ≡ length (listText marks base reset)
     unfolding listText
     list-size =
-        rw (length-append (headerText first-line) (lines (base % bankSize) marks)) (omega (arith, f, l (base % bankSize)))
+        rw (length-append (headerText first-line) (lines (base % bankSize) marks)) (omega (
+          arith,
+          f,
+          l (base %
+              bankSize),
+        ))
 
     pub header-front : first + count ≤ length page → {now : List ℕ}
-        → now ≡ headerText first-line ++ drop (length (headerText first-line)) page → Front page first (headerText first-line) now
+        → now ≡ headerText first-line ++ drop (length (headerText first-line)) page
+        → Front page first (headerText first-line) now
     header-front room e = record { same = rw (← f) at e; long = sym f; room = omega (arith, room) }
 
     pub list-put : (low : ℕ) → low ≡ base % bankSize → first + count ≤ length page → {now : List ℕ} (part : List ℕ)

@@ -55,7 +55,8 @@ pub(crate) fn header_size(h: Header) -> usize
 // Writes a field at the front of a page: a number's digits, and the byte that closes it.
 fn put_field(page: &mut [u8], radix: u32, count: usize, n: u32, close: u8)
     requires { ⌜ (0 < radix) × (radix ≤ 16) × (count + 1 ≤ length (now page)) ⌝ }
-    ensures { λ _. ⌜ now (page .exit) ≡ (digits radix count n ++ (close ∷ [])) ++ drop (count + 1) (now (page .entry)) ⌝ }
+    ensures { λ _. ⌜ now (page .exit)
+        ≡ (digits radix count n ++ (close ∷ [])) ++ drop (count + 1) (now (page .entry)) ⌝ }
 {
     put_digits(page, radix, count, n);
     put_byte(&mut page[count..], close);

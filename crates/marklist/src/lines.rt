@@ -67,7 +67,8 @@ pub(crate) fn line_size(mark: u8) -> usize
 // Writes the line of a mark at the front of a page, nothing for no start, and returns its length.
 pub(crate) fn put_line(page: &mut [u8], address: u32, mark: u8) -> usize
     requires { ⌜ spec.lineSize mark ≤ length (now page) ⌝ }
-    ensures { λ r. ⌜ (r ≡ spec.lineSize mark) × (now (page .exit) ≡ spec.lineOf address mark ++ drop r (now (page .entry))) ⌝ }
+    ensures { λ r. ⌜ (r ≡ spec.lineSize mark)
+        × (now (page .exit) ≡ spec.lineOf address mark ++ drop r (now (page .entry))) ⌝ }
 {
     if !is_start(mark) {
         return 0;

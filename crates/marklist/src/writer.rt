@@ -33,9 +33,11 @@ fn lines_size(marks: &[u8]) -> usize
 
 // Writes the lines of marks at the front of a page, each into the rest of it.
 fn put_lines(page: &mut [u8], address: u32, marks: &[u8])
-    requires { ⌜ (length (spec.lines address (now marks)) ≤ length (now page)) × (address + length (now marks) < 4_294_967_296) ⌝ }
+    requires { ⌜ (length (spec.lines address (now marks)) ≤ length (now page))
+        × (address + length (now marks) < 4_294_967_296) ⌝ }
     ensures { λ _. ⌜ now (page .exit)
-        ≡ spec.lines address (now (marks .entry)) ++ drop (length (spec.lines address (now (marks .entry)))) (now (page .entry)) ⌝ }
+        ≡ spec.lines address (now (marks .entry))
+        ++ drop (length (spec.lines address (now (marks .entry)))) (now (page .entry)) ⌝ }
 {
     let mut at = 0;
     let mut i = 0;

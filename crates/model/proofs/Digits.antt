@@ -1,11 +1,12 @@
--- Digits and their value, both ways, for any radix and any count: one more digit at the end is one more step of the value. Then
--- the laws of a text that begins with given bytes.
+-- Digits and their value, both ways, for any radix and any count: one more digit at the end is one more step of the
+-- value. Then the laws of a text that begins with given bytes.
 -- Assumes nothing.
 use mathlib.Core.Path.{_≡_, refl, ap, _∙_}
 use mathlib.Core.Bool.{Bool, true, false, _&&_}
 use mathlib.Core.List.{List, [], _∷_, _++_, append-assoc}
 use Prim.Native.Nat.{ℕ, zero, suc, _+_, _*_, _/_, _%_, _^_, _≤_, _<_}
-use native.Mathlib.Nat.{pow-zero, pow-suc, div-lt-iff-lt-mul, div-add-mod', mul-add-div-right, mul-add-mod-self-right, mod-eq-of-lt}
+use native.Mathlib.Nat.{pow-zero, pow-suc, div-lt-iff-lt-mul, div-add-mod', mul-add-div-right, mul-add-mod-self-right}
+use native.Mathlib.Nat.{mod-eq-of-lt}
 use native.Mathlib.Nat.{div-eq-of-lt}
 use native.Mathlib.Omega.{arith}
 use borrow.Author.Tests.{ltb-true, ltb-false, lt-ltb, le-ltb, eqb-true, eq-eqb}
@@ -66,7 +67,8 @@ pub record IsDigit (radix byte : ℕ) : Type 0 where
 
 -- the digits of what digits show are those digits
 pub digits-value : (radix count : ℕ) (text : List ℕ) → count ≤ length text
-    → ((i : ℕ) → i < count → IsDigit radix (getD text i 0)) → digits radix count (value radix count text) ≡ take count text
+    → ((i : ℕ) → i < count → IsDigit radix (getD text i 0)) → digits radix count (value radix count text) ≡ take count
+    text
 unfolding digits value
 digits-value radix zero text long all = refl
 digits-value radix (suc count) text long all =
@@ -74,7 +76,8 @@ digits-value radix (suc count) text long all =
     let some : 0 < radix = omega (arith, last .small) in
     let d = digitValue (getD text count 0) in
     let v = value radix count text in
-    let quotient : (v * radix + d) / radix ≡ v = mul-add-div-right some v d ∙ rw (div-eq-of-lt (last .small)) (omega arith) in
+    let quotient : (v * radix + d) / radix ≡ v = mul-add-div-right some v d ∙ rw (div-eq-of-lt (last .small)) (omega
+    arith) in
     let remainder : (v * radix + d) % radix ≡ d = mul-add-mod-self-right v radix d ∙ mod-eq-of-lt (last .small) in
     rw (
       quotient,

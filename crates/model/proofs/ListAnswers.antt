@@ -15,7 +15,8 @@ use Rattle.model.specs.declared.lists.Refusal.the-variants.{WrongMark, N
 use Rattle.model.specs.declared.lists.ListRead.the-variants.{NotRead, Read}
 use Rattle.model.specs.declared.lists.ListWritten.the-variants.{NotWritten, Written}
 use Rattle.model.specs.Choice.{pick}
-use Rattle.model.specs.Image.{imageLimit, bankSize, addressLimit, inBankOf, lengthFits, baseFits, markAt, resetFits}
+use Rattle.model.specs.Image.{imageLimit, bankSize, addressLimit, inBankOf, lengthFits, baseFits, markAt}
+use Rattle.model.specs.Image.{resetFits}
 use Rattle.model.specs.Verdict.{badMark}
 use Rattle.model.specs.MarkList.{listText, headerShown, linesText}
 use Rattle.model.specs.MarkList.{marksOf, isList, readAs, readList, writeList}
@@ -88,7 +89,8 @@ written-as marks base reset n page e =
     by false b c d r ea eb ec ed er e = let z : _≡_ {A = ℕ} 0 1 = cc in absurd (omega arith)
 
 -- a reset address with the required start lies in the bank
-pub reset-below : (marks : List ℕ) (base reset : ℕ) → baseFits base (length marks) ≡ true → resetFits marks base reset ≡ true
+pub reset-below : (marks : List ℕ) (base reset : ℕ) → baseFits base (length marks) ≡ true
+    → resetFits marks base reset ≡ true
     → reset < bankSize
 unfolding baseFits resetFits markAt
 reset-below marks base reset fits started =
@@ -97,7 +99,8 @@ reset-below marks base reset fits started =
     by (leb base (inBankOf base reset)) (leb (length marks) (inBankOf base reset - base)) refl refl started end
   where
     by : (a b : Bool) → leb base (inBankOf base reset) ≡ a → leb (length marks) (inBankOf base reset - base) ≡ b
-        → eqb (pick a (getD marks (inBankOf base reset - base) 0) 0) 1 ≡ true → base % bankSize + length marks ≤ bankSize
+        → eqb (pick a (getD marks (inBankOf base reset - base) 0) 0) 1 ≡ true
+        → base % bankSize + length marks ≤ bankSize
         → reset < bankSize
     by true false ea eb e end =
         omega (
@@ -113,7 +116,8 @@ reset-below marks base reset fits started =
 
 -- ---- how small the answers are
 
-pub read-small : (text marks : List ℕ) (h : Header) → readList text marks ≡ Read h → (h .base < addressLimit) × (h .reset < bankSize)
+pub read-small : (text marks : List ℕ) (h : Header) → readList text marks ≡ Read h
+    → (h .base < addressLimit) × (h .reset < bankSize)
 unfolding readList
 read-small text marks h e =
     let p = passes (headerShown text) h text (length marks) e in

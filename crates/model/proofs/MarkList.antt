@@ -1,6 +1,6 @@
--- The parts of a list, each way. A text is the lines of the marks that it shows and what is left of it; and the lines of marks
--- show these marks again and leave nothing, since a line of a later address shows nothing for an earlier one: its first four
--- digits are another number. A first line shows the fields that it was made of.
+-- The parts of a list, each way. A text is the lines of the marks that it shows and what is left of it; and the lines
+-- of marks show these marks again and leave nothing, since a line of a later address shows nothing for an earlier one:
+-- its first four digits are another number. A first line shows the fields that it was made of.
 -- Assumes nothing.
 use mathlib.Core.Path.{_≡_, refl, sym, ap, _∙_}
 use mathlib.Core.Bool.{Bool, true, false, not, _&&_, _||_}
@@ -80,7 +80,8 @@ line-at address text h =
     let shown = both-true (startsWith (fields mark) (drop 4 text)) (isFormed mark) (outer .1) in
     record {
       inside = ltb-true address bankSize (place .0);
-      begins = rw (starts-join (digits 16 4 address) (fields mark) text, length-digits 16 4 address, place .1) (shown .0);
+      begins = rw (starts-join (digits 16 4 address) (fields mark) text, length-digits 16 4 address, place .1)
+          (shown .0);
       formed = shown .1;
     }
 
@@ -93,7 +94,8 @@ unfolding markShown lineOf lineSize
 shown-line address text = by (isLine address text) refl
   where
     by : (b : Bool) → isLine address text ≡ b
-        → text ≡ lineOf address (pick b (fieldsMark (drop 4 text)) 0) ++ drop (lineSize (pick b (fieldsMark (drop 4 text)) 0)) text
+        → text ≡ lineOf address (pick b (fieldsMark (drop 4 text)) 0) ++ drop (lineSize (pick b (fieldsMark (drop 4
+        text)) 0)) text
     by false h = refl
     by true h =
         let mark = fieldsMark (drop 4 text) in
@@ -114,7 +116,8 @@ length-shown address zero text = refl
 length-shown address (suc n) text =
     ap suc (length-shown (address + 1) n (drop (lineSize (markShown address text)) text))
 
-pub all-formed : (address n : ℕ) (text : List ℕ) (k : ℕ) → k < n → isFormed (getD (marksShown address n text) k 0) ≡ true
+pub all-formed : (address n : ℕ) (text : List ℕ) (k : ℕ) → k < n
+    → isFormed (getD (marksShown address n text) k 0) ≡ true
 unfolding marksShown
 all-formed address zero text k inside = absurd (omega arith)
 all-formed address (suc n) text zero inside = shown-formed address text
@@ -122,14 +125,16 @@ all-formed address (suc n) text (suc k) inside =
     all-formed (address + 1) n (drop (lineSize (markShown address text)) text) k (omega arith)
 
 -- a text is the lines of the marks that it shows and what is left
-pub shown-lines : (address n : ℕ) (text : List ℕ) → text ≡ lines address (marksShown address n text) ++ linesLeft address n text
+pub shown-lines : (address n : ℕ) (text : List ℕ) → text ≡ lines address (marksShown address n text) ++ linesLeft
+    address n text
 unfolding marksShown linesLeft lines
 shown-lines address zero text = refl
 shown-lines address (suc n) text =
     let mark = markShown address text in
     let rest = drop (lineSize mark) text in
     shown-line address text ∙ ap (lineOf address mark ++_) (shown-lines (address + 1) n rest)
-    ∙ sym (append-assoc (lineOf address mark) (lines (address + 1) (marksShown (address + 1) n rest)) (linesLeft (address +
+    ∙ sym (append-assoc (lineOf address mark) (lines (address + 1) (marksShown (address + 1) n rest)) (linesLeft
+    (address +
     1) n rest))
 
 -- ---- the lines of marks, shown again
@@ -195,7 +200,12 @@ no-line address = by (isLine address []) refl
     by false h = refl
     by true h =
         let mark = fieldsMark [] in
-        absurd (omega (arith, length-line address mark, starts-long (line address mark) [] (line-at address [] h .begins)))
+        absurd (omega (
+          arith,
+          length-line address mark,
+          starts-long (line address mark) [] (line-at address []
+              h .begins),
+        ))
 
 -- the lines of later addresses show nothing for an address
 later-lines : (address later : ℕ) (marks : List ℕ) → address < later → later + length marks ≤ bankSize
@@ -211,12 +221,14 @@ later-lines address later (mark ∷ marks) before inside =
     by false h = h
 
 -- a line shows its mark for its address
-own-line : (address mark : ℕ) (rest : List ℕ) → address < bankSize → isStart mark ≡ true → mark < 128 → isFormed mark ≡ true
+own-line : (address mark : ℕ) (rest : List ℕ) → address < bankSize → isStart mark ≡ true → mark < 128
+    → isFormed mark ≡ true
     → markShown address (line address mark ++ rest) ≡ mark
 unfolding markShown isLine line
 own-line address mark rest inside started small formed =
     let fit = append-assoc (digits 16 4 address) (fields mark) rest in
-    let behind : drop 4 (digits 16 4 address ++ (fields mark ++ rest)) ≡ fields mark ++ rest = drop-at (digits 16 4 address) (fields mark ++ rest) 4 (length-digits 16 4 address) in
+    let behind : drop 4 (digits 16 4 address ++ (fields mark ++ rest)) ≡ fields mark ++ rest = drop-at (digits 16 4
+    address) (fields mark ++ rest) 4 (length-digits 16 4 address) in
     rw (
       fit,
       behind,
@@ -248,7 +260,8 @@ unfolding marksShown linesLeft lines
 lines-again address [] inside formed = (refl, refl)
 lines-again address (mark ∷ marks) inside formed =
     let first = first-again address mark marks inside (formed 0 (omega arith)) in
-    let behind = drop-at (lineOf address mark) (lines (address + 1) marks) (lineSize mark) (length-line-of address mark) in
+    let behind = drop-at (lineOf address mark) (lines (address + 1) marks) (lineSize mark) (length-line-of address
+    mark) in
     let rest = lines-again (address + 1) marks (omega arith) (λ k h. formed (suc k) (omega arith)) in
     (rw (first, behind, rest .0), ap (linesLeft (address + 1) (length marks)) (rw first behind) ∙ rest .1)
 
@@ -292,9 +305,11 @@ digits-high radix (suc count) n i inside = by (eq-or-lt-of-le (le-of-suc-le-suc 
     front : List ℕ
     front = digits radix count (n / radix)
 
-    by : (i ≡ count) ⊎ (i < count) → (i < count → 0x30 ≤ getD front i 0) → 0x30 ≤ getD (front ++ (digit (n % radix) ∷ [])) i 0
+    by : (i ≡ count) ⊎ (i < count) → (i < count → 0x30 ≤ getD front i 0)
+        → 0x30 ≤ getD (front ++ (digit (n % radix) ∷ [])) i 0
     by (inl e) earlier =
-        rw (e, getD-at front (digit (n % radix)) [] 0 count (length-digits radix count (n / radix))) (digit-high (n % radix))
+        rw (e, getD-at front (digit (n % radix)) [] 0 count (length-digits radix count (n / radix))) (digit-high (n %
+        radix))
     by (inr below) earlier =
         rw (List·getD-append front (digit (n % radix) ∷ []) 0 i (omega (arith, length-digits radix count (n / radix))))
         (earlier below)
@@ -305,7 +320,8 @@ first-tab : (count n : ℕ) (rest : List ℕ) → count ≤ lengthDigits
 first-tab count n rest few =
     let text = digits 10 count n ++ (tab ∷ rest) in
     let here = getD-at (digits 10 count n) tab rest 0 count (length-digits 10 count n) in
-    first-only (tabAt text) 0 lengthDigits (firstFrom (tabAt text) 0 lengthDigits) count (first-is (tabAt text) 0 lengthDigits)
+    first-only (tabAt text) 0 lengthDigits (firstFrom (tabAt text) 0 lengthDigits) count (first-is (tabAt text) 0
+    lengthDigits)
     (record {
       at-most = omega arith;
       at-least = omega arith;

@@ -1,5 +1,6 @@
--- Reading and writing undo one another. What the reader takes is the text of the first line and the marks that it shows, so the
--- writer writes that text again; and the text of marks that the writer takes shows its first line and its marks.
+-- Reading and writing undo one another. What the reader takes is the text of the first line and the marks that it
+-- shows, so the writer writes that text again; and the text of marks that the writer takes shows its first line and
+-- its marks.
 -- Assumes nothing.
 use mathlib.Core.Path.{_≡_, refl, sym, ap, _∙_}
 use mathlib.Core.Bool.{true}
@@ -16,8 +17,10 @@ use Rattle.model.specs.declared.lists.ListWritten.the-variants.{Written}
 use Rattle.model.specs.Digits.{startsWith}
 use Rattle.model.specs.Image.{bankSize, addressLimit, isFormed, baseFits}
 use Rattle.model.specs.Verdict.{firstFrom, badMark, unformedAt}
-use Rattle.model.specs.MarkList.{lengthLimit, headerText, lines, listText, headerShown, isHeader, linesLeft, linesText, leftOf}
-use Rattle.model.specs.MarkList.{marksShown, marksOf, isList, readAs, readList, marksBy, marksRead, writeList, pageBy}
+use Rattle.model.specs.MarkList.{lengthLimit, headerText, lines, listText, headerShown, isHeader, linesLeft}
+use Rattle.model.specs.MarkList.{linesText, leftOf}
+use Rattle.model.specs.MarkList.{marksShown, marksOf, isList, readAs, readList, marksBy, marksRead, writeList}
+use Rattle.model.specs.MarkList.{pageBy}
 use Rattle.model.specs.MarkList.{pageWritten}
 use Rattle.model.proofs.First.{passed-all}
 use Rattle.model.proofs.Image.{right-length, base-below}
@@ -31,7 +34,8 @@ nothing : (l : List ℕ) → eqb (length l) 0 ≡ true → l ≡ []
 nothing [] h = refl
 nothing (b ∷ l) h = absurd (omega (arith, eqb-true (length (b ∷ l)) 0 h))
 
-lines-and-left : (h : Header) (text : List ℕ) → linesText h text ≡ lines (h .base % bankSize) (marksOf h text) ++ leftOf h text
+lines-and-left : (h : Header) (text : List ℕ) → linesText h text ≡ lines (h .base % bankSize) (marksOf h text) ++
+    leftOf h text
 unfolding marksOf leftOf
 lines-and-left h text = shown-lines (h .base % bankSize) (h .length) (linesText h text)
 
@@ -55,11 +59,13 @@ formed-marks h text =
     let long = length-marks-of h text in
     eq-eqb (firstFrom (unformedAt marks) 0 (length marks)) (length marks)
     (sym (passed-all (unformedAt marks) 0 (length marks) (length marks)
-    (omega arith, λ k low high. rw (all-formed first (h .length) (linesText h text) k (omega arith))) (omega arith) (omega
+    (omega arith, λ k low high. rw (all-formed first (h .length) (linesText h text) k (omega arith))) (omega arith)
+    (omega
     arith)))
 
 -- 01: 'a list that was read is written as the same text', into any page that is long enough
-pub read-then-written : (text marks page : List ℕ) (h : Header) → readList text marks ≡ Read h → length text ≤ length page
+pub read-then-written : (text marks page : List ℕ) (h : Header) → readList text marks ≡ Read h
+    → length text ≤ length page
     → (writeList (marksRead text marks) (h .base) (h .reset) page ≡ Written (length text))
     × (pageWritten (marksRead text marks) (h .base) (h .reset) page ≡ text ++ drop (length text) page)
 unfolding readList marksRead marksBy pageWritten pageBy writeList
@@ -104,7 +110,8 @@ module _ (marks : List ℕ) (base reset n : ℕ) (page : List ℕ) (w : Written-
   shows-marks =
       let bank = both-true (ltb base addressLimit) (leb (base % bankSize + length marks) bankSize) (w .based) .1 in
       lines-again (base % bankSize) marks (leb-true (base % bankSize + length marks) bankSize bank)
-      (λ k inside. not-false (isFormed (getD marks k 0)) (none-found (unformedAt marks) (length marks) (w .formed) k inside))
+      (λ k inside. not-false (isFormed (getD marks k 0)) (none-found (unformedAt marks) (length marks) (w .formed) k
+      inside))
 
   read-again : (lent : ℕ) → lent ≡ length marks → readAs first-line (listText marks base reset) lent ≡ Read first-line
   unfolding readAs isList isHeader marksOf leftOf listText

@@ -1,4 +1,5 @@
--- Numbers as digits in any radix, and texts that begin with given bytes: what the fields of 01's 'The mark list' are made of.
+-- Numbers as digits in any radix, and texts that begin with given bytes: what the fields of 01's 'The mark list' are
+-- made of.
 -- Assumes nothing.
 use Prim.Native.Nat.{ℕ, zero, suc, _+_, _-_, _*_, _/_, _%_}
 use mathlib.Core.Bool.{Bool, true, false, _&&_}

@@ -1,5 +1,5 @@
--- 01, 'The mark list': the text of a list, what a text shows, and the answers of the reader and the writer, with the numbers in
--- the order of 'Numbers': 'Reader: 14, 1, 2, 3. Writer: 1, 2, 4, 3, 15.'
+-- 01, 'The mark list': the text of a list, what a text shows, and the answers of the reader and the writer, with the
+-- numbers in the order of 'Numbers': 'Reader: 14, 1, 2, 3. Writer: 1, 2, 4, 3, 15.'
 -- Assumes nothing.
 use Prim.Native.Nat.{ℕ, zero, suc, _+_, _%_}
 use mathlib.Core.Bool.{Bool, _&&_}
@@ -111,8 +111,8 @@ fieldsMark text =
     markOf (bitShown (getD text 1 0)) (bitShown (getD text 3 0)) (kindShown (getD text 5 0)) (bitShown (getD text 7 0))
     (bitShown (getD text 9 0))
 
--- a text begins with the line of a start at an address: with the text of the mark that it shows, which is in form ('under N the
--- last two are 0'). No address is above FFFF ('without wrap').
+-- a text begins with the line of a start at an address: with the text of the mark that it shows, which is in form
+-- ('under N the last two are 0'). No address is above FFFF ('without wrap').
 unfoldable pub isLine : ℕ → List ℕ → Bool
 isLine address text =
     ltb address bankSize && startsWith (digits 16 4 address) text
@@ -126,7 +126,8 @@ markShown address text = pick (isLine address text) (fieldsMark (drop 4 text)) 0
 unfoldable pub lineSize : ℕ → ℕ
 lineSize mark = pick (isStart mark) 15 0
 
--- the marks that a text shows for so many addresses in turn, each line taken at its address, and what is left of the text then
+-- the marks that a text shows for so many addresses in turn, each line taken at its address, and what is left of the
+-- text then
 unfoldable pub marksShown : ℕ → ℕ → List ℕ → List ℕ
 marksShown address zero text = []
 marksShown address (suc n) text =
@@ -148,7 +149,8 @@ marksOf h text = marksShown (h .base % bankSize) (h .length) (linesText h text)
 unfoldable pub leftOf : Header → List ℕ → List ℕ
 leftOf h text = linesLeft (h .base % bankSize) (h .length) (linesText h text)
 
--- 14: 'text is not a mark list' unless the first line is in form and the addresses in turn take all lines, so that nothing is left
+-- 14: 'text is not a mark list' unless the first line is in form and the addresses in turn take all lines, so that
+-- nothing is left
 unfoldable pub isList : Header → List ℕ → Bool
 isList h text = isHeader h text && eqb (length (leftOf h text)) 0
 

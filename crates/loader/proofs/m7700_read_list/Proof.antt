@@ -8,10 +8,15 @@ use Rattle.loader.proofs.m7700_read_list.Statement.{statement}
 use Rattle.loader.proofs.m7700_read_list.Tie as tie
 
 pack-read-requires : tie.Need-pack-read-requires
-pack-read-requires c κs = rw (c .before .before .read-list .ensures .0) (read-fits (c .before .before .before .before .before .before .args .text .now) (c .before .before .before .before .before .before .args .marks .now))
+pack-read-requires c κs = rw (c .before .before .read-list .ensures .0) (read-fits
+    (c .before .before .before .before .before .before .args .text .now)
+    (c .before .before .before .before .before .before .args .marks .now))
 
 returns : tie.Need-returns
-returns c = (c .pack-read .ensures ∙ ap packedRead (c .before .before .before .read-list .ensures .0), c .before .before .before .read-list .ensures .1)
+returns c = (
+  c .pack-read .ensures ∙ ap packedRead (c .before .before .before .read-list .ensures .0),
+  c .before .before .before .read-list .ensures .1,
+)
 
 pub m7700-read-list-spec : {M : Type 1} → statement M
 m7700-read-list-spec = tie.close (tie.spec (λ c κs. search needs) pack-read-requires (λ c. search needs) returns)

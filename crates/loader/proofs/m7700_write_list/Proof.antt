@@ -8,10 +8,17 @@ use Rattle.loader.proofs.m7700_write_list.Statement.{statement}
 use Rattle.loader.proofs.m7700_write_list.Tie as tie
 
 pack-written-requires : tie.Need-pack-written-requires
-pack-written-requires c κs = rw (c .before .before .write-list .ensures .0) (written-fits (c .before .before .before .before .before .before .args .marks .now) (c .before .before .before .before .before .before .args .base) (c .before .before .before .before .before .before .args .reset) (c .before .before .before .before .before .before .args .page .now))
+pack-written-requires c κs = rw (c .before .before .write-list .ensures .0) (written-fits
+    (c .before .before .before .before .before .before .args .marks .now)
+    (c .before .before .before .before .before .before .args .base)
+    (c .before .before .before .before .before .before .args .reset)
+    (c .before .before .before .before .before .before .args .page .now))
 
 returns : tie.Need-returns
-returns c = (c .pack-written .ensures ∙ ap packedWritten (c .before .before .before .write-list .ensures .0), c .before .before .before .write-list .ensures .1)
+returns c = (
+  c .pack-written .ensures ∙ ap packedWritten (c .before .before .before .write-list .ensures .0),
+  c .before .before .before .write-list .ensures .1,
+)
 
 pub m7700-write-list-spec : {M : Type 1} → statement M
 m7700-write-list-spec = tie.close (tie.spec (λ c κs. search needs) pack-written-requires (λ c. search needs) returns)

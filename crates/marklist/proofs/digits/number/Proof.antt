@@ -16,23 +16,54 @@ abbrev μ-loop : tie.MeasureT-loop
 μ-loop text at radix count value₀ i₀ value i = count - i
 
 loop-holds : tie.Need-loop-holds Inv-loop μ-loop
-loop-holds c = (search needs, none-shown (c .before .args .radix) (drop (c .before .args .at) (c .before .args .text .now)))
+loop-holds c =
+    let start = c .before in
+    (search needs, none-shown (start .args .radix) (drop (start .args .at) (start .args .text .now)))
 
 mul-value : tie.Need-mul-value Inv-loop μ-loop
-mul-value c = omega (arith, room-for-one (c .before .before .before .args .radix) (c .before .loop .i) (c .before .before .before .args .count) (c .before .loop .value) (drop (c .before .before .before .args .at) (c .before .before .before .args .text .now)) (c .before .before .before .pre .1) (c .loop-test .taken) (c .before .before .before .pre .2) (c .before .loop .inv .1))
+mul-value c =
+    let start = c .before .before .before in
+    let loop = c .before .loop in
+    omega (
+      arith,
+      room-for-one (start .args .radix) (loop .i) (start .args .count) (loop .value) (drop
+          (start .args .at) (start .args .text .now)) (start .pre .1) (c .loop-test .taken) (start .pre .2)
+          (loop .inv .1),
+    )
 
 add-value : tie.Need-add-value Inv-loop μ-loop
-add-value c = omega (arith, room-for-one (c .before .before .before .before .before .args .radix) (c .before .before .before .loop .i) (c .before .before .before .before .before .args .count) (c .before .before .before .loop .value) (drop (c .before .before .before .before .before .args .at) (c .before .before .before .before .before .args .text .now)) (c .before .before .before .before .before .pre .1) (c .before .before .loop-test .taken) (c .before .before .before .before .before .pre .2) (c .before .before .before .loop .inv .1))
+add-value c =
+    let start = c .before .before .before .before .before in
+    let loop = c .before .before .before .loop in
+    omega (
+      arith,
+      room-for-one (start .args .radix) (loop .i) (start .args .count) (loop .value) (drop
+          (start .args .at) (start .args .text .now)) (start .pre .1) (c .before .before .loop-test .taken)
+          (start .pre .2)
+          (loop .inv .1),
+    )
 
 loop-again : tie.Need-loop-again Inv-loop μ-loop
-loop-again c = (
-  omega arith,
-  one-more-shown (c .before .before .before .before .before .args .radix) (c .before .before .before .loop .i) (c .before .before .before .before .before .args .count) (c .before .before .before .loop .value) (drop (c .before .before .before .before .before .args .at) (c .before .before .before .before .before .args .text .now)) (c .before .before .before .before .before .pre .1) (c .before .before .loop-test .taken) (c .before .before .before .before .before .pre .2) (c .before .before .before .loop .inv .1) (c .digit-value .result)
-      (rw (getD-drop (c .before .before .before .before .before .args .at) (c .before .before .before .before .before .args .text .now) (c .before .before .before .loop .i) 0, ← c .before .byte-at .ensures) (c .digit-value .ensures)) (omega arith),
-)
+loop-again c =
+    let start = c .before .before .before .before .before in
+    let loop = c .before .before .before .loop in (
+      omega arith,
+      one-more-shown (start .args .radix) (loop .i) (start .args .count) (loop .value) (drop
+          (start .args .at) (start .args .text .now)) (start .pre .1) (c .before .before .loop-test .taken)
+          (start .pre .2)
+          (loop .inv .1) (c .digit-value .result)
+          (rw (getD-drop (start .args .at) (start .args .text .now) (loop .i) 0, ← c .before .byte-at .ensures)
+          (c .digit-value .ensures)) (omega arith),
+    )
 
 returns : tie.Need-returns Inv-loop μ-loop
-returns c = all-shown (c .before .before .before .args .radix) (c .before .loop .i) (c .before .before .before .args .count) (c .before .loop .value) (drop (c .before .before .before .args .at) (c .before .before .before .args .text .now)) (c .before .loop .inv .0) (c .loop-test .left) (c .before .loop .inv .1)
+returns c =
+    let start = c .before .before .before in
+    let loop = c .before .loop in
+    all-shown (start .args .radix) (loop .i) (start .args .count) (loop .value) (drop (start .args .at)
+    (start .args .text .now)) (loop .inv .0) (c .loop-test .left) (loop .inv .1)
 
 pub number-spec : {M : Type 1} → statement M
-number-spec = tie.close (tie.spec Inv-loop μ-loop loop-holds mul-value (λ c. search needs) (λ c κs. search needs) (λ c κs. search needs) (λ c. search needs) add-value (λ c. search needs) (λ c. search needs) loop-again returns)
+number-spec =
+    tie.close (tie.spec Inv-loop μ-loop loop-holds mul-value (λ c. search needs) (λ c κs. search needs) (λ c κs.
+    search needs) (λ c. search needs) add-value (λ c. search needs) (λ c. search needs) loop-again returns)

@@ -32,18 +32,25 @@ slice-write-page : tie.Need-slice-write-page Inv-loop μ-loop
 slice-write-page c = omega (arith, c .before .before .loop .inv .0)
 
 loop-again : tie.Need-loop-again Inv-loop μ-loop
-loop-again c = (
-  simp length-set (omega (arith, c .before .before .loop .inv .0)),
-  simp length-set (c .before .before .loop .inv .1),
-  put-digit (c .before .before .before .before .args .radix) (c .before .before .loop .i) (c .before .before .loop .rest) (c .digit .result) (c .before .before .loop .page) _ (c .before .loop-test .taken)
-      (c .before .before .loop .inv .0) (c .digit .ensures) (c .before .before .loop .inv .2),
-)
+loop-again c =
+    let loop = c .before .before .loop in (
+      simp length-set (omega (arith, loop .inv .0)),
+      simp length-set (loop .inv .1),
+      put-digit (c .before .before .before .before .args .radix) (loop .i) (loop .rest) (c .digit .result)
+          (loop .page) _ (c .before .loop-test .taken)
+          (loop .inv .0) (c .digit .ensures) (loop .inv .2),
+    )
 
 same-length : tie.Need-same-length Inv-loop μ-loop
 same-length c = c .before .loop .inv .1
 
 returns : tie.Need-returns Inv-loop μ-loop
-returns c = none-left (c .before .before .before .args .radix) (c .before .loop .i) (c .before .loop .rest) (c .before .loop .page) _ (c .loop-test .left) (c .before .loop .inv .2)
+returns c =
+    let loop = c .before .loop in
+    none-left (c .before .before .before .args .radix) (loop .i) (loop .rest) (loop .page) _ (c .loop-test .left)
+    (loop .inv .2)
 
 pub put-digits-spec : {M : Type 1} → statement M
-put-digits-spec = tie.close (tie.spec Inv-loop μ-loop loop-holds (λ c. search needs) (λ c. search needs) cast-digit digit-requires slice-write-page (λ c. search needs) (λ c. search needs) loop-again same-length returns)
+put-digits-spec =
+    tie.close (tie.spec Inv-loop μ-loop loop-holds (λ c. search needs) (λ c. search needs) cast-digit digit-requires
+    slice-write-page (λ c. search needs) (λ c. search needs) loop-again same-length returns)

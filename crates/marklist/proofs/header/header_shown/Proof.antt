@@ -9,18 +9,37 @@ use Rattle.marklist.proofs.header.header_shown.Tie as tie
 
 number-requires-2 : tie.Need-number-requires-2
 number-requires-2 c κs =
-    let few = rw (← c .before .length-digits-shown .ensures) at (few-digits (c .before .before .before .args .text .now)) in
+    let few = rw (← c .before .length-digits-shown .ensures) at (few-digits
+    (c .before .before .before .args .text .now)) in
     (omega (arith, few), omega arith, power-small (c .before .length-digits-shown .result) few)
 
 add-number-2 : tie.Need-add-number-2
-add-number-2 c = omega (arith, rw (← c .before .before .length-digits-shown .ensures) at (few-digits (c .before .before .before .before .args .text .now)))
+add-number-2 c =
+    omega (
+      arith,
+      rw (← c .before .before .length-digits-shown .ensures) at (few-digits
+          (c .before .before .before .before .args .text .now)),
+    )
 
 number-requires-3 : tie.Need-number-requires-3
-number-requires-3 c κs = omega (arith, rw (← c .before .before .length-digits-shown .ensures) at (few-digits (c .before .before .before .before .args .text .now)))
+number-requires-3 c κs =
+    omega (
+      arith,
+      rw (← c .before .before .length-digits-shown .ensures) at (few-digits
+          (c .before .before .before .before .args .text .now)),
+    )
 
 returns : tie.Need-returns
 unfolding spec.headerShown
-returns c = rw (c .before .before .number .ensures, c .before .number2 .ensures, c .number3 .ensures, c .before .before .before .length-digits-shown .ensures)
+returns c =
+    rw (
+      c .before .before .number .ensures,
+      c .before .number2 .ensures,
+      c .number3 .ensures,
+      c .before .before .before .length-digits-shown .ensures,
+    )
 
 pub header-shown-spec : {M : Type 1} → statement M
-header-shown-spec = tie.close (tie.spec (λ c κs. search needs) (λ c κs. search needs) number-requires-2 (λ c. search needs) add-number-2 number-requires-3 returns)
+header-shown-spec =
+    tie.close (tie.spec (λ c κs. search needs) (λ c κs. search needs) number-requires-2 (λ c. search needs)
+    add-number-2 number-requires-3 returns)

@@ -22,14 +22,34 @@ loop-holds c = (none-passed (spec.tabAt (drop 9 (c .before .args .text .now))) 0
 
 returns : tie.Need-returns Inv-loop μ-loop
 unfolding spec.lengthDigitsShown
-returns c = passed-to (spec.tabAt (drop 9 (c .before .before .before .before .before .args .text .now))) 0 (c .before .before .before .loop .i) spec.lengthDigits (c .before .before .before .loop .inv .0) (omega arith) (rw (getD-drop 9 (c .before .before .before .before .before .args .text .now) (c .before .before .before .loop .i) 0, ← c .before .byte-at .ensures) (eq-eqb (c .before .byte-at .result) spec.tab (c .if1 .taken)))
+returns c =
+    let start = c .before .before .before .before .before in
+    let loop = c .before .before .before .loop in
+    passed-to (spec.tabAt (drop 9 (start .args .text .now))) 0 (loop .i) spec.lengthDigits (loop .inv .0) (omega
+    arith) (rw (getD-drop 9 (start .args .text .now) (loop .i) 0, ← c .before .byte-at .ensures) (eq-eqb
+    (c .before .byte-at .result) spec.tab (c .if1 .taken)))
 
 loop-again : tie.Need-loop-again Inv-loop μ-loop
-loop-again c = (one-more-passed (spec.tabAt (drop 9 (c .before .before .before .before .before .args .text .now))) 0 (c .before .before .before .loop .i) (c .before .before .before .loop .inv .0) (rw (getD-drop 9 (c .before .before .before .before .before .args .text .now) (c .before .before .before .loop .i) 0, ← c .before .byte-at .ensures) (ne-eqb (c .before .byte-at .result) spec.tab (c .if1 .left))), omega arith)
+loop-again c =
+    let start = c .before .before .before .before .before in
+    let loop = c .before .before .before .loop in (
+      one-more-passed (spec.tabAt (drop 9 (start .args .text .now))) 0 (loop .i) (loop .inv .0) (rw (
+        getD-drop 9
+            (start .args .text .now) (loop .i) 0,
+        ← c .before .byte-at .ensures,
+      ) (ne-eqb (c .before .byte-at .result)
+          spec.tab (c .if1 .left))),
+      omega arith,
+    )
 
 returns-2 : tie.Need-returns-2 Inv-loop μ-loop
 unfolding spec.lengthDigitsShown
-returns-2 c = passed-all (spec.tabAt (drop 9 (c .before .before .before .args .text .now))) 0 (c .before .loop .i) spec.lengthDigits (c .before .loop .inv .0) (c .before .loop .inv .1) (c .loop-test .left)
+returns-2 c =
+    let loop = c .before .loop in
+    passed-all (spec.tabAt (drop 9 (c .before .before .before .args .text .now))) 0 (loop .i) spec.lengthDigits
+    (loop .inv .0) (loop .inv .1) (c .loop-test .left)
 
 pub length-digits-shown-spec : {M : Type 1} → statement M
-length-digits-shown-spec = tie.close (tie.spec Inv-loop μ-loop loop-holds (λ c. search needs) (λ c κs. search needs) returns (λ c. search needs) (λ c. search needs) loop-again returns-2)
+length-digits-shown-spec =
+    tie.close (tie.spec Inv-loop μ-loop loop-holds (λ c. search needs) (λ c κs. search needs) returns (λ c. search
+    needs) (λ c. search needs) loop-again returns-2)

@@ -12,9 +12,19 @@ use Rattle.marklist.proofs.header.put_field.Tie as tie
 
 returns : tie.Need-returns
 returns c =
-    let digits-put : Front (c .before .before .before .before .before .before .before .before .before .args .page .now) (c .before .before .before .before .before .before .before .before .before .args .count) (digits (c .before .before .before .before .before .before .before .before .before .args .radix) (c .before .before .before .before .before .before .before .before .before .args .count) (c .before .before .before .before .before .before .before .before .before .args .n)) (c .before .before .before .before .before .before .put-digits .last .0) =
-    record { same = c .before .before .before .before .before .before .put-digits .ensures; long = length-digits (c .before .before .before .before .before .before .before .before .before .args .radix) (c .before .before .before .before .before .before .before .before .before .args .count) (c .before .before .before .before .before .before .before .before .before .args .n); room = omega (arith, c .before .before .before .before .before .before .before .before .before .pre .2) } in
-    front-next 1 (c .before .before .before .before .before .before .before .before .before .args .close ∷ []) (c .before .before .put-byte .last .0) digits-put (c .before .before .put-byte .ensures) refl (c .before .before .before .before .before .before .before .before .before .pre .2) .same
+    let start = c .before .before .before .before .before .before .before .before .before in
+    let digits-put : Front (start .args .page .now) (start .args .count) (digits (start .args .radix)
+    (start .args .count) (start .args .n)) (c .before .before .before .before .before .before .put-digits .last .0) =
+    record {
+      same = c .before .before .before .before .before .before .put-digits .ensures;
+      long = length-digits
+          (start .args .radix) (start .args .count) (start .args .n);
+      room = omega (arith, start .pre .2);
+    } in
+    front-next 1 (start .args .close ∷ []) (c .before .before .put-byte .last .0) digits-put
+    (c .before .before .put-byte .ensures) refl (start .pre .2) .same
 
 pub put-field-spec : {M : Type 1} → statement M
-put-field-spec = tie.close (tie.spec (λ c κs. search needs) (λ c. search needs) (λ c. search needs) (λ c. search needs) (λ c κs. search needs) (λ c. search needs) returns)
+put-field-spec =
+    tie.close (tie.spec (λ c κs. search needs) (λ c. search needs) (λ c. search needs) (λ c. search needs) (λ c κs.
+    search needs) (λ c. search needs) returns)

@@ -15,21 +15,40 @@ abbrev μ-loop : tie.MeasureT-loop
 μ-loop text at address count place₀ i₀ place i = count - i
 
 loop-holds : tie.Need-loop-holds Inv-loop μ-loop
-loop-holds c = none-walked (c .before .args .text .now) (c .before .args .at) (c .before .args .address) (c .before .args .count) (c .before .pre .0)
+loop-holds c =
+    let start = c .before in
+    none-walked (start .args .text .now) (start .args .at) (start .args .address) (start .args .count) (start .pre .0)
 
 add-place : tie.Need-add-place Inv-loop μ-loop
 add-place c =
-    let size = rw (c .before .mark-shown .ensures, part-whole (c .before .before .before .before .loop .place) (c .before .before .before .before .before .before .args .text .now)) at (c .line-size .ensures) in
-    let next = one-more-walked (c .before .before .before .before .before .before .args .text .now) (c .before .before .before .before .before .before .args .at) (c .before .before .before .before .before .before .args .address) (c .before .before .before .before .before .before .args .count) (c .before .before .before .before .loop .place) (c .before .before .before .before .loop .i) (c .line-size .result) (c .before .before .before .loop-test .taken) size (c .before .before .before .before .loop .inv) in
+    let start = c .before .before .before .before .before .before in
+    let loop = c .before .before .before .before .loop in
+    let size = rw (c .before .mark-shown .ensures, part-whole (loop .place) (start .args .text .now)) at
+    (c .line-size .ensures) in
+    let next = one-more-walked (start .args .text .now) (start .args .at) (start .args .address) (start .args .count)
+    (loop .place) (loop .i) (c .line-size .result) (c .before .before .before .loop-test .taken) size (loop .inv) in
     omega (arith, next .1)
 
 loop-again : tie.Need-loop-again Inv-loop μ-loop
 loop-again c =
-    let size = rw (c .before .mark-shown .ensures, part-whole (c .before .before .before .before .loop .place) (c .before .before .before .before .before .before .args .text .now)) at (c .line-size .ensures) in
-    one-more-walked (c .before .before .before .before .before .before .args .text .now) (c .before .before .before .before .before .before .args .at) (c .before .before .before .before .before .before .args .address) (c .before .before .before .before .before .before .args .count) (c .before .before .before .before .loop .place) (c .before .before .before .before .loop .i) (c .line-size .result) (c .before .before .before .loop-test .taken) size (c .before .before .before .before .loop .inv)
+    let start = c .before .before .before .before .before .before in
+    let loop = c .before .before .before .before .loop in
+    let size = rw (c .before .mark-shown .ensures, part-whole (loop .place) (start .args .text .now)) at
+    (c .line-size .ensures) in
+    one-more-walked (start .args .text .now) (start .args .at) (start .args .address) (start .args .count)
+    (loop .place) (loop .i) (c .line-size .result) (c .before .before .before .loop-test .taken) size (loop .inv)
 
 returns : tie.Need-returns Inv-loop μ-loop
-returns c = (c .before .loop .inv .1, all-walked (c .before .before .before .args .text .now) (c .before .before .before .args .at) (c .before .before .before .args .address) (c .before .before .before .args .count) (c .before .loop .place) (c .before .loop .i) (c .loop-test .left) (c .before .loop .inv))
+returns c =
+    let start = c .before .before .before in
+    let loop = c .before .loop in (
+      loop .inv .1,
+      all-walked (start .args .text .now) (start .args .at) (start .args .address) (start .args .count)
+          (loop .place) (loop .i) (c .loop-test .left) (loop .inv),
+    )
 
 pub lines-end-spec : {M : Type 1} → statement M
-lines-end-spec = tie.close (tie.spec Inv-loop μ-loop loop-holds (λ c. search needs) (λ c. search needs) (λ c. search needs) (λ c. search needs) (λ c κs. search needs) (λ c κs. search needs) add-place (λ c. search needs) (λ c. search needs) loop-again returns)
+lines-end-spec =
+    tie.close (tie.spec Inv-loop μ-loop loop-holds (λ c. search needs) (λ c. search needs) (λ c. search needs) (λ c.
+    search needs) (λ c κs. search needs) (λ c κs. search needs) add-place (λ c. search needs) (λ c. search needs)
+    loop-again returns)

@@ -11,7 +11,8 @@ use Rattle.marklist.proofs.text.put_bytes.Statement.{statement}
 use Rattle.marklist.proofs.text.put_bytes.Tie as tie
 
 abbrev Inv-loop : tie.InvT-loop
-Inv-loop page₀ bytes i₀ page i = (i ≤ length bytes) × (length page ≡ length page₀) × (page ≡ take i bytes ++ drop i page₀)
+Inv-loop page₀ bytes i₀ page i =
+    (i ≤ length bytes) × (length page ≡ length page₀) × (page ≡ take i bytes ++ drop i page₀)
 
 abbrev μ-loop : tie.MeasureT-loop
 μ-loop page₀ bytes i₀ page i = length bytes - i
@@ -23,17 +24,26 @@ slice-write-page : tie.Need-slice-write-page Inv-loop μ-loop
 slice-write-page c = omega (arith, c .before .before .loop .inv .1, c .before .before .before .pre)
 
 loop-again : tie.Need-loop-again Inv-loop μ-loop
-loop-again c = (
-  omega arith,
-  simp length-set (c .before .before .loop .inv .1),
-  ap (λ l. set l (c .before .before .loop .i) (getD (c .before .before .before .args .bytes .now) (c .before .before .loop .i) 0)) (c .before .before .loop .inv .2) ∙ put-next (c .before .before .before .args .bytes .now) (c .before .before .before .args .page .now) (c .before .before .loop .i) (c .before .loop-test .taken) (c .before .before .before .pre),
-)
+loop-again c =
+    let start = c .before .before .before in
+    let loop = c .before .before .loop in (
+      omega arith,
+      simp length-set (loop .inv .1),
+      ap (λ l. set l (loop .i) (getD (start .args .bytes .now) (loop .i) 0)) (loop .inv .2) ∙ put-next
+          (start .args .bytes .now) (start .args .page .now) (loop .i) (c .before .loop-test .taken) (start .pre),
+    )
 
 same-length : tie.Need-same-length Inv-loop μ-loop
 same-length c = c .before .loop .inv .1
 
 returns : tie.Need-returns Inv-loop μ-loop
-returns c = put-all (c .before .before .args .bytes .now) (c .before .before .args .page .now) (c .before .loop .page) (c .before .loop .i) (c .before .loop .inv .0) (c .loop-test .left) (c .before .loop .inv .2)
+returns c =
+    let start = c .before .before in
+    let loop = c .before .loop in
+    put-all (start .args .bytes .now) (start .args .page .now) (loop .page) (loop .i) (loop .inv .0)
+    (c .loop-test .left) (loop .inv .2)
 
 pub put-bytes-spec : {M : Type 1} → statement M
-put-bytes-spec = tie.close (tie.spec Inv-loop μ-loop loop-holds (λ c. search needs) slice-write-page (λ c. search needs) (λ c. search needs) loop-again same-length returns)
+put-bytes-spec =
+    tie.close (tie.spec Inv-loop μ-loop loop-holds (λ c. search needs) slice-write-page (λ c. search needs) (λ c.
+    search needs) loop-again same-length returns)

@@ -18,19 +18,39 @@ abbrev μ-loop : tie.MeasureT-loop
 μ-loop text bytes i₀ i = length bytes - i
 
 returns : tie.Need-returns Inv-loop μ-loop
-returns c = sym (starts-short (c .before .args .bytes .now) (c .before .args .text .now) (c .if1 .taken))
+returns c =
+    let start = c .before in
+    sym (starts-short (start .args .bytes .now) (start .args .text .now) (c .if1 .taken))
 
 loop-holds : tie.Need-loop-holds Inv-loop μ-loop
 loop-holds c = (search needs, refl)
 
 returns-2 : tie.Need-returns-2 Inv-loop μ-loop
-returns-2 c = sym (c .before .before .before .before .loop .inv .1 ∙ starts-next (c .before .before .before .before .before .before .args .bytes .now) (c .before .before .before .before .before .before .args .text .now) (c .before .before .before .before .loop .i) (c .before .before .before .loop-test .taken) (omega arith) ∙ rw (ne-eqb (getD (c .before .before .before .before .before .before .args .bytes .now) (c .before .before .before .before .loop .i) 0) (getD (c .before .before .before .before .before .before .args .text .now) (c .before .before .before .before .loop .i) 0) (c .if2 .taken)))
+returns-2 c =
+    let start = c .before .before .before .before .before .before in
+    let loop = c .before .before .before .before .loop in
+    sym (loop .inv .1 ∙ starts-next (start .args .bytes .now) (start .args .text .now) (loop .i)
+    (c .before .before .before .loop-test .taken) (omega arith) ∙ rw (ne-eqb (getD (start .args .bytes .now)
+    (loop .i) 0) (getD (start .args .text .now) (loop .i) 0) (c .if2 .taken)))
 
 loop-again : tie.Need-loop-again Inv-loop μ-loop
-loop-again c = (omega arith, c .before .before .before .before .loop .inv .1 ∙ starts-next (c .before .before .before .before .before .before .args .bytes .now) (c .before .before .before .before .before .before .args .text .now) (c .before .before .before .before .loop .i) (c .before .before .before .loop-test .taken) (omega arith) ∙ rw (eq-eqb (getD (c .before .before .before .before .before .before .args .bytes .now) (c .before .before .before .before .loop .i) 0) (getD (c .before .before .before .before .before .before .args .text .now) (c .before .before .before .before .loop .i) 0) (c .if2 .left)))
+loop-again c =
+    let start = c .before .before .before .before .before .before in
+    let loop = c .before .before .before .before .loop in (
+      omega arith,
+      loop .inv .1 ∙ starts-next (start .args .bytes .now) (start .args .text .now) (loop .i)
+          (c .before .before .before .loop-test .taken) (omega arith) ∙ rw (eq-eqb (getD (start .args .bytes .now)
+          (loop .i) 0) (getD (start .args .text .now) (loop .i) 0) (c .if2 .left)),
+    )
 
 returns-3 : tie.Need-returns-3 Inv-loop μ-loop
-returns-3 c = sym (c .before .loop .inv .1 ∙ starts-all (c .before .before .before .args .bytes .now) (c .before .before .before .args .text .now) (c .before .loop .i) (c .before .loop .inv .0) (c .loop-test .left))
+returns-3 c =
+    let start = c .before .before .before in
+    let loop = c .before .loop in
+    sym (loop .inv .1 ∙ starts-all (start .args .bytes .now) (start .args .text .now) (loop .i) (loop .inv .0)
+    (c .loop-test .left))
 
 pub starts-with-spec : {M : Type 1} → statement M
-starts-with-spec = tie.close (tie.spec Inv-loop μ-loop returns loop-holds (λ c. search needs) (λ c. search needs) returns-2 (λ c. search needs) (λ c. search needs) loop-again returns-3)
+starts-with-spec =
+    tie.close (tie.spec Inv-loop μ-loop returns loop-holds (λ c. search needs) (λ c. search needs) returns-2 (λ c.
+    search needs) (λ c. search needs) loop-again returns-3)

@@ -17,14 +17,24 @@ loop-holds c = none-measured (c .before .args .marks .now)
 
 add-size : tie.Need-add-size Inv-loop μ-loop
 add-size c =
-    let next = one-more-measured (c .before .before .before .before .before .args .marks .now) (c .before .before .before .loop .i) (c .before .before .before .loop .size) (c .line-size .result) (c .before .before .loop-test .taken) (c .line-size .ensures) (c .before .before .before .loop .inv) in
-    omega (arith, next .2, c .before .before .before .before .before .pre)
+    let start = c .before .before .before .before .before in
+    let loop = c .before .before .before .loop in
+    let next = one-more-measured (start .args .marks .now) (loop .i) (loop .size) (c .line-size .result)
+    (c .before .before .loop-test .taken) (c .line-size .ensures) (loop .inv) in
+    omega (arith, next .2, start .pre)
 
 loop-again : tie.Need-loop-again Inv-loop μ-loop
-loop-again c = one-more-measured (c .before .before .before .before .before .args .marks .now) (c .before .before .before .loop .i) (c .before .before .before .loop .size) (c .line-size .result) (c .before .before .loop-test .taken) (c .line-size .ensures) (c .before .before .before .loop .inv)
+loop-again c =
+    let loop = c .before .before .before .loop in
+    one-more-measured (c .before .before .before .before .before .args .marks .now) (loop .i) (loop .size)
+    (c .line-size .result) (c .before .before .loop-test .taken) (c .line-size .ensures) (loop .inv)
 
 returns : tie.Need-returns Inv-loop μ-loop
-returns c = all-measured (c .before .before .before .args .marks .now) (c .before .loop .i) (c .before .loop .size) (c .loop-test .left) (c .before .loop .inv)
+returns c =
+    let loop = c .before .loop in
+    all-measured (c .before .before .before .args .marks .now) (loop .i) (loop .size) (c .loop-test .left) (loop .inv)
 
 pub lines-size-spec : {M : Type 1} → statement M
-lines-size-spec = tie.close (tie.spec Inv-loop μ-loop loop-holds (λ c. search needs) (λ c. search needs) (λ c κs. search needs) add-size (λ c. search needs) loop-again returns)
+lines-size-spec =
+    tie.close (tie.spec Inv-loop μ-loop loop-holds (λ c. search needs) (λ c. search needs) (λ c κs. search needs)
+    add-size (λ c. search needs) loop-again returns)

@@ -17,7 +17,9 @@ abbrev μ-loop : tie.MeasureT-loop
 μ-loop page₀ address marks at₀ i₀ page at i = length marks - i
 
 loop-holds : tie.Need-loop-holds Inv-loop μ-loop
-loop-holds c = none-put (c .before .before .args .page .now) (c .before .before .args .address) (c .before .before .args .marks .now)
+loop-holds c =
+    let start = c .before .before in
+    none-put (start .args .page .now) (start .args .address) (start .args .marks .now)
 
 sub-put-line : tie.Need-sub-put-line Inv-loop μ-loop
 sub-put-line c = front-inside (c .before .loop .inv .1)
@@ -26,19 +28,46 @@ part-put-line-start : tie.Need-part-put-line-start Inv-loop μ-loop
 part-put-line-start c = front-inside (c .before .loop .inv .1)
 
 put-line-requires : tie.Need-put-line-requires Inv-loop μ-loop
-put-line-requires c κs = part-room (spec.lineSize (getD (c .before .before .before .before .before .before .args .marks .now) (c .before .before .before .loop .i) 0)) (c .before .before .before .loop .inv .1) (line-fits (c .before .before .before .before .before .before .args .page .now) (c .before .before .before .before .before .before .args .address) (c .before .before .before .before .before .before .args .marks .now) (c .before .before .before .loop .page) (c .before .before .before .loop .at) (c .before .before .before .loop .i) (c .before .before .before .before .before .before .pre .0) (c .before .before .loop-test .taken) (c .before .before .before .loop .inv))
+put-line-requires c κs =
+    let start = c .before .before .before .before .before .before in
+    let loop = c .before .before .before .loop in
+    part-room (spec.lineSize (getD (start .args .marks .now) (loop .i) 0)) (loop .inv .1) (line-fits
+    (start .args .page .now) (start .args .address) (start .args .marks .now) (loop .page) (loop .at) (loop .i)
+    (start .pre .0) (c .before .before .loop-test .taken) (loop .inv))
 
 add-at : tie.Need-add-at Inv-loop μ-loop
-add-at c = omega (arith, c .before .before .put-line .ensures .0, line-fits (c .before .before .before .before .before .before .before .before .before .args .page .now) (c .before .before .before .before .before .before .before .before .before .args .address) (c .before .before .before .before .before .before .before .before .before .args .marks .now) (c .before .before .before .before .before .before .loop .page) (c .before .before .before .before .before .before .loop .at) (c .before .before .before .before .before .before .loop .i) (c .before .before .before .before .before .before .before .before .before .pre .0) (c .before .before .before .before .before .loop-test .taken) (c .before .before .before .before .before .before .loop .inv))
+add-at c =
+    let start = c .before .before .before .before .before .before .before .before .before in
+    let loop = c .before .before .before .before .before .before .loop in
+    omega (
+      arith,
+      c .before .before .put-line .ensures .0,
+      line-fits (start .args .page .now) (start .args .address)
+          (start .args .marks .now) (loop .page) (loop .at) (loop .i) (start .pre .0)
+          (c .before .before .before .before .before .loop-test .taken) (loop .inv),
+    )
 
 loop-again : tie.Need-loop-again Inv-loop μ-loop
-loop-again c = one-more-put (c .before .before .before .before .before .before .before .before .before .args .page .now) (c .before .before .before .before .before .before .before .before .before .args .address) (c .before .before .before .before .before .before .before .before .before .args .marks .now) (c .before .before .before .before .before .before .loop .page) (c .before .before .before .before .before .before .loop .at) (c .before .before .before .before .before .before .loop .i) (c .before .before .before .before .before .before .before .before .before .pre .0) (c .before .before .before .before .before .loop-test .taken) (c .before .before .before .before .before .before .loop .inv) (c .before .before .put-line .result) (c .before .before .put-line .last .0) (c .before .before .put-line .ensures .0) (c .before .before .put-line .ensures .1)
+loop-again c =
+    let start = c .before .before .before .before .before .before .before .before .before in
+    let loop = c .before .before .before .before .before .before .loop in
+    one-more-put (start .args .page .now) (start .args .address) (start .args .marks .now) (loop .page) (loop .at)
+    (loop .i) (start .pre .0) (c .before .before .before .before .before .loop-test .taken) (loop .inv)
+    (c .before .before .put-line .result) (c .before .before .put-line .last .0)
+    (c .before .before .put-line .ensures .0) (c .before .before .put-line .ensures .1)
 
 same-length : tie.Need-same-length Inv-loop μ-loop
 same-length c = front-length (c .before .loop .inv .1)
 
 returns : tie.Need-returns Inv-loop μ-loop
-returns c = all-put (c .before .before .before .before .args .page .now) (c .before .before .before .before .args .address) (c .before .before .before .before .args .marks .now) (c .before .loop .page) (c .before .loop .at) (c .before .loop .i) (c .loop-test .left) (c .before .loop .inv)
+returns c =
+    let start = c .before .before .before .before in
+    let loop = c .before .loop in
+    all-put (start .args .page .now) (start .args .address) (start .args .marks .now) (loop .page) (loop .at)
+    (loop .i) (c .loop-test .left) (loop .inv)
 
 pub put-lines-spec : {M : Type 1} → statement M
-put-lines-spec = tie.close (tie.spec Inv-loop μ-loop loop-holds sub-put-line part-put-line-start (λ c. search needs) (λ c. search needs) (λ c. search needs) (λ c. search needs) put-line-requires add-at (λ c. search needs) (λ c. search needs) loop-again same-length returns)
+put-lines-spec =
+    tie.close (tie.spec Inv-loop μ-loop loop-holds sub-put-line part-put-line-start (λ c. search needs) (λ c. search
+    needs) (λ c. search needs) (λ c. search needs) put-line-requires add-at (λ c. search needs) (λ c. search needs)
+    loop-again same-length returns)
