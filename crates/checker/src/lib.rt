@@ -6,7 +6,6 @@ use crate::start::step_at;
 use codepages::pages;
 use image::bad_mark;
 use image::base_fits;
-use image::byte_at;
 use image::is_start;
 use image::length_fits;
 use image::misfit;
