@@ -174,38 +174,59 @@ fn every_order(text: &[u8], marks_len: usize, visit: &mut impl FnMut(&ReadCase))
 }
 
 const LENGTHS: [&str; 18] = [
-    "", "0", "00", "01", "1", "2", "9", "10", "99", "100", "16383", "16384", "016384", "16385",
-    "65536", "99999", "100000", "18446744073709551617",
+    "",
+    "0",
+    "00",
+    "01",
+    "1",
+    "2",
+    "9",
+    "10",
+    "99",
+    "100",
+    "16383",
+    "16384",
+    "016384",
+    "16385",
+    "65536",
+    "99999",
+    "100000",
+    "18446744073709551617",
 ];
 const BASES: [&str; 9] = [
     "000000", "00C000", "00FFFF", "01C000", "FFC000", "FFC001", "FFFFFF", "0C000", "100C000",
 ];
 
-/// First lines with numbers around their limits and overlong ones, alone, with
-/// a start at the reset, and with one at the image's last byte and past it.
+/// First lines with numbers around their limits and overlong ones.
 fn every_head(visit: &mut impl FnMut(&ReadCase)) {
     for base in BASES {
         let low = &base[base.len() - 4..];
-        let first = usize::from_str_radix(low, 16).expect("a base");
         for length in LENGTHS {
-            let number = length.parse().unwrap_or(0usize);
             for reset in ["0000", low, "FFFF", "C00", "0C000"] {
-                let head = format!("I\t{base}\t{length}\t{reset}\n");
-                let at = |address: usize| format!("{address:04X}\t0\t0\tN\t0\t0\n");
-                for text in [
-                    head.clone(),
-                    format!("{head}{}", at(first)),
-                    format!("{head}{}", at(first + number.saturating_sub(1))),
-                    format!("{head}{}", at(first + number)),
-                ] {
-                    for marks_len in [0, 1, number.min(MAX_IMAGE + 1)] {
-                        visit(&ReadCase {
-                            text: text.clone().into_bytes(),
-                            marks_len,
-                        });
-                    }
-                }
+                every_first_start(base, length, reset, visit);
             }
+        }
+    }
+}
+
+/// A first line alone, and with a start at the image's first byte, at its last
+/// one, and past it.
+fn every_first_start(base: &str, length: &str, reset: &str, visit: &mut impl FnMut(&ReadCase)) {
+    let low = usize::from_str_radix(&base[base.len() - 4..], 16).expect("a base");
+    let number = length.parse().unwrap_or(0usize);
+    let head = format!("I\t{base}\t{length}\t{reset}\n");
+    let with_start = |offset| format!("{head}{:04X}\t0\t0\tN\t0\t0\n", low + offset);
+    for text in [
+        head.clone(),
+        with_start(0),
+        with_start(number.saturating_sub(1)),
+        with_start(number),
+    ] {
+        for marks_len in [0, 1, number.min(MAX_IMAGE + 1)] {
+            visit(&ReadCase {
+                text: text.clone().into_bytes(),
+                marks_len,
+            });
         }
     }
 }
@@ -239,29 +260,38 @@ fn every_mark(mut case: WriteCase, visit: &mut impl FnMut(&WriteCase)) {
     }
 }
 
-/// Images of each length around a power of ten and a limit, at bases around
-/// the ends of banks, with resets in front, at the first byte, at the last, and
-/// past the bank.
+/// Images of lengths around powers of ten and the limit, at bases around the
+/// ends of banks.
 fn every_place(visit: &mut impl FnMut(&WriteCase)) {
     let lengths = [0, 1, 9, 10, 99, 100, 999, 1_000, 9_999, 10_000];
     for length in lengths.into_iter().chain(MAX_IMAGE - 1..MAX_IMAGE + 2) {
-        let end = 0x1_0000 - length as u32;
-        for base in [0, 0xC000, end, end + 1, 0xFF_0000 + end, 0xFF_FFFF, 0x100_0000, u32::MAX] {
-            let low = base & 0xFFFF;
-            let last = low + length.saturating_sub(1) as u32;
-            for reset in [low.wrapping_sub(1), low, last, low + 0x1_0000, base, u32::MAX] {
-                let mut marks = vec![0; length];
-                for at in [0, length / 2, length.saturating_sub(1)] {
-                    marks.get_mut(at).map(|mark| *mark = RESET_MARK);
-                }
-                visit(&WriteCase {
-                    marks,
-                    base,
-                    reset,
-                    page_len: 80,
-                });
-            }
+        let mut marks = vec![0; length];
+        for mark in marks.iter_mut().step_by(length.saturating_sub(1).max(1)) {
+            *mark = RESET_MARK;
         }
+        let end = 0x1_0000 - length as u32;
+        for base in [0, 0xC000, end, end + 1, 0xFF_0000 + end] {
+            every_reset(&marks, base, visit);
+        }
+        for base in [0xFF_FFFF, 0x100_0000, u32::MAX] {
+            every_reset(&marks, base, visit);
+        }
+    }
+}
+
+/// Resets in front of the image, at its first byte and its last, and past the
+/// bank.
+fn every_reset(marks: &[u8], base: u32, visit: &mut impl FnMut(&WriteCase)) {
+    let low = base & 0xFFFF;
+    let last = low + marks.len().saturating_sub(1) as u32;
+    let past = [low + 0x1_0000, base, u32::MAX];
+    for reset in [low.wrapping_sub(1), low, last].into_iter().chain(past) {
+        visit(&WriteCase {
+            marks: marks.to_vec(),
+            base,
+            reset,
+            page_len: 80,
+        });
     }
 }
 
