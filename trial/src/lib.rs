@@ -5,6 +5,7 @@ pub mod check;
 pub mod faults;
 pub mod guard;
 pub mod library;
+pub mod lists;
 pub mod tally;
 
 use std::fmt::Write;

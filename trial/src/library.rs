@@ -9,4 +9,20 @@ extern "C" {
         base: u32,
         reset: u32,
     ) -> u32;
+
+    pub fn m7700_read_list(
+        text: *const u8,
+        text_len: usize,
+        marks: *mut u8,
+        marks_len: usize,
+    ) -> u64;
+
+    pub fn m7700_write_list(
+        marks: *const u8,
+        marks_len: usize,
+        base: u32,
+        reset: u32,
+        page: *mut u8,
+        page_len: usize,
+    ) -> u64;
 }

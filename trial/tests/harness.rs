@@ -198,10 +198,12 @@ fn trial(args: &[&str]) -> Output {
 
 #[test]
 fn the_seed_alone_decides() {
-    let once = trial(&["check", "5000", "1"]);
-    assert!(once.status.success());
-    assert_eq!(once.stdout, trial(&["check", "5000", "1"]).stdout);
-    assert_ne!(once.stdout, trial(&["check", "5000", "2"]).stdout);
+    for name in ["check", "lists"] {
+        let once = trial(&[name, "5000", "1"]);
+        assert!(once.status.success());
+        assert_eq!(once.stdout, trial(&[name, "5000", "1"]).stdout);
+        assert_ne!(once.stdout, trial(&[name, "5000", "2"]).stdout);
+    }
 }
 
 #[test]

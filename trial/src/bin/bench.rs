@@ -1,5 +1,5 @@
-//! bench check: times the library beside the simulator on the same inputs.
-//! Every ratio is library time over simulator time.
+//! bench check|lists: times the library beside the simulator on the same
+//! inputs. Every ratio is library time over simulator time.
 
 use sim7700::generate::{CheckCase, Rng};
 use std::env;
@@ -7,7 +7,8 @@ use std::hint::black_box;
 use std::process::ExitCode;
 use std::time::Instant;
 use trial7700::check::cases::{mixed_code, one_byte_codes};
-use trial7700::library::m7700_check;
+use trial7700::library::{m7700_check, m7700_read_list, m7700_write_list};
+use trial7700::lists::cases::{every_start, Marked};
 
 /// Batches of each side; the best counts.
 const BATCHES: usize = 50;
@@ -19,8 +20,9 @@ fn main() -> ExitCode {
     let args: Vec<String> = env::args().skip(1).collect();
     match args.iter().map(String::as_str).collect::<Vec<_>>()[..] {
         ["check"] => check(),
+        ["lists"] => lists(),
         _ => {
-            eprintln!("usage: bench check");
+            eprintln!("usage: bench check|lists");
             return ExitCode::from(2);
         }
     }
@@ -31,27 +33,101 @@ fn check() {
     // The shorter image begins with the same programs as the longer one.
     let mixed = |length| mixed_code(&mut Rng::new(SEED), length);
     println!("accepted images, ns per byte        library  simulator  ratio");
-    let whole = row("mixed code", &mixed(16_384));
-    let half = row("mixed code", &mixed(8_192));
-    row(
+    let whole = checked("mixed code", &mixed(16_384));
+    let half = checked("mixed code", &mixed(8_192));
+    checked(
         "one-byte codes",
         &one_byte_codes(&mut Rng::new(SEED), 16_384),
     );
-    println!(
-        "library, mixed code, t(16,384) / t(8,192): {:.2}",
-        whole / half
-    );
+    linear("mixed code", whole, half);
 }
 
-/// Times and prints one image; the library's best time of a call in ns.
-fn row(name: &str, case: &CheckCase) -> f64 {
-    assert_eq!((library(case), simulator(case)), (0, 0), "not accepted");
-    let (proved, simulated) = best(case);
-    let bytes = case.image.len();
+fn lists() {
+    let marked = |length| every_start(&mut Rng::new(SEED), length);
+    let (whole, half) = (marked(16_384), marked(8_192));
+    println!("lists of starts, ns per start       library  simulator  ratio");
+    let times = [written(&whole), read(&whole)];
+    let halves = [written(&half), read(&half)];
+    linear("written", times[0], halves[0]);
+    linear("read", times[1], halves[1]);
+}
+
+/// Near 2 is linear.
+fn linear(name: &str, whole: f64, half: f64) {
+    let ratio = whole / half;
+    println!("library, {name}, t(16,384) / t(8,192): {ratio:.2}");
+}
+
+/// Times the check of an accepted image; the library's best time in ns.
+fn checked(name: &str, case: &CheckCase) -> f64 {
+    let CheckCase { image, marks, .. } = case;
+    let (base, reset) = (case.base, case.reset);
+    let (image_len, marks_len) = (image.len(), marks.len());
+    assert_eq!(sim7700::check(image, marks, base, reset), 0, "not accepted");
+    row(
+        [name, "bytes"],
+        image_len,
+        // SAFETY: the pointers are valid for the lengths.
+        || unsafe {
+            let (image, marks) = (image.as_ptr(), marks.as_ptr());
+            m7700_check(image, image_len, marks, marks_len, base, reset) as u64
+        },
+        || sim7700::check(image, marks, base, reset) as u64,
+    )
+}
+
+/// Times the writing of a list; the library's best time in ns.
+fn written(marked: &Marked) -> f64 {
+    let Marked { marks, base, reset } = marked;
+    let (base, reset) = (*base, *reset);
+    let starts = marks.len();
+    let [mut page, mut other] = [0; 2].map(|byte| vec![byte; marked.list().len()]);
+    let time = row(
+        ["written", "starts"],
+        starts,
+        // SAFETY: the pointers are valid for the lengths, and the page is
+        // lent to nothing else.
+        || unsafe {
+            let (lent, length) = (page.as_mut_ptr(), page.len());
+            m7700_write_list(marks.as_ptr(), starts, base, reset, lent, length)
+        },
+        || sim7700::write_list(marks, base, reset, &mut other),
+    );
+    assert_eq!(page, marked.list(), "not written");
+    time
+}
+
+/// Times the reading of a list; the library's best time in ns.
+fn read(marked: &Marked) -> f64 {
+    let text = marked.list();
+    let starts = marked.marks.len();
+    let [mut marks, mut other] = [0; 2].map(|byte| vec![byte; starts]);
+    let time = row(
+        ["read", "starts"],
+        starts,
+        // SAFETY: the pointers are valid for the lengths, and the marks are
+        // lent to nothing else.
+        || unsafe { m7700_read_list(text.as_ptr(), text.len(), marks.as_mut_ptr(), starts) },
+        || sim7700::read_list(&text, &mut other),
+    );
+    assert_eq!(marks, marked.marks, "not read");
+    time
+}
+
+/// Times and prints one input of so many units; the library's best time of a
+/// call in ns.
+fn row(
+    [name, unit]: [&str; 2],
+    units: usize,
+    mut library: impl FnMut() -> u64,
+    mut simulator: impl FnMut() -> u64,
+) -> f64 {
+    assert_eq!(library(), simulator(), "the answers differ");
+    let (proved, simulated) = best(&mut library, &mut simulator);
     println!(
-        "{name:<14}{bytes:>8} bytes       {:>9.2}  {:>9.2}  {:>5.2}",
-        proved / bytes as f64,
-        simulated / bytes as f64,
+        "{name:<14}{units:>8} {unit:<6}      {:>9.2}  {:>9.2}  {:>5.2}",
+        proved / units as f64,
+        simulated / units as f64,
         proved / simulated
     );
     proved
@@ -59,41 +135,21 @@ fn row(name: &str, case: &CheckCase) -> f64 {
 
 /// The best times of a call of library and simulator in ns. Both in turn, so
 /// that what else the machine does meets them alike.
-fn best(case: &CheckCase) -> (f64, f64) {
+fn best(library: &mut dyn FnMut() -> u64, simulator: &mut dyn FnMut() -> u64) -> (f64, f64) {
     let mut best = (f64::MAX, f64::MAX);
     for _ in 0..BATCHES {
-        best.0 = best.0.min(batch(case, library));
-        best.1 = best.1.min(batch(case, simulator));
+        best.0 = best.0.min(batch(library));
+        best.1 = best.1.min(batch(simulator));
     }
     best
 }
 
 /// The time of one call, in ns.
-fn batch(case: &CheckCase, call: fn(&CheckCase) -> u32) -> f64 {
+#[inline(never)]
+fn batch(call: &mut dyn FnMut() -> u64) -> f64 {
     let begun = Instant::now();
     for _ in 0..CALLS {
-        black_box(call(black_box(case)));
+        black_box(call());
     }
     begun.elapsed().as_nanos() as f64 / CALLS as f64
-}
-
-#[inline(never)]
-fn library(case: &CheckCase) -> u32 {
-    let (image, marks) = (&case.image, &case.marks);
-    // SAFETY: the pointers are valid for the lengths.
-    unsafe {
-        m7700_check(
-            image.as_ptr(),
-            image.len(),
-            marks.as_ptr(),
-            marks.len(),
-            case.base,
-            case.reset,
-        )
-    }
-}
-
-#[inline(never)]
-fn simulator(case: &CheckCase) -> u32 {
-    sim7700::check(&case.image, &case.marks, case.base, case.reset)
 }

@@ -1,9 +1,9 @@
-//! trial check [CASES] [SEED]: compares the library with the simulator.
+//! trial check|lists [CASES] [SEED]: compares the library with the simulator.
 
 use std::env;
 use std::process::ExitCode;
 use trial7700::tally::Tally;
-use trial7700::{check, faults};
+use trial7700::{check, faults, lists};
 
 const CASES: u64 = 1_000_000;
 const SEED: u64 = 7700;
@@ -14,15 +14,21 @@ fn main() -> ExitCode {
         return usage();
     };
     faults::report();
-    let tally = match name {
-        "check" => check::trial(cases, seed),
+    let tallies = match name {
+        "check" => vec![check::trial(cases, seed)],
+        "lists" => lists::trial(cases, seed).into(),
         _ => return usage(),
     };
-    verdict(&tally, cases)
+    let passed = tallies.iter().filter(|tally| passes(tally, cases)).count();
+    if passed == tallies.len() {
+        ExitCode::SUCCESS
+    } else {
+        ExitCode::FAILURE
+    }
 }
 
 fn usage() -> ExitCode {
-    eprintln!("usage: trial check [CASES] [SEED]");
+    eprintln!("usage: trial check|lists [CASES] [SEED]");
     ExitCode::from(2)
 }
 
@@ -34,16 +40,13 @@ fn wanted(args: &[String]) -> Option<(&str, u64, u64)> {
     Some((args.first()?, number(1, CASES)?, number(2, SEED)?))
 }
 
-/// A trial of the default size or more has to meet every number.
-fn verdict(tally: &Tally, cases: u64) -> ExitCode {
+/// Prints a tally. A trial of the default size or more has to meet every
+/// number.
+fn passes(tally: &Tally, cases: u64) -> bool {
     tally.print();
     let missing = tally.missing();
     for (number, word) in &missing {
         println!("never met: {number} {word}");
     }
-    if tally.differences() > 0 || (cases >= CASES && !missing.is_empty()) {
-        ExitCode::FAILURE
-    } else {
-        ExitCode::SUCCESS
-    }
+    tally.differences() == 0 && (cases < CASES || missing.is_empty())
 }
