@@ -12,6 +12,15 @@ pub const DEFAULT_SEED: u64 = 7700;
 /// No file is longer.
 pub const MAX_FILE: usize = 65_536;
 
+/// Cases aimed at each number that a kind can give: so many stand at least.
+pub const LEAST: usize = 100;
+
+/// The numbers that a step, a run, a read and a write can give, besides 0.
+pub const STEP_NUMBERS: [u8; 12] = [1, 2, 11, 12, 20, 21, 22, 23, 24, 25, 26, 27];
+pub const RUN_NUMBERS: [u8; 13] = [1, 2, 11, 12, 13, 20, 21, 22, 23, 24, 25, 26, 27];
+pub const READ_NUMBERS: [u8; 4] = [14, 1, 2, 3];
+pub const WRITE_NUMBERS: [u8; 5] = [1, 2, 4, 3, 15];
+
 /// All files of a seed, by name.
 pub fn files(seed: u64) -> Vec<(String, Vec<u8>)> {
     let mut rng = Rng::new(seed);
@@ -183,8 +192,9 @@ fn check_records(rng: &mut Rng) -> Vec<Vec<u8>> {
     records
 }
 
-/// Each carried code at all four widths, at every edge if it has a data
-/// address or uses the stack; each other code; and drawn steps.
+/// Each carried code at all four widths with edge values, and at every edge
+/// if it has a data address or uses the stack; each other code; stops at
+/// each of their places; refused and drawn steps.
 fn step_records(rng: &mut Rng) -> Vec<Vec<u8>> {
     let mut records = Vec::new();
     for page in 0..3 {
@@ -195,37 +205,53 @@ fn step_records(rng: &mut Rng) -> Vec<Vec<u8>> {
             }
         }
     }
-    for _ in 0..5_000 {
+    records.extend(crossed_steps(rng).iter().map(run_record));
+    records.extend(placed_steps(rng).iter().map(run_record));
+    for number in STEP_NUMBERS {
+        for _ in 0..LEAST {
+            records.push(run_record(&step_by(rng, number)));
+        }
+    }
+    for _ in 0..2_500 {
         let case = step_case(rng);
         if case.image.len() < 400 {
             records.push(run_record(&case));
         }
     }
+    records.extend(longest_images(1).iter().map(run_record));
     records
+}
+
+/// A step with this number: refused, or the one that a run stops in.
+fn step_by(rng: &mut Rng, number: u8) -> RunCase {
+    let mut case = if number < 20 {
+        refused_by(rng, number)
+    } else {
+        stopped_by(rng, number)
+    };
+    if number >= 20 {
+        (_, case.state, case.ram) = case.answer();
+    }
+    case.steps = 1;
+    case
 }
 
 fn steps_of(rng: &mut Rng, page: usize, code: u8, widths: u16) -> Vec<RunCase> {
     let entry = entry_of(page, code);
     let aimed = match entry.mode {
-        _ if calls(entry.word) => 5 * EDGES,
+        _ if calls(entry.word) => 2 * EDGES,
         Mode::IMP | Mode::IMM | Mode::ACC | Mode::REL => 0,
         _ => EDGES,
     };
     if !entry.carried {
         return vec![aimed_step(rng, page, code, widths)];
     }
-    if aimed == 0 {
-        return (0..8)
-            .map(|_| aimed_step(rng, page, code, widths))
-            .collect();
-    }
-    let mut cases: Vec<RunCase> = (0..aimed)
-        .map(|k| edge_step(rng, page, code, widths, k % EDGES))
-        .collect();
-    // And some that are completed: at least one in 30 draws.
-    let completed = |case: &RunCase| case.answer().0 & 0xFFFF == 0;
-    let drawn = (0..30).map(|_| aimed_step(rng, page, code, widths));
-    cases.extend(drawn.filter(completed).take(2));
+    let mut cases = valued_steps(rng, page, code, widths);
+    // Each edge at two of the four pairs of widths: at both m and both x.
+    let alike = (widths & alu::M != 0) == (widths & alu::X != 0);
+    let edges = (0..aimed).filter(|k| (k % 2 == 0) == alike);
+    cases.extend(edges.map(|k| edge_step(rng, page, code, widths, k % EDGES)));
+    cases.push(aimed_step(rng, page, code, widths));
     cases
 }
 
@@ -233,10 +259,11 @@ fn calls(word: Word) -> bool {
     matches!(word, Word::JSR | Word::RTS | Word::RTL)
 }
 
-/// Drawn runs, refused ones, and images at and past the limit.
+/// Drawn runs, runs aimed at each number, programs that are run on, and
+/// images at and past the limit.
 fn run_records(rng: &mut Rng) -> Vec<Vec<u8>> {
     let mut records = Vec::new();
-    while records.len() < 2_000 {
+    while records.len() < 1_400 {
         let case = match records.len() % 8 {
             0 => refused_run(rng),
             _ => run_case(rng),
@@ -245,27 +272,60 @@ fn run_records(rng: &mut Rng) -> Vec<Vec<u8>> {
             records.push(run_record(&case));
         }
     }
-    for length in [16_384, 16_385] {
+    for number in RUN_NUMBERS {
+        for _ in 0..LEAST {
+            let case = if number < 20 {
+                refused_by(rng, number)
+            } else {
+                stopped_by(rng, number)
+            };
+            records.push(run_record(&case));
+        }
+    }
+    for _ in 0..60 {
+        records.extend(continued_runs(rng).iter().map(run_record));
+    }
+    records.extend(longest_images(1_000_000).iter().map(run_record));
+    records
+}
+
+/// An image of the greatest length, and one that is a byte longer.
+fn longest_images(steps: u32) -> [RunCase; 2] {
+    [16_384, 16_385].map(|length| {
         let mut case = RunCase {
             image: vec![0xEA; length],
             base: 0x12_0000,
             state: vec![0; STATE_BYTES],
             ram: vec![0; 16],
             fill: (0, 0),
-            steps: 1_000_000,
+            steps,
         };
         case.image[length - 1] = 0xDB;
         case.state[16] = 0x12;
-        records.push(run_record(&case));
-    }
-    records
+        case
+    })
 }
 
-/// Drawn lists, and a few small ones damaged at every byte: each byte
-/// replaced in several ways, removed, doubled, and the text cut there.
+/// Drawn lists, texts aimed at each number, one list out of form in many
+/// ways, and a few small ones damaged at every byte: each byte replaced in
+/// several ways, removed, doubled, and the text cut there.
 fn read_records(rng: &mut Rng) -> Vec<Vec<u8>> {
-    let mut records: Vec<Vec<u8>> = (0..1_500).map(|_| read_record(&read_case(rng))).collect();
-    for marks in [&[1, 0, 0, 1, 3, 0, 3][..], &[1, 0x2F], &[1]] {
+    let drawn = (0..1_500).map(|_| read_record(&read_case(rng)));
+    // One long list stands below.
+    let mut records: Vec<Vec<u8>> = drawn.filter(|record| record.len() < 4_000).collect();
+    for number in READ_NUMBERS {
+        for _ in 0..LEAST {
+            records.push(read_record(&read_by(rng, number)));
+        }
+    }
+    records.extend(out_of_form().iter().map(read_record));
+    // The greatest length up to a bank's end, a byte past it, a byte longer.
+    for (base, marks_len) in [("C000", 16_384), ("C001", 16_384), ("0000", 16_385)] {
+        let text = format!("I\t12{base}\t{marks_len}\t{base}\n{base}\t0\t0\tN\t0\t0\n");
+        let text = text.into_bytes();
+        records.push(read_record(&ReadCase { text, marks_len }));
+    }
+    for marks in [&[1, 0, 0, 1, 3, 0, 3][..], &[1, 0x2F], &[1, 0x57], &[1]] {
         let page_len = 15 * marks.len() + 16;
         let (base, reset) = (0x12_FFF9, 0xFFF9);
         let marks = marks.to_vec();
@@ -311,7 +371,8 @@ fn damages(rng: &mut Rng, text: &[u8], at: usize) -> Vec<Vec<u8>> {
     texts
 }
 
-/// Drawn marks, and lists with pages exact and one byte short.
+/// Drawn marks, marks aimed at each number, and lists with pages exact and
+/// one byte short and long.
 fn write_records(rng: &mut Rng) -> Vec<Vec<u8>> {
     let mut records = Vec::new();
     while records.len() < 1_500 {
@@ -320,18 +381,36 @@ fn write_records(rng: &mut Rng) -> Vec<Vec<u8>> {
             records.push(write_record(&case));
         }
     }
+    for number in WRITE_NUMBERS {
+        for _ in 0..LEAST {
+            records.push(write_record(&write_by(rng, number)));
+        }
+    }
+    let one_page = |marks: Vec<u8>, page_len: usize| {
+        let (base, reset) = (0xFF_0000, 0);
+        write_record(&WriteCase {
+            marks,
+            base,
+            reset,
+            page_len,
+        })
+    };
     for length in [1usize, 9, 10, 99, 100, 1_000] {
         let exact = 15 + length.to_string().len() + 15 * length;
         for page_len in [exact - 1, exact, exact + 1] {
-            let marks = vec![1; length];
-            let (base, reset) = (0xFF_0000, 0);
-            records.push(write_record(&WriteCase {
-                marks,
-                base,
-                reset,
-                page_len,
-            }));
+            records.push(one_page(vec![1; length], page_len));
         }
+    }
+    // Every length of page for a list of two lines, and for one of three.
+    for marks in [&[1][..], &[1, 0, 0x77]] {
+        for page_len in 0..=48 {
+            records.push(one_page(marks.to_vec(), page_len));
+        }
+    }
+    for length in [16_384, 16_385] {
+        let mut marks = vec![0; length];
+        (marks[0], marks[length - 1]) = (1, 0x6F);
+        records.push(one_page(marks, 100));
     }
     records
 }

@@ -167,3 +167,274 @@ impl WriteCase {
         (answer, page)
     }
 }
+
+/// Marks with starts that are drawn, the first a reset's.
+fn drawn_marks(rng: &mut Rng, length: usize) -> Vec<u8> {
+    let good = [
+        0x01, 0x03, 0x05, 0x07, 0x09, 0x11, 0x2B, 0x4D, 0x6F, 0x77, 0x31,
+    ];
+    let mut marks: Vec<u8> = (0..length)
+        .map(|_| {
+            if rng.chance(1, 2) {
+                *rng.pick(&good)
+            } else {
+                0
+            }
+        })
+        .collect();
+    marks[0] = 0x01;
+    marks
+}
+
+/// A base at which this many bytes lie within a bank.
+fn drawn_base(rng: &mut Rng, length: usize) -> u32 {
+    let last = 0x1_0000 - length as u32;
+    let bank = *rng.pick(&[0u32, 1, 0x12, 0x7F, 0xAB, 0xFF]) << 16;
+    bank | *rng.pick(&[0, 1, 0xC000, last, last.min(0xFFF0), 0xABCD.min(last)])
+}
+
+fn head_line(base: u32, length: &str, reset: u32) -> String {
+    format!("I\t{base:06X}\t{length}\t{reset:04X}\n")
+}
+
+/// A text that is answered with this number: 0, 1, 2, 3 or 14. Many of them
+/// break later rules too.
+pub fn read_by(rng: &mut Rng, number: u8) -> ReadCase {
+    loop {
+        let case = aimed_text(rng, number);
+        if case.answer().0 as u8 == number {
+            return case;
+        }
+    }
+}
+
+fn aimed_text(rng: &mut Rng, number: u8) -> ReadCase {
+    let length = 1 + rng.index(9);
+    let mut marks = drawn_marks(rng, length);
+    let base = drawn_base(rng, length);
+    if number == 3 {
+        marks[0] = *rng.pick(&[0, 0x01, 0x03, 0x05, 0x07, 0x09, 0x11]);
+    }
+    let lines: String = starts_of(&marks, base);
+    let within = base & 0xFFFF;
+    let near = [
+        within,
+        within,
+        within + length as u32,
+        within.wrapping_sub(1),
+        0,
+    ];
+    let reset = match number {
+        3 => *rng.pick(&near) & 0xFFFF,
+        _ => within,
+    };
+    let (mut said, mut marks_len) = (length.to_string(), length);
+    let mut text = head_line(base, &said, reset) + &lines;
+    match number {
+        1 if rng.chance(1, 2) => {
+            marks_len = *rng.pick(&[0, length - 1, length + 1, length + 256, 16_384, 16_385]);
+        }
+        1 => {
+            said = rng
+                .pick(&["0", "16385", "16384", "65535", "65536", "99999", "20000"])
+                .to_string();
+            marks_len = said.parse().unwrap_or(0);
+            let lines = if marks_len == 0 { "" } else { &lines };
+            // The bank's end, the reset or both may be broken too.
+            let base = if rng.chance(1, 2) {
+                base
+            } else {
+                base | 0xFFFF
+            };
+            let reset = if rng.chance(1, 2) { reset } else { reset ^ 1 };
+            let lines = if base & 0xFFFF == within { lines } else { "" };
+            text = head_line(base, &said, reset) + lines;
+            if marks_len <= 16_384 && marks_len > 0 {
+                marks_len += 1;
+            }
+        }
+        2 => {
+            marks_len = *rng.pick(&[length + 1, length + 2, 256, 16_384]);
+            let base = base & 0xFF_0000 | (0x1_0000 - length as u32);
+            let reset = if rng.chance(1, 2) { base } else { 0 } & 0xFFFF;
+            text = head_line(base, &marks_len.to_string(), reset);
+            if rng.chance(2, 3) {
+                text += &starts_of(&marks, base);
+            }
+        }
+        14 => {
+            let mut bytes = text.into_bytes();
+            damage_byte(rng, &mut bytes);
+            marks_len = *rng.pick(&[length, length, 0, length + 1]);
+            return ReadCase {
+                text: bytes,
+                marks_len,
+            };
+        }
+        _ => {}
+    }
+    ReadCase {
+        text: text.into_bytes(),
+        marks_len,
+    }
+}
+
+/// The lines of the starts among marks.
+fn starts_of(marks: &[u8], base: u32) -> String {
+    let mut text = String::new();
+    for (k, &mark) in marks.iter().enumerate().filter(|(_, m)| **m != 0) {
+        let bit = |mask: u8| (mark & mask != 0) as u8;
+        let kind = ['N', 'S', 'L'][(mark >> 3 & 3) as usize];
+        let address = (base & 0xFFFF) + k as u32;
+        let (m, x, rm, rx) = (bit(2), bit(4), bit(0x20), bit(0x40));
+        text += &format!("{address:04X}\t{m}\t{x}\t{kind}\t{rm}\t{rx}\n");
+    }
+    text
+}
+
+/// One list in form and many that are not quite: lines in wrong order, twice
+/// or empty, more or fewer digits, small letters, other bytes between
+/// fields, something behind the end; each for marks of its length.
+pub fn out_of_form() -> Vec<ReadCase> {
+    let marks = [0x01, 0, 0x0B, 0x77, 0x31, 0, 0, 0x05, 0, 0x01];
+    let base = 0xAB_CDEA;
+    let text = head_line(base, "10", base & 0xFFFF) + &starts_of(&marks, base);
+    let lines: Vec<&str> = text.split_inclusive('\n').collect();
+    let mut texts = vec![text.clone()];
+    for a in 0..lines.len() {
+        for b in 0..a {
+            let mut swapped = lines.clone();
+            swapped.swap(a, b);
+            texts.push(swapped.concat());
+        }
+        let (before, behind) = (lines[..a].concat(), lines[a + 1..].concat());
+        let line = lines[a];
+        texts.push(format!("{before}{behind}"));
+        texts.push(format!("{before}{line}{line}{behind}"));
+        texts.push(format!("{before}\n{line}{behind}"));
+        texts.push(format!("{before}{}\r\n{behind}", line.trim_end()));
+        texts.push(format!("{before}{}\t\n{behind}", line.trim_end()));
+        texts.push(format!("{before}{}{behind}", line.trim_end()));
+        texts.push(format!("{before}{}{behind}", line.replace('\t', " ")));
+        let fields: Vec<&str> = line.trim_end().split('\t').collect();
+        for f in 0..fields.len() {
+            let field = fields[f];
+            let shorter = &field[1..];
+            for other in [
+                format!("0{field}"),
+                format!("{field}0"),
+                format!("1{field}"),
+                format!("+{field}"),
+                format!(" {field}"),
+                format!("{field} "),
+                shorter.to_string(),
+                field.to_lowercase(),
+                field.replace('0', "O"),
+                field.replace('1', "2"),
+            ] {
+                if other == field {
+                    continue;
+                }
+                let mut fields: Vec<&str> = fields.clone();
+                fields[f] = &other;
+                texts.push(format!("{before}{}\n{behind}", fields.join("\t")));
+            }
+        }
+    }
+    for tail in ["\n", "\0", " ", "\t", "I", "CDF3", "CDF4\t0\t0\tN\t0\t0\n"] {
+        texts.push(format!("{text}{tail}"));
+    }
+    // Addresses: next below, next above, past the bank's end, from 0000 on.
+    for line in ["CDE9", "CDF4", "FFFF", "0000", "CDF3"] {
+        let start = format!("{line}\t0\t0\tN\t0\t0\n");
+        texts.push(format!("{}{start}", lines[0]));
+        texts.push(format!("{}{}{start}", lines[0], lines[1]));
+    }
+    let mut cases: Vec<ReadCase> = texts
+        .into_iter()
+        .map(|text| ReadCase {
+            text: text.into_bytes(),
+            marks_len: 10,
+        })
+        .collect();
+    for marks_len in [0, 1, 9, 11, 266, 16_384, 16_385, 65_546] {
+        let text = text.clone().into_bytes();
+        cases.push(ReadCase { text, marks_len });
+    }
+    cases.push(ReadCase {
+        text: Vec::new(),
+        marks_len: 0,
+    });
+    cases
+}
+
+/// Marks that the writer answers with this number: 0, 1, 2, 3, 4 or 15. Many
+/// of them break later rules too.
+pub fn write_by(rng: &mut Rng, number: u8) -> WriteCase {
+    loop {
+        let case = aimed_marks(rng, number);
+        if case.answer().0 as u8 == number {
+            return case;
+        }
+    }
+}
+
+fn aimed_marks(rng: &mut Rng, number: u8) -> WriteCase {
+    let length = 1 + rng.index(12);
+    let mut marks = drawn_marks(rng, length);
+    let mut base = drawn_base(rng, length);
+    let mut reset = base & 0xFFFF;
+    let starts = marks.iter().filter(|&&m| m != 0).count();
+    let exact = 15 + length.to_string().len() + 15 * starts;
+    // In the order of the writer's rules: 1, 2, 4, 3, 15.
+    let order = [1, 2, 4, 3, 15];
+    let first = order.iter().position(|&n| n == number);
+    let later = rng.chance(1, 2);
+    let mut page_len = exact + *rng.pick(&[0, 0, 1, 20]);
+    for (place, rule) in order.iter().enumerate() {
+        let also = later && Some(place) > first && first.is_some() && rng.chance(1, 2);
+        if Some(place) != first && !also {
+            continue;
+        }
+        match rule {
+            1 => marks.clear(),
+            2 => base = broken_base(rng, length),
+            4 if !marks.is_empty() => {
+                let at = *rng.pick(&[0, marks.len() - 1, marks.len() / 2]);
+                let bad = [
+                    0x02, 0x80, 0x81, 0x19, 0x21, 0x41, 0x08, 0x40, 0xFF, 0x99, 0x04,
+                ];
+                marks[at] = *rng.pick(&bad);
+            }
+            3 => match rng.below(3) {
+                0 if !marks.is_empty() => marks[0] = *rng.pick(&[0, 0x03, 0x05, 0x09, 0x11]),
+                1 => reset = *rng.pick(&[0x1_0000 | reset, 0x1_0000, u32::MAX, base | 0x100_0000]),
+                _ => {
+                    reset =
+                        *rng.pick(&[reset + length as u32, reset.wrapping_sub(1), reset ^ 0x8000])
+                }
+            },
+            15 => {
+                page_len = *rng.pick(&[0, 1, 15, 16, exact - 16, exact - 15, exact - 1, exact / 2])
+            }
+            _ => {}
+        }
+    }
+    WriteCase {
+        marks,
+        base,
+        reset,
+        page_len,
+    }
+}
+
+/// Above FFFFFF, or past a bank's end by one byte or more.
+fn broken_base(rng: &mut Rng, length: usize) -> u32 {
+    let past = 0x1_0001 - length as u32 + rng.below(length as u64) as u32;
+    match rng.below(3) {
+        0 => *rng.pick(&[0x100_0000, 0x100_C000, 0x8000_0000, u32::MAX]),
+        _ if past > 0xFFFF => 0x100_0000,
+        1 => 0xFF_0000 | past,
+        _ => (rng.byte() as u32) << 16 | past,
+    }
+}

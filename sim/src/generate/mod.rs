@@ -1,16 +1,23 @@
 //! Cases drawn by seed: the same seed gives the same cases everywhere.
 
+mod aims;
 mod checks;
 mod lists;
+mod places;
 mod programs;
 mod runs;
+mod scene;
 mod steps;
+mod values;
 
+pub use aims::{continued_runs, refused_by, stopped_by};
 pub use checks::{check_case, damaged, hostile_check};
-pub use lists::{read_case, write_case, ReadCase, WriteCase};
+pub use lists::{out_of_form, read_by, read_case, write_by, write_case, ReadCase, WriteCase};
+pub use places::placed_steps;
 pub use programs::{accepted, every_code, gentle, Program};
 pub use runs::{refused_run, run_case};
 pub use steps::{aimed_step, edge_step, step_case, RunCase, EDGES};
+pub use values::{crossed_steps, valued_steps, VALUES};
 
 /// Arguments of a check.
 #[derive(Clone, PartialEq, Eq, Debug)]

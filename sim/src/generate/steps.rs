@@ -124,7 +124,7 @@ fn build(rng: &mut Rng, page: usize, code: u8, widths: u16, edge: Option<usize>)
     }
 }
 
-fn patch(patches: &[(u32, u8)], ram: &mut [u8], image: &mut [u8], base: u32) {
+pub(super) fn patch(patches: &[(u32, u8)], ram: &mut [u8], image: &mut [u8], base: u32) {
     for &(address, byte) in patches {
         let in_image = address.wrapping_sub(base) as usize;
         if let Some(place) = ram.get_mut(address as usize) {
@@ -146,7 +146,7 @@ fn status(rng: &mut Rng, entry: &Entry, widths: u16) -> u16 {
     }
 }
 
-fn state_of(r: &Registers, calls: &[(u32, u8)]) -> Vec<u8> {
+pub(super) fn state_of(r: &Registers, calls: &[(u32, u8)]) -> Vec<u8> {
     let mut state = vec![0; STATE_BYTES];
     r.write(&mut state);
     set_depth(&mut state, calls.len());

@@ -1,9 +1,11 @@
 //! The generator: the seed alone decides, and it reaches what it should.
 
+use sim7700::codes::{Mode, Word};
 use sim7700::generate::*;
 use sim7700::listing::listing;
+use sim7700::state::{depth, Registers};
 use sim7700::{check, codes};
-use std::collections::BTreeSet;
+use std::collections::{BTreeMap, BTreeSet};
 
 #[test]
 fn the_seed_alone_decides() {
@@ -150,4 +152,186 @@ fn lists_reach_every_number() {
     }
     assert_eq!(read, BTreeSet::from([0, 1, 2, 3, 14]));
     assert_eq!(written, BTreeSet::from([0, 1, 2, 3, 4, 15]));
+}
+
+/// Aimed cases have their number, whatever the seed.
+#[test]
+fn aimed_cases_have_their_number() {
+    for seed in 0..8 {
+        let mut rng = Rng::new(seed);
+        for _ in 0..20 {
+            for number in [1, 2, 11, 12, 13] {
+                assert_eq!(refused_by(&mut rng, number).answer().0, number as u64);
+            }
+            for stop in 20..=27 {
+                let (answer, ..) = stopped_by(&mut rng, stop).answer();
+                assert_eq!(answer & 0xFFFF, (stop as u64) << 8);
+            }
+            for number in [0, 1, 2, 3, 14] {
+                assert_eq!(read_by(&mut rng, number).answer().0 as u8, number);
+            }
+            for number in [0, 1, 2, 3, 4, 15] {
+                assert_eq!(write_by(&mut rng, number).answer().0 as u8, number);
+            }
+        }
+    }
+}
+
+/// Steps with edge values are completed, but for STP and WIT.
+#[test]
+fn valued_steps_are_completed() {
+    let mut rng = Rng::new(3);
+    for (page, code) in (0..3).flat_map(|page| (0..=255).map(move |code| (page, code))) {
+        let entry = codes::entry_of(page, code);
+        for widths in [0, 0x10, 0x20, 0x30] {
+            if !entry.carried {
+                continue;
+            }
+            let halts = matches!(entry.word, Word::STP | Word::WIT);
+            let end = if halts { 22 << 8 } else { 0 };
+            for case in valued_steps(&mut rng, page, code, widths) {
+                assert_eq!(case.answer().0 & 0xFFFF, end, "{entry:?} {case:02X?}");
+            }
+        }
+    }
+}
+
+/// What a placed step begins with: page and code, m and x, S, open calls.
+type Begin = (usize, u8, u16, u16, usize);
+
+fn begin(case: &RunCase) -> Option<Begin> {
+    let r = Registers::read(&case.state);
+    let at = r.pc.checked_sub(case.base)? as usize;
+    let page = codes::page_of(*case.image.get(at)?);
+    let code = *case.image.get(at + (page > 0) as usize)?;
+    Some((page, code, r.ps & 0x30, r.s, depth(&case.state)))
+}
+
+/// Stops of placed steps by code, and what S and the open calls were.
+fn placed() -> BTreeMap<(usize, u8), Vec<(u8, Begin)>> {
+    let mut all: BTreeMap<_, Vec<_>> = BTreeMap::new();
+    for case in placed_steps(&mut Rng::new(21)) {
+        let stop = (case.answer().0 >> 8) as u8;
+        if let Some(begin) = begin(&case) {
+            let code = (begin.0, begin.1);
+            all.entry(code).or_default().push((stop, begin));
+        }
+    }
+    all
+}
+
+/// Every storing, pushing, pulling, returning, calling and adding code stops
+/// with each number that it can, words and bytes, wherever S is.
+#[test]
+fn placed_steps_stop_at_each_place() {
+    use Word::*;
+    let placed = placed();
+    let stops = |page: usize, code: u8, wanted: &dyn Fn(&Begin) -> bool| -> BTreeSet<u8> {
+        let all = placed.get(&(page, code)).into_iter().flatten();
+        all.filter(|(_, b)| wanted(b)).map(|&(n, _)| n).collect()
+    };
+    for (page, code) in (0..3).flat_map(|page| (0..=255).map(move |code| (page, code))) {
+        let entry = codes::entry_of(page, code);
+        let any = stops(page, code, &|_| true);
+        let holds = |numbers: &[u8]| numbers.iter().all(|n| any.contains(n));
+        let (m, x) = (0x20, 0x10);
+        match entry.word {
+            STA | STX | STY | LDM | SEB | CLB | ASL | LSR | ROL | ROR | INC | DEC
+                if entry.mode != Mode::ACC =>
+            {
+                let by = if matches!(entry.word, STX | STY) {
+                    x
+                } else {
+                    m
+                };
+                for width in [0, by] {
+                    let at_width = stops(page, code, &|b| b.2 & by == width);
+                    assert!(
+                        at_width.is_superset(&BTreeSet::from([0, 23, 26])),
+                        "{entry:?}"
+                    );
+                }
+            }
+            PHA | PHB | PHD | PHG | PHP | PHT | PHX | PHY | PEA | PEI | PER | JSR
+                if entry.carried =>
+            {
+                assert!(holds(&[0, 23, 26]), "{entry:?} {any:?}");
+                let bytes = match (entry.word, entry.mode) {
+                    (JSR, Mode::ABL) => 3,
+                    (PHG | PHT, _) => 1,
+                    _ => 2,
+                };
+                let by = match entry.word {
+                    PHA | PHB => m,
+                    PHX | PHY => x,
+                    _ => 0,
+                };
+                for s in [0, 1, 2, 0xFFFE, 0xFFFF] {
+                    let at = stops(page, code, &|b| b.3 == s && b.4 < 63 && b.2 & by == 0);
+                    // Past 0000 is FFFF: nothing, or the image's last byte.
+                    let fails = s > 2 || s + 1 < bytes;
+                    let wanted = BTreeSet::from(if fails { [23, 26] } else { [0, 0] });
+                    assert!(at.is_superset(&wanted), "{entry:?} {s:X} {at:?}");
+                }
+            }
+            PLA | PLB | PLD | PLT | PLX | PLY => assert!(holds(&[0, 23]), "{entry:?} {any:?}"),
+            RTS | RTL => assert!(holds(&[0, 23, 24]), "{entry:?} {any:?}"),
+            ADC | SBC => assert!(holds(&[20, 27]), "{entry:?} {any:?}"),
+            _ => {}
+        }
+        if entry.word == JSR && entry.carried {
+            // 25 wherever S is; one call fewer, and S decides.
+            assert_eq!(stops(page, code, &|b| b.4 == 64), BTreeSet::from([25]));
+            let below = stops(page, code, &|b| b.4 == 63);
+            assert_eq!(below, BTreeSet::from([0, 23, 26]));
+        }
+        if entry.word != Unassigned && entry.lengths[3] > 1 + (page > 0) as u8 {
+            assert!(
+                any.contains(&if entry.carried { 20 } else { 21 }),
+                "{entry:?}"
+            );
+        }
+    }
+}
+
+/// Runs of one program: each from the last one's end, refused ones between.
+#[test]
+fn continued_runs_continue() {
+    let mut rng = Rng::new(17);
+    let (mut refused, mut steps) = (0, 0);
+    for _ in 0..100 {
+        let runs = continued_runs(&mut rng);
+        let (mut state, mut ram) = (runs[0].state.clone(), runs[0].ram.clone());
+        let mut first = true;
+        for run in &runs {
+            assert!(run.image == runs[0].image && run.base == runs[0].base);
+            let (answer, state_after, ram_after) = run.answer();
+            assert!(run.ram == ram);
+            if answer & 0xFF != 0 {
+                refused += 1;
+                assert!(state_after == run.state && ram_after == ram);
+            } else {
+                assert!(first || run.state == state);
+                first = false;
+                steps += answer >> 16 & 0xFF_FFFF;
+                (state, ram) = (state_after, ram_after);
+            }
+        }
+    }
+    assert!(refused > 50 && steps > 1_000, "{refused} and {steps}");
+}
+
+/// Of the texts that are not quite lists few are read: the list itself, and
+/// it with other widths or without a line. None is there twice.
+#[test]
+fn out_of_form_is_mostly_14() {
+    let mut count = BTreeMap::new();
+    let mut seen = BTreeSet::new();
+    for case in out_of_form() {
+        *count.entry(case.answer().0 as u8).or_insert(0) += 1;
+        seen.insert((case.text, case.marks_len));
+    }
+    assert!(count[&14] > 250 && count[&0] >= 5, "{count:?}");
+    assert!(count[&1] >= 8 && count[&3] >= 1, "{count:?}");
+    assert!(seen.len() + 60 > count.values().sum::<usize>(), "{count:?}");
 }

@@ -1,8 +1,11 @@
 //! The vector files: read back by README.md's format and tried again.
 
-use sim7700::vectors::{files, DEFAULT_SEED, MAX_FILE};
+use sim7700::codes::{entry_of, page_of, Register, Word};
+use sim7700::generate::VALUES;
+use sim7700::state::Registers;
+use sim7700::vectors::*;
 use sim7700::{check, read_list, run, write_list};
-use std::collections::BTreeMap;
+use std::collections::{BTreeMap, BTreeSet};
 
 #[test]
 fn the_same_seed_gives_the_same_bytes() {
@@ -12,6 +15,21 @@ fn the_same_seed_gives_the_same_bytes() {
     for (name, bytes) in first {
         assert!(bytes.len() <= MAX_FILE, "{name} has {} bytes", bytes.len());
     }
+}
+
+/// The check files are kept elsewhere too: their bytes stay (FNV-1a, 64 bits,
+/// over names and bytes).
+#[test]
+fn check_files_stay() {
+    let mut hash = 0xCBF2_9CE4_8422_2325u64;
+    for (name, bytes) in files(DEFAULT_SEED) {
+        if name.starts_with("check") {
+            for &byte in name.as_bytes().iter().chain(&bytes) {
+                hash = (hash ^ byte as u64).wrapping_mul(0x100_0000_01B3);
+            }
+        }
+    }
+    assert_eq!(hash, 0x609C_1CB5_EDEC_D7E0, "{hash:016X}");
 }
 
 /// A reader of the format, as README.md tells it.
@@ -135,10 +153,135 @@ fn records_agree_and_every_number_stands() {
             assert!(stands >= Some(times), "{kind} {number}: {stands:?}");
         }
     };
+    let all = |numbers: &[u8]| -> Vec<u64> {
+        let besides = numbers.iter().map(|&number| number as u64);
+        std::iter::once(0).chain(besides).collect()
+    };
     least("check", &[0, 1, 2, 3, 4, 5, 6, 7, 8, 9, 10], 100);
-    least("step", &[0, 20, 21, 22, 23, 24, 25, 26, 27], 30);
-    least("run", &[0, 20, 21, 22, 23, 24, 25, 26, 27], 5);
-    least("run", &[1, 2, 11, 12, 13], 5);
-    least("read", &[0, 1, 2, 3, 14], 10);
-    least("write", &[0, 1, 2, 3, 4, 15], 10);
+    least("step", &all(&STEP_NUMBERS), 100);
+    least("run", &all(&RUN_NUMBERS), 100);
+    least("read", &all(&READ_NUMBERS), 100);
+    least("write", &all(&WRITE_NUMBERS), 100);
+}
+
+/// A run's or step's record without its RAM: image, base, state before,
+/// answer, state after.
+struct Ran {
+    image: Vec<u8>,
+    base: u32,
+    before: Vec<u8>,
+    ram: Vec<u8>,
+    answer: u64,
+    after: Vec<u8>,
+    ram_after: Vec<u8>,
+}
+
+fn ran(kind: &str) -> Vec<Ran> {
+    let mut all = Vec::new();
+    for (name, bytes) in files(DEFAULT_SEED) {
+        if !name.starts_with(kind) {
+            continue;
+        }
+        let mut r = Reader(&bytes);
+        for _ in 0..r.number(4) {
+            let (base, _) = (r.number(4) as u32, r.number(4));
+            let image = r.bytes().to_vec();
+            let (before, ram) = (r.buffer(), r.buffer());
+            let answer = r.number(8);
+            let (mut after, mut ram_after) = (before.clone(), ram.clone());
+            r.pieces(&mut after);
+            r.pieces(&mut ram_after);
+            all.push(Ran {
+                image,
+                base,
+                before,
+                ram,
+                answer,
+                after,
+                ram_after,
+            });
+        }
+    }
+    all
+}
+
+/// Page, code and PS bits of m and x of the instruction that a step begins
+/// with, if it is in the image.
+fn instruction(step: &Ran) -> Option<(usize, u8, u16)> {
+    if step.answer & 0xFF != 0 {
+        return None;
+    }
+    let r = Registers::read(&step.before);
+    let at = r.pc.checked_sub(step.base)? as usize;
+    let page = page_of(*step.image.get(at)?);
+    let code = *step.image.get(at + (page > 0) as usize)?;
+    Some((page, code, r.ps & 0x30))
+}
+
+/// Every carried code is completed at each pair of widths with each edge
+/// value in the accumulator of its syntax (A if it names none), with each
+/// flag set and with each flag clear.
+#[test]
+fn carried_codes_stand_with_edge_values_and_flags() {
+    let mut values = BTreeSet::new();
+    let mut flags = BTreeMap::new();
+    for step in ran("step") {
+        let Some((page, code, widths)) = instruction(&step) else {
+            continue;
+        };
+        let entry = entry_of(page, code);
+        let halts = matches!(entry.word, Word::STP | Word::WIT);
+        if (step.answer >> 8 & 0xFF == 0) != halts {
+            let r = Registers::read(&step.before);
+            let value = if entry.register == Register::B {
+                r.b
+            } else {
+                r.a
+            };
+            values.insert((page, code, widths, value));
+            let (set, clear) = flags.entry((page, code, widths)).or_insert((0, 0));
+            *set |= r.ps;
+            *clear |= !r.ps;
+        }
+    }
+    let mut carried = 0;
+    for (page, code) in (0..3).flat_map(|page| (0..=255).map(move |code| (page, code))) {
+        let entry = entry_of(page, code);
+        if !entry.carried {
+            continue;
+        }
+        carried += 1;
+        for widths in [0, 0x10, 0x20, 0x30] {
+            for value in VALUES {
+                assert!(values.contains(&(page, code, widths, value)), "{entry:?}");
+            }
+            let decimal = matches!(entry.word, Word::ADC | Word::SBC) as u16 * 8;
+            let (set, clear) = flags[&(page, code, widths)];
+            assert_eq!(set & 0x7CF, 0x7CF & !decimal, "{entry:?}");
+            assert_eq!(clear & 0x7CF, 0x7CF, "{entry:?}");
+        }
+    }
+    assert_eq!(carried, 380);
+}
+
+/// Among the runs are such that begin with image, state and RAM of the end
+/// of one before, and refused ones of the same program between them.
+#[test]
+fn runs_go_on_from_ends() {
+    let runs = ran("run");
+    let (mut on, mut between) = (0, 0);
+    for k in 1..runs.len() {
+        let goes_on = |from: &Ran, to: &Ran| {
+            from.image == to.image && from.after == to.before && from.ram_after == to.ram
+        };
+        let steps = |run: &Ran| run.answer >> 16 & 0xFF_FFFF;
+        let fine = |run: &Ran| run.answer & 0xFF == 0;
+        if fine(&runs[k - 1]) && fine(&runs[k]) && steps(&runs[k - 1]) > 0 {
+            on += (goes_on(&runs[k - 1], &runs[k]) && steps(&runs[k]) > 0) as u32;
+        }
+        if k > 1 && fine(&runs[k - 2]) && !fine(&runs[k - 1]) && fine(&runs[k]) {
+            between += (goes_on(&runs[k - 2], &runs[k]) && steps(&runs[k]) > 0) as u32;
+        }
+    }
+    assert!(on > 50 && between > 20, "{on} and {between}");
 }
