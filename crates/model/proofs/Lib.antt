@@ -9,3 +9,4 @@ pub mod Image
 pub mod First
 pub mod Verdict
 pub mod Meaning
+pub mod Memory

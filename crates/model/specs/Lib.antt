@@ -9,3 +9,9 @@ pub mod Image
 pub mod Rules
 pub mod Meaning
 pub mod Verdict
+pub mod Status
+pub mod Memory
+pub mod Addressing
+pub mod Arithmetic
+pub mod Effects
+pub mod Step

@@ -1,3 +1,4 @@
 // The types that the definitions in specs/ and every crate above share. The definitions are the substance of this crate.
 pub mod code;
+pub mod machine;
 pub mod rules;
