@@ -182,9 +182,13 @@ loads B = loadsB
 abbrev pub sum : ℕ → ℕ → Bool → ℕ
 sum a v carry = a + v + bit carry
 
+-- what a number of a width lacks to its highest
+abbrev pub complement : Bool → ℕ → ℕ
+complement short v = size short - 1 - v
+
 -- 'Acc, C ← Acc - M - not C', above 0 by a whole turn of the width
 abbrev pub difference : Bool → ℕ → ℕ → Bool → ℕ
-difference short a v carry = a + size short - 1 - v + bit carry
+difference short a v carry = a + complement short (low short v) + bit carry
 
 -- 'binary addition of signed data result in a value outside the range of -32768 to +32767 (-128 to +127 ..)': data counted from
 -- the lowest signed number on
@@ -199,7 +203,7 @@ sumOverflows short a v carry = isOutside short (signed short a + signed short v 
 
 abbrev pub differenceOverflows : Bool → ℕ → ℕ → Bool → Bool
 differenceOverflows short a v carry =
-    isOutside short (signed short a + size short - 1 - signed short v + bit carry)
+    isOutside short (signed short a + complement short (signed short v) + bit carry)
 
 -- C: a sum passes the width's numbers, a difference is not below 0
 abbrev pub isPast : Bool → ℕ → Bool
@@ -246,4 +250,4 @@ swaps short r = loadsA short (r .b) (withB (merged short (r .b) (r .a)) r)
 
 -- the bits of data that a mask leaves
 abbrev pub clearedBy : Bool → ℕ → ℕ → ℕ
-clearedBy short mask v = bitAnd v (size short - 1 - mask)
+clearedBy short mask v = bitAnd v (complement short (low short mask))

@@ -1,5 +1,9 @@
 // What the stepping machine works on: document 01, 'The machine'.
 
+ghost use mathlib.Core.Path.{_≡_};
+ghost use Prim.Native.Nat.{_≤_};
+ghost use Rattle.model.specs.Status.{statusOf, numberOf, bit};
+
 // The processor status register, a field for each flag and one for the interrupt priority level (manual 2.9).
 pub struct Status {
     pub carry: bool,
@@ -11,6 +15,65 @@ pub struct Status {
     pub overflow: bool,
     pub negative: bool,
     pub level: u8,
+}
+
+// A flag as a bit.
+fn bit_of(flag: bool) -> u16
+    ensures { λ r. ⌜ (r ≡ bit flag) × (r ≤ 1) ⌝ }
+{
+    if flag { 1 } else { 0 }
+}
+
+impl Status {
+    pub const C: u16 = 1;
+
+    pub const Z: u16 = 2;
+
+    pub const I: u16 = 4;
+
+    pub const D: u16 = 8;
+
+    pub const X: u16 = 16;
+
+    pub const M: u16 = 32;
+
+    pub const V: u16 = 64;
+
+    pub const N: u16 = 128;
+
+    pub const LEVEL: u16 = 256;
+
+    // The status of a number.
+    pub fn from_number(n: u16) -> Status
+        ensures { λ r. ⌜ r ≡ statusOf n ⌝ }
+    {
+        Status {
+            carry: n / Status::C % 2 == 1,
+            zero: n / Status::Z % 2 == 1,
+            disable: n / Status::I % 2 == 1,
+            decimal: n / Status::D % 2 == 1,
+            x: n / Status::X % 2 == 1,
+            m: n / Status::M % 2 == 1,
+            overflow: n / Status::V % 2 == 1,
+            negative: n / Status::N % 2 == 1,
+            level: (n / Status::LEVEL % 8) as u8,
+        }
+    }
+
+    // The number of a status.
+    pub fn number(self) -> u16
+        ensures { λ r. ⌜ r ≡ numberOf self ⌝ }
+    {
+        Status::C * bit_of(self.carry)
+            + Status::Z * bit_of(self.zero)
+            + Status::I * bit_of(self.disable)
+            + Status::D * bit_of(self.decimal)
+            + Status::X * bit_of(self.x)
+            + Status::M * bit_of(self.m)
+            + Status::V * bit_of(self.overflow)
+            + Status::N * bit_of(self.negative)
+            + Status::LEVEL * (self.level % 8) as u16
+    }
 }
 
 // The registers that hold data.
