@@ -5,6 +5,13 @@ ghost use Rattle.model.specs.Addressing as addressing;
 ghost use Rattle.model.specs.Arithmetic as spec;
 ghost use Rattle.model.specs.Status.{bit};
 
+// Data where a larger number is wanted.
+pub fn wide(v: u16) -> u64
+    ensures { λ r. ⌜ r ≡ v ⌝ }
+{
+    v as u64
+}
+
 // How many numbers data of a width can be.
 pub fn size(short: bool) -> u64
     ensures { λ r. ⌜ (r ≡ addressing.size short) × (0 < r) × (r ≤ 65_536) ⌝ }
@@ -27,6 +34,16 @@ pub fn half(short: bool) -> u64
     ensures { λ r. ⌜ (r ≡ spec.half short) × (r ≤ 32_768) ⌝ }
 {
     if short { 128 } else { 32_768 }
+}
+
+// A flag as the sign bit.
+pub fn top_bit(short: bool, flag: bool) -> u64
+    ensures { λ r. ⌜ (r ≡ spec.topBit short flag) × (r ≤ 32_768) ⌝ }
+{
+    if flag {
+        return half(short);
+    }
+    0
 }
 
 // A register with data put into it.

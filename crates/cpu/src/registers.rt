@@ -7,6 +7,7 @@ use crate::data::merged;
 use crate::data::rotated;
 use crate::data::sum;
 use crate::data::sum_overflows;
+use crate::data::wide;
 use crate::flags::with_carry;
 use crate::flags::with_overflow;
 use crate::flags::with_result;
@@ -182,4 +183,28 @@ pub fn swaps(short: bool, registers: Registers) -> Registers
     let mut changed = registers;
     changed.b = merged(short, registers.b, registers.a as u64);
     loads_a(short, registers.b as u64, changed)
+}
+
+// AND
+pub fn ands(named: Accumulator, short: bool, v: u16, registers: Registers) -> Registers
+    ensures { λ r. ⌜ r ≡ spec.ands named short v registers ⌝ }
+{
+    let a = low(short, accumulator_of(named, registers) as u64);
+    loads(named, short, wide(a & v), registers)
+}
+
+// ORA
+pub fn ors(named: Accumulator, short: bool, v: u16, registers: Registers) -> Registers
+    ensures { λ r. ⌜ r ≡ spec.ors named short v registers ⌝ }
+{
+    let a = low(short, accumulator_of(named, registers) as u64);
+    loads(named, short, wide(a | v), registers)
+}
+
+// EOR
+pub fn exclusive_ors(named: Accumulator, short: bool, v: u16, registers: Registers) -> Registers
+    ensures { λ r. ⌜ r ≡ spec.exclusiveOrs named short v registers ⌝ }
+{
+    let a = low(short, accumulator_of(named, registers) as u64);
+    loads(named, short, wide(a ^ v), registers)
 }

@@ -3,7 +3,8 @@ use model::machine::ByteRead;
 ghost use mathlib.Core.Path.{_≡_};
 ghost use Prim.Native.Nat.{_+_, _*_, _<_};
 ghost use Rattle.model.specs.Memory.{byteAt, memory, come, wordFrom, longFrom, dataFrom};
-ghost use Rattle.memory.specs.Reads.{wordRead, longRead};
+ghost use Rattle.memory.specs.Reads.{wordRead, longRead, IsLong};
+ghost use Rattle.model.specs.Image.{addressLimit};
 
 // Data of one or two bytes.
 pub enum WordRead {
@@ -13,7 +14,7 @@ pub enum WordRead {
 
 // A number of three bytes.
 pub enum LongRead {
-    Long(u64),
+    Long(u32),
     Unmapped,
 }
 
@@ -50,10 +51,10 @@ fn word_of(low: u8, high: u8) -> u16
 }
 
 // A number of its three bytes, two of them a word.
-fn long_of(low: u16, bank: u8) -> u64
-    ensures { λ r. ⌜ r ≡ low + 65_536 * bank ⌝ }
+fn long_of(low: u16, bank: u8) -> u32
+    ensures { λ r. ⌜ (r ≡ low + 65_536 * bank) × (r < addressLimit) ⌝ }
 {
-    low as u64 + 65_536 * bank as u64
+    low as u32 + 65_536 * bank as u32
 }
 
 // The word whose bytes lie at two addresses.
@@ -73,7 +74,7 @@ pub fn word_from(ram: &[u8], image: &[u8], base: u32, at: u64, then: u64) -> Wor
 
 // The number whose three bytes lie at three addresses.
 pub fn long_from(ram: &[u8], image: &[u8], base: u32, at: u64, then: u64, last: u64) -> LongRead
-    ensures { λ r. ⌜ r ≡ longRead (come (memory (now (ram .entry)) (now (image .entry)) base) (longFrom at then last)) ⌝ }
+    ensures { λ r. ⌜ (r ≡ longRead (come (memory (now (ram .entry)) (now (image .entry)) base) (longFrom at then last))) × IsLong r ⌝ }
 {
     let first = byte_at(ram, image, base, at);
     let ByteRead::Byte(low) = first else {

@@ -101,3 +101,11 @@ pub set-past : (l : List ℕ) (i v : ℕ) → length l ≤ i → set l i v ≡ l
 set-past [] i v h = refl
 set-past (x ∷ l) zero v h = absurd (not-suc-le-zero h)
 set-past (x ∷ l) (suc i) v h = ap (λ t. x ∷ t) (set-past l i v (le-of-suc-le-suc h))
+
+-- an action after one whose outcome is known
+module _ {A B : Type 0} (m : Memory) (a : Act A) (f : A → Act B) where
+  pub after-done : (v : A) → come m a ≡ done v → come m (a >>= f) ≡ come m (f v)
+  after-done v e = rw (come-bind m a f, e) refl
+
+  pub after-unmapped : come m a ≡ unmapped → come m (a >>= f) ≡ unmapped
+  after-unmapped e = rw (come-bind m a f, e) refl

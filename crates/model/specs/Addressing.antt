@@ -99,6 +99,22 @@ stackRelative r operand = r .s + operand % 256
 abbrev pub long : ℕ → ℕ
 long operand = operand % addressLimit
 
+-- addresses that memory holds: a word, in the data bank, or three bytes; Y may be added
+abbrev pub byWord : Registers → ℕ → Act ℕ
+byWord r at = do
+  pointer ← readWord at
+  ret (inDataBank r pointer)
+
+abbrev pub byWordY : Registers → ℕ → Act ℕ
+byWordY r at = do
+  pointer ← readWord at
+  ret (inDataBank r pointer + indexY r)
+
+abbrev pub byLongY : Registers → ℕ → Act ℕ
+byLongY r at = do
+  pointer ← readLong at
+  ret (pointer + indexY r)
+
 -- the address of the data by mode; where a mode names no memory, 0
 unfoldable pub addressOf : Mode → Registers → ℕ → Act ℕ
 addressOf Implied r operand = ret 0
@@ -108,19 +124,11 @@ addressOf Direct r operand = ret (direct r operand)
 addressOf DirectBit r operand = ret (direct r operand)
 addressOf DirectIndexedX r operand = ret (direct r operand + indexX r)
 addressOf DirectIndexedY r operand = ret (direct r operand + indexY r)
-addressOf DirectIndirect r operand = do
-  pointer ← readWord (direct r operand)
-  ret (inDataBank r pointer)
-addressOf DirectIndexedXIndirect r operand = do
-  pointer ← readWord (direct r operand + indexX r)
-  ret (inDataBank r pointer)
-addressOf DirectIndirectIndexedY r operand = do
-  pointer ← readWord (direct r operand)
-  ret (inDataBank r pointer + indexY r)
+addressOf DirectIndirect r operand = byWord r (direct r operand)
+addressOf DirectIndexedXIndirect r operand = byWord r (direct r operand + indexX r)
+addressOf DirectIndirectIndexedY r operand = byWordY r (direct r operand)
 addressOf DirectIndirectLong r operand = readLong (direct r operand)
-addressOf DirectIndirectLongIndexedY r operand = do
-  pointer ← readLong (direct r operand)
-  ret (pointer + indexY r)
+addressOf DirectIndirectLongIndexedY r operand = byLongY r (direct r operand)
 addressOf Absolute r operand = ret (absolute r operand)
 addressOf AbsoluteBit r operand = ret (absolute r operand)
 addressOf AbsoluteIndexedX r operand = ret (absolute r operand + indexX r)
@@ -135,9 +143,7 @@ addressOf Relative r operand = ret 0
 addressOf DirectBitRelative r operand = ret (direct r operand)
 addressOf AbsoluteBitRelative r operand = ret (absolute r operand)
 addressOf StackPointerRelative r operand = ret (stackRelative r operand)
-addressOf StackPointerRelativeIndirectIndexedY r operand = do
-  pointer ← readWord (stackRelative r operand)
-  ret (inDataBank r pointer + indexY r)
+addressOf StackPointerRelativeIndirectIndexedY r operand = byWordY r (stackRelative r operand)
 addressOf BlockTransfer r operand = ret 0
 
 -- where the data of a mode lies; JMP and JSR through memory are not carried
@@ -194,12 +200,16 @@ pulledLong r = longFrom (pulledAt r 1) (pulledAt r 2) (pulledAt r 3)
 abbrev pub pulled : Bool → Registers → Act ℕ
 pulled short r = dataFrom short (pulledAt r 1) (pulledAt r 2)
 
--- the data that a mode names
-unfoldable pub operandBy : Residence → Mode → Named → Registers → Bool → ℕ → Act Data
-operandBy Memory mode register r short operand = do
+-- the data in memory that a mode names
+abbrev pub inMemory : Mode → Registers → Bool → ℕ → Act Data
+inMemory mode r short operand = do
   address ← addressOf mode r operand
   v ← readData short address
   ret (dataAt address v)
+
+-- the data that a mode names
+unfoldable pub operandBy : Residence → Mode → Named → Registers → Bool → ℕ → Act Data
+operandBy Memory mode register r short operand = inMemory mode r short operand
 operandBy Instruction mode register r short operand = ret (dataAt 0 (low short operand))
 operandBy Register mode register r short operand = ret (dataAt 0 (low short (accumulatorOf register r)))
 

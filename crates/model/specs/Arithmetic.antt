@@ -4,7 +4,7 @@
 -- Assumes nothing.
 use Prim.Native.Nat.{ℕ, _+_, _-_, _*_, _/_, _%_, _^_}
 use mathlib.Core.Bool.{Bool, true, not, _&&_, _||_}
-use lib.Bits.{bitAnd, bitOr}
+use lib.Bits.{bitAnd, bitOr, bitXor}
 use lib.Dec.{eqb, ltb, leb}
 use Rattle.model.specs.declared.code.Accumulator.{Accumulator}
 use Rattle.model.specs.declared.code.Accumulator.the-variants.{Unnamed, A, B}
@@ -17,6 +17,10 @@ use Rattle.model.specs.Addressing.{size, low, accumulatorOf}
 -- half of the numbers: those from here on have the sign bit
 abbrev pub half : Bool → ℕ
 half short = pick short 128 32_768
+
+-- a flag as the sign bit
+abbrev pub topBit : Bool → Bool → ℕ
+topBit short flag = pick flag (half short) 0
 
 -- a register with data of a width put into it: 8 bits leave its high byte
 abbrev pub merged : Bool → ℕ → ℕ → ℕ
@@ -233,6 +237,16 @@ abbrev pub compares : Bool → ℕ → ℕ → Registers → Registers
 compares short a v r =
     flagged short (difference short (low short a) v true)
     (withStatus (withCarry (isPast short (difference short (low short a) v true)) (r .status)) r)
+
+-- AND, ORA, EOR
+abbrev pub ands : Accumulator → Bool → ℕ → Registers → Registers
+ands named short v r = loads named short (bitAnd (low short (accumulatorOf named r)) v) r
+
+abbrev pub ors : Accumulator → Bool → ℕ → Registers → Registers
+ors named short v r = loads named short (bitOr (low short (accumulatorOf named r)) v) r
+
+abbrev pub exclusiveOrs : Accumulator → Bool → ℕ → Registers → Registers
+exclusiveOrs named short v r = loads named short (bitXor (low short (accumulatorOf named r)) v) r
 
 -- RLA: 'rotate n bits to left', through no flag
 abbrev pub rotation : Bool → ℕ → ℕ

@@ -4,7 +4,7 @@
 use Prim.Native.Nat.{ℕ, _+_, _-_, _*_, _/_, _%_}
 use mathlib.Core.Bool.{Bool, true, false, not}
 use mathlib.Core.List.{List, [], _∷_}
-use lib.Bits.{bitAnd, bitOr, bitXor}
+use lib.Bits.{bitAnd, bitOr}
 use lib.Dec.{eqb, leb}
 use Rattle.model.specs.declared.code.Operation.{Operation}
 use Rattle.model.specs.declared.code.Operation.the-variants.{Unassigned}
@@ -43,10 +43,10 @@ use Rattle.model.specs.Choice.{pick}
 use Rattle.model.specs.Image.{bankSize}
 use Rattle.model.specs.Status.{numberOf, bit}
 use Rattle.model.specs.Addressing.{size, low, residenceOf, accumulatorOf, pulledAt}
-use Rattle.model.specs.Arithmetic as arithmetic
-use Rattle.model.specs.Arithmetic.{half, withCarry, withDisable, withOverflow, withFlagsSet, withFlagsCleared}
+use Rattle.model.specs.Arithmetic.{half, topBit, withCarry, withDisable, withOverflow, withFlagsSet, withFlagsCleared}
 use Rattle.model.specs.Arithmetic.{withS, withDpr, withDt, withStatus, flagged, loadsA, loadsB, loadsX, loadsY}
-use Rattle.model.specs.Arithmetic.{loads, adds, subtracts, compares, rotatesA, swaps, clearedBy}
+use Rattle.model.specs.Arithmetic.{loads, adds, subtracts, compares, ands, ors, exclusiveOrs}
+use Rattle.model.specs.Arithmetic.{rotatesA, swaps, clearedBy}
 
 -- The registers after, the bytes to be stored in their order, and whether a branch is taken.
 pub record Effect : Type 0 where
@@ -161,7 +161,7 @@ module _ (mode : Mode) (named : Accumulator) (short : Bool) (operand next : ℕ)
   unfoldable pub effectOf : Operation → Effect
   effectOf Unassigned = only r
   effectOf ADC = only (adds named short v r)
-  effectOf AND = only (loads named short (bitAnd (low short acc) v) r)
+  effectOf AND = only (ands named short v r)
   effectOf ASL = modifies (leb (half short) v) (2 * v)
   effectOf BBC = branchesIf (eqb (bitAnd v behind) 0) r
   effectOf BBS = branchesIf (eqb (clearedBy short v behind) 0) r
@@ -188,7 +188,7 @@ module _ (mode : Mode) (named : Accumulator) (short : Bool) (operand next : ℕ)
   effectOf DEX = only (loadsX short (r .x + 65_535) r)
   effectOf DEY = only (loadsY short (r .y + 65_535) r)
   effectOf DIV = only r
-  effectOf EOR = only (loads named short (bitXor (low short acc) v) r)
+  effectOf EOR = only (exclusiveOrs named short v r)
   effectOf INC = modifies (r .status .carry) (v + 1)
   effectOf INX = only (loadsX short (r .x + 1) r)
   effectOf INY = only (loadsY short (r .y + 1) r)
@@ -204,7 +204,7 @@ module _ (mode : Mode) (named : Accumulator) (short : Bool) (operand next : ℕ)
   effectOf MVN = only r
   effectOf MVP = only r
   effectOf NOP = only r
-  effectOf ORA = only (loads named short (bitOr (low short acc) v) r)
+  effectOf ORA = only (ors named short v r)
   effectOf PEA = pushes short operand r
   effectOf PEI = pushes short v r
   effectOf PER = pushes short (next + operand) r
@@ -227,7 +227,7 @@ module _ (mode : Mode) (named : Accumulator) (short : Bool) (operand next : ℕ)
   effectOf PUL = only r
   effectOf RLA = only (rotatesA short v r)
   effectOf ROL = modifies (leb (half short) v) (2 * v + bit (r .status .carry))
-  effectOf ROR = modifies (eqb (v % 2) 1) (v / 2 + half short * bit (r .status .carry))
+  effectOf ROR = modifies (eqb (v % 2) 1) (v / 2 + topBit short (r .status .carry))
   effectOf RTI = only r
   effectOf RTL = only r
   effectOf RTS = only r

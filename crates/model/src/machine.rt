@@ -134,7 +134,7 @@ pub enum Residence {
 
 // Data, and where it lies if it lies in memory.
 pub struct Data {
-    pub address: u64,
+    pub address: u32,
     pub value: u16,
 }
 

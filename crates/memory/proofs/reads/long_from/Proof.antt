@@ -6,7 +6,7 @@ use Rattle.memory.proofs.reads.long_from.Statement.{statement}
 use Rattle.memory.proofs.reads.long_from.Tie as tie
 
 returns : tie.Need-returns
-returns c = rw (← c .before .before .byte-at .ensures, c .enum-told .given .1) refl
+returns c = (rw (← c .before .before .byte-at .ensures, c .enum-told .given .1) refl, tt)
 
 returns-2 : tie.Need-returns-2
 returns-2 c =
@@ -15,7 +15,7 @@ returns-2 c =
       c .before .before .before .before .first .given .1,
       ← c .before .before .byte-at2 .ensures,
       c .enum-told2 .given .1,
-    ) refl
+    ) (refl, tt)
 
 returns-3 : tie.Need-returns-3
 returns-3 c =
@@ -26,7 +26,7 @@ returns-3 c =
       c .before .before .before .before .second .given .1,
       ← c .before .before .byte-at3 .ensures,
       c .enum-told3 .given .1,
-    ) refl
+    ) (refl, tt)
 
 returns-4 : tie.Need-returns-4
 returns-4 c =
@@ -38,9 +38,9 @@ returns-4 c =
       c .before .before .before .before .before .before .before .second .given .1,
       ← c .before .before .before .before .before .byte-at3 .ensures,
       c .before .before .before .third .given .1,
-      c .long-of .ensures,
-      c .before .word-of .ensures,
-    ) refl
+      ← c .before .word-of .ensures,
+      ← c .long-of .ensures .0,
+    ) (refl, c .long-of .ensures .1)
 
 pub long-from-spec : {M : Type 1} → statement M
 long-from-spec =
