@@ -13,3 +13,4 @@ pub mod Digits
 pub mod MarkList
 pub mod ListAnswers
 pub mod RoundTrips
+pub mod Memory

@@ -16,6 +16,10 @@ abbrev pub number : List ℕ → ℕ
 number [] = 0
 number (b ∷ bs) = b + 256 * number bs
 
+-- at most five bytes stand behind a code
+abbrev pub operandLimit : ℕ
+operandLimit = 1_099_511_627_776
+
 -- the page that a first byte leads to: 42 and 89 are prefixes
 abbrev pub pageOf : ℕ → ℕ
 pageOf first = pick (eqb first 0x42) 1 (pick (eqb first 0x89) 2 0)

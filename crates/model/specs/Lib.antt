@@ -11,3 +11,9 @@ pub mod Meaning
 pub mod Verdict
 pub mod Digits
 pub mod MarkList
+pub mod Status
+pub mod Memory
+pub mod Addressing
+pub mod Arithmetic
+pub mod Effects
+pub mod Step

@@ -1,0 +1,3 @@
+// Where an instruction's data lies, and the data itself.
+pub mod access;
+pub mod reach;

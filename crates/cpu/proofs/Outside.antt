@@ -1,0 +1,33 @@
+-- Whether a number leaves the signed range, by the two tests of the code; and how far a rotation may carry data.
+-- Assumes nothing.
+use mathlib.Core.Path.{_≡_, refl}
+use mathlib.Core.Bool.{Bool, true, false, not}
+use Prim.Native.Nat.{ℕ, _+_, _*_, _%_, _^_, _≤_, _<_}
+use native.Mathlib.Nat.{mul-le-mul, mod-eq-of-lt}
+use native.Mathlib.Omega.{arith}
+use lib.Dec.{ltb, leb}
+use lib.Pow.{pow-mono}
+use borrow.Author.Tests.{lt-ltb, le-ltb, le-leb, lt-leb, leb-true, leb-false}
+use Rattle.model.specs.Addressing.{size}
+use Rattle.model.specs.Arithmetic.{half, isOutside}
+
+pub below-half : (short : Bool) (v : ℕ) → v < half short → true ≡ isOutside short v
+below-half short v h = rw (lt-leb (half short) v h) refl
+
+pub from-half : (short : Bool) (v : ℕ) → half short ≤ v → leb (half short + size short) v ≡ isOutside short v
+from-half short v h = rw (le-leb (half short) v h) (by (leb (half short + size short) v) refl)
+  where
+    by : (b : Bool) → leb (half short + size short) v ≡ b → leb (half short + size short) v ≡ not (ltb v (half short + size
+        short))
+    by true e = rw (e, le-ltb v (half short + size short) (leb-true (half short + size short) v e)) refl
+    by false e = rw (e, lt-ltb v (half short + size short) (leb-false (half short + size short) v e)) refl
+
+pub shifted-bound : (v k : ℕ) → v ≤ 65_535 → k < 16 → v * 2 ^ k ≤ 65_535 * 32_768
+shifted-bound v k h h′ = mul-le-mul h (pow-mono {i = k} {j = 15} (omega arith))
+
+pub shifted-whole : (v k : ℕ) → v ≤ 65_535 → k < 16
+    → (v * 2 ^ k % 18_446_744_073_709_551_616 ≡ v * 2 ^ k) × (v * 2 ^ k % 18_446_744_073_709_551_616 ≤ 65_535 * 32_768)
+shifted-whole v k h h′ = (whole, rw whole (shifted-bound v k h h′))
+  where
+    whole : v * 2 ^ k % 18_446_744_073_709_551_616 ≡ v * 2 ^ k
+    whole = mod-eq-of-lt (let bound = shifted-bound v k h h′ in omega arith)

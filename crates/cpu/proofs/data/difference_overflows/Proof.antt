@@ -1,0 +1,21 @@
+-- The signed numbers' sum or difference, against the range.
+-- Assumes nothing.
+use borrow.Author.Needs.{needs}
+use Rattle.cpu.proofs.data.difference_overflows.Statement.{statement}
+use Rattle.cpu.proofs.data.difference_overflows.Tie as tie
+
+returns : tie.Need-returns
+returns c =
+    rw (
+      ← c .before .before .before .before .signed .ensures .0,
+      ← c .before .before .before .signed2 .ensures .0,
+      ← c .before .bit-of .ensures .0,
+      ← c .before .before .complement .ensures .0,
+    ) (c .is-outside .ensures)
+
+pub difference-overflows-spec : {M : Type 1} → statement M
+difference-overflows-spec =
+    tie.close
+    (tie.spec
+    (λ c κs. search needs) (λ c κs. search needs) (λ c κs. search needs) (λ c. search needs) (λ c κs. search needs)
+    (λ c. search needs) (λ c κs. search needs) returns)

@@ -1,0 +1,18 @@
+-- By the width.
+-- Assumes nothing.
+use mathlib.Core.Path.{refl}
+use borrow.Author.Needs.{needs}
+use Rattle.cpu.proofs.data.merged.Statement.{statement}
+use Rattle.cpu.proofs.data.merged.Tie as tie
+
+returns : tie.Need-returns
+returns c = rw (c .if1 .taken) refl
+
+returns-2 : tie.Need-returns-2
+returns-2 c = rw (c .if1 .left) refl
+
+pub merged-spec : {M : Type 1} → statement M
+merged-spec =
+    tie.close
+    (tie.spec
+    (λ c. search needs) (λ c. search needs) (λ c. search needs) returns (λ c. search needs) returns-2)

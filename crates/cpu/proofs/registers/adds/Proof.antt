@@ -1,0 +1,24 @@
+-- The definition's steps, one call each.
+-- Assumes nothing.
+use mathlib.Core.Path.{refl}
+use borrow.Author.Needs.{needs}
+use Rattle.cpu.proofs.registers.adds.Statement.{statement}
+use Rattle.cpu.proofs.registers.adds.Tie as tie
+
+returns : tie.Need-returns
+returns c =
+    rw (
+      c .loads .ensures,
+      c .before .sum .ensures,
+      c .before .before .with-status .ensures,
+      c .before .before .before .sum-status .ensures,
+      c .before .before .before .before .low .ensures .0,
+      c .before .before .before .before .before .accumulator-of .ensures,
+    ) refl
+
+pub adds-spec : {M : Type 1} → statement M
+adds-spec =
+    tie.close
+    (tie.spec
+    (λ c κs. search needs) (λ c. search needs) (λ c κs. search needs) (λ c κs. search needs) (λ c κs. search needs)
+    (λ c κs. search needs) (λ c κs. search needs) returns)

@@ -1,0 +1,5 @@
+// What operations do to the registers, over the width of their data, and what they store.
+pub mod data;
+pub mod effects;
+pub mod flags;
+pub mod registers;

@@ -1,0 +1,2 @@
+-- What users of the crate read off its results.
+pub mod Views

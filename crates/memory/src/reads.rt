@@ -1,0 +1,106 @@
+// Bytes of memory, and numbers made of them.
+use model::machine::ByteRead;
+ghost use mathlib.Core.Path.{_≡_};
+ghost use Prim.Native.Nat.{_+_, _*_, _<_};
+ghost use Rattle.model.specs.Memory.{byteAt, memory, come, wordFrom, longFrom, dataFrom};
+ghost use Rattle.memory.specs.Reads.{wordRead, longRead, IsLong};
+ghost use Rattle.model.specs.Image.{addressLimit};
+
+// Data of one or two bytes.
+pub enum WordRead {
+    Word(u16),
+    Unmapped,
+}
+
+// A number of three bytes.
+pub enum LongRead {
+    Long(u32),
+    Unmapped,
+}
+
+// The byte at an address.
+pub fn byte_at(ram: &[u8], image: &[u8], base: u32, address: u64) -> ByteRead
+    ensures { λ r. ⌜ r ≡ byteAt (memory (now (ram .entry)) (now (image .entry)) base) address ⌝ }
+{
+    if address < ram.len() as u64 {
+        return ByteRead::Byte(ram[address as usize]);
+    }
+    let from = base as u64;
+    if address < from {
+        return ByteRead::Unmapped;
+    }
+    let at = (address - from) as usize;
+    if at < image.len() {
+        return ByteRead::Byte(image[at]);
+    }
+    ByteRead::Unmapped
+}
+
+// A byte as data.
+fn word_of_byte(byte: u8) -> u16
+    ensures { λ r. ⌜ r ≡ byte ⌝ }
+{
+    byte as u16
+}
+
+// A word of its two bytes.
+fn word_of(low: u8, high: u8) -> u16
+    ensures { λ r. ⌜ r ≡ low + 256 * high ⌝ }
+{
+    low as u16 + 256 * high as u16
+}
+
+// A number of its three bytes, two of them a word.
+fn long_of(low: u16, bank: u8) -> u32
+    ensures { λ r. ⌜ (r ≡ low + 65_536 * bank) × (r < addressLimit) ⌝ }
+{
+    low as u32 + 65_536 * bank as u32
+}
+
+// The word whose bytes lie at two addresses.
+pub fn word_from(ram: &[u8], image: &[u8], base: u32, at: u64, then: u64) -> WordRead
+    ensures { λ r. ⌜ r ≡ wordRead (come (memory (now (ram .entry)) (now (image .entry)) base) (wordFrom at then)) ⌝ }
+{
+    let first = byte_at(ram, image, base, at);
+    let ByteRead::Byte(low) = first else {
+        return WordRead::Unmapped;
+    };
+    let second = byte_at(ram, image, base, then);
+    let ByteRead::Byte(high) = second else {
+        return WordRead::Unmapped;
+    };
+    WordRead::Word(word_of(low, high))
+}
+
+// The number whose three bytes lie at three addresses.
+pub fn long_from(ram: &[u8], image: &[u8], base: u32, at: u64, then: u64, last: u64) -> LongRead
+    ensures { λ r. ⌜ (r ≡ longRead (come (memory (now (ram .entry)) (now (image .entry)) base) (longFrom at then last))) × IsLong r ⌝ }
+{
+    let first = byte_at(ram, image, base, at);
+    let ByteRead::Byte(low) = first else {
+        return LongRead::Unmapped;
+    };
+    let second = byte_at(ram, image, base, then);
+    let ByteRead::Byte(high) = second else {
+        return LongRead::Unmapped;
+    };
+    let third = byte_at(ram, image, base, last);
+    let ByteRead::Byte(bank) = third else {
+        return LongRead::Unmapped;
+    };
+    LongRead::Long(long_of(word_of(low, high), bank))
+}
+
+// Data of one byte, or of two bytes, at their addresses.
+pub fn data_from(ram: &[u8], image: &[u8], base: u32, short: bool, at: u64, then: u64) -> WordRead
+    ensures { λ r. ⌜ r ≡ wordRead (come (memory (now (ram .entry)) (now (image .entry)) base) (dataFrom short at then)) ⌝ }
+{
+    if !short {
+        return word_from(ram, image, base, at, then);
+    }
+    let read = byte_at(ram, image, base, at);
+    match read {
+        ByteRead::Byte(byte) => WordRead::Word(word_of_byte(byte)),
+        ByteRead::Unmapped => WordRead::Unmapped,
+    }
+}

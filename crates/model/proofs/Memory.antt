@@ -1,0 +1,111 @@
+-- The byte at an address and whether a store there is served, by the parts of memory; and what an action comes to that is made
+-- of two.
+-- Assumes nothing.
+use mathlib.Core.Path.{_≡_, refl, ap}
+use mathlib.Core.Bool.{Bool, true, false, _&&_}
+use mathlib.Core.List.{List, [], _∷_}
+use Prim.Native.Nat.{ℕ, zero, suc, _-_, _≤_, _<_}
+use native.Mathlib.Nat.{not-suc-le-zero, le-of-suc-le-suc}
+use lib.Dec.{ltb, leb}
+use lib.ListN.{length, getD, set}
+use borrow.Author.Tests.{lt-ltb, le-ltb, le-leb, lt-leb}
+use Rattle.model.specs.declared.machine.ByteRead.{ByteRead}
+use Rattle.model.specs.declared.machine.ByteRead.the-variants.{Byte, Unmapped as NoByte}
+use Rattle.model.specs.declared.machine.Stop.the-variants.{Unmapped, ImageStore}
+use Rattle.model.specs.declared.machine.Served.{Served}
+use Rattle.model.specs.declared.machine.Served.the-variants.{All, Refused}
+use Rattle.model.specs.Choice.{pick}
+use Rattle.model.specs.Memory.{Memory, memory, byteAt, servedAt, Act, ret, load, _>>=_, Outcome, done, unmapped}
+use Rattle.model.specs.Memory.{onByte, come, andThen}
+
+module _ (ram image : List ℕ) (base address : ℕ) where
+  -- the choice among RAM, image and neither
+  module _ {A : Type 0} (a b c : A) where
+    abbrev choice : A
+    choice = pick (ltb address (length ram)) a (pick (leb base address && ltb (address - base) (length image)) b c)
+
+    in-ram : address < length ram → choice ≡ a
+    in-ram h = rw (lt-ltb address (length ram) h) refl
+
+    under-image : length ram ≤ address → address < base → choice ≡ c
+    under-image h below = rw (le-ltb address (length ram) h, lt-leb base address below) refl
+
+    in-image : length ram ≤ address → base ≤ address → address - base < length image → choice ≡ b
+    in-image h above inside =
+        rw (le-ltb address (length ram) h, le-leb base address above, lt-ltb (address - base) (length image) inside) refl
+
+    past-image : length ram ≤ address → base ≤ address → length image ≤ address - base → choice ≡ c
+    past-image h above past =
+        rw (le-ltb address (length ram) h, le-leb base address above, le-ltb (address - base) (length image) past) refl
+
+  abbrev m : Memory
+  m = memory ram image base
+
+  pub byte-in-ram : address < length ram → byteAt m address ≡ Byte (getD ram address 0)
+  unfolding byteAt
+  byte-in-ram = in-ram _ _ _
+
+  pub byte-under-image : length ram ≤ address → address < base → byteAt m address ≡ NoByte
+  unfolding byteAt
+  byte-under-image = under-image _ _ _
+
+  pub byte-in-image : length ram ≤ address → base ≤ address → address - base < length image
+      → byteAt m address ≡ Byte (getD image (address - base) 0)
+  unfolding byteAt
+  byte-in-image = in-image _ _ _
+
+  pub byte-past-image : length ram ≤ address → base ≤ address → length image ≤ address - base → byteAt m address ≡ NoByte
+  unfolding byteAt
+  byte-past-image = past-image _ _ _
+
+  pub served-in-ram : address < length ram → servedAt m address ≡ All
+  unfolding servedAt
+  served-in-ram = in-ram _ _ _
+
+  pub served-under-image : length ram ≤ address → address < base → servedAt m address ≡ Refused Unmapped
+  unfolding servedAt
+  served-under-image = under-image _ _ _
+
+  pub served-in-image : length ram ≤ address → base ≤ address → address - base < length image
+      → servedAt m address ≡ Refused ImageStore
+  unfolding servedAt
+  served-in-image = in-image _ _ _
+
+  pub served-past-image : length ram ≤ address → base ≤ address → length image ≤ address - base
+      → servedAt m address ≡ Refused Unmapped
+  unfolding servedAt
+  served-past-image = past-image _ _ _
+
+-- what one outcome makes of the next action
+abbrev pub onDone : {A B : Type 0} → Outcome A → (A → Outcome B) → Outcome B
+onDone (done v) more = more v
+onDone unmapped more = unmapped
+
+-- an action after another comes to what it comes to after that one's outcome
+pub come-bind : {A B : Type 0} (m : Memory) (a : Act A) (f : A → Act B)
+    → come m (a >>= f) ≡ onDone (come m a) (λ v. come m (f v))
+come-bind m (ret v) f = refl
+come-bind {A} {B} m (load at more) f = by (byteAt m at) (λ byte. come-bind m (more byte) f)
+  where
+    by : (b : ByteRead) → ((byte : ℕ) → come m (more byte >>= f) ≡ onDone (come m (more byte)) (λ v. come m (f v)))
+        → onByte b (λ byte. come m (more byte >>= f)) ≡ onDone (onByte b (λ byte. come m (more byte))) (λ v. come m (f v))
+    by (Byte byte) step = step byte
+    by NoByte step = refl
+
+pub and-then-all : (s : Served) → andThen s All ≡ s
+and-then-all All = refl
+and-then-all (Refused stop) = refl
+
+-- a store past the end changes nothing
+pub set-past : (l : List ℕ) (i v : ℕ) → length l ≤ i → set l i v ≡ l
+set-past [] i v h = refl
+set-past (x ∷ l) zero v h = absurd (not-suc-le-zero h)
+set-past (x ∷ l) (suc i) v h = ap (λ t. x ∷ t) (set-past l i v (le-of-suc-le-suc h))
+
+-- an action after one whose outcome is known
+module _ {A B : Type 0} (m : Memory) (a : Act A) (f : A → Act B) where
+  pub after-done : (v : A) → come m a ≡ done v → come m (a >>= f) ≡ come m (f v)
+  after-done v e = rw (come-bind m a f, e) refl
+
+  pub after-unmapped : come m a ≡ unmapped → come m (a >>= f) ≡ unmapped
+  after-unmapped e = rw (come-bind m a f, e) refl

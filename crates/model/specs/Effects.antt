@@ -1,0 +1,265 @@
+-- What each operation does with its data: manual 4.2, a line an instruction. The place of execution, the widths and the open
+-- calls are not the operation's: they go by its flow and its width effect (Step).
+-- Assumes nothing.
+use Prim.Native.Nat.{ℕ, _+_, _-_, _*_, _/_, _%_}
+use mathlib.Core.Bool.{Bool, true, false, not}
+use mathlib.Core.List.{List, [], _∷_}
+use lib.Bits.{bitAnd, bitOr}
+use lib.Dec.{eqb, leb}
+use Rattle.model.specs.declared.code.Operation.{Operation}
+use Rattle.model.specs.declared.code.Operation.the-variants.{Unassigned}
+use Rattle.model.specs.declared.code.Operation.the-variants.{ADC, AND, ASL, BBC, BBS, BCC, BCS, BEQ, BMI}
+use Rattle.model.specs.declared.code.Operation.the-variants.{BNE, BPL, BRA, BRK, BVC, BVS, CLB, CLC, CLI}
+use Rattle.model.specs.declared.code.Operation.the-variants.{CLM, CLP, CLV, CMP, CPX, CPY, DEC, DEX, DEY}
+use Rattle.model.specs.declared.code.Operation.the-variants.{DIV, EOR, INC, INX, INY, JMP, JSR, LDA, LDM}
+use Rattle.model.specs.declared.code.Operation.the-variants.{LDT, LDX, LDY, LSR, MPY, MVN, MVP, NOP, ORA}
+use Rattle.model.specs.declared.code.Operation.the-variants.{PEA, PEI, PER, PHA, PHB, PHD, PHG, PHP, PHT}
+use Rattle.model.specs.declared.code.Operation.the-variants.{PHX, PHY, PLA, PLB, PLD, PLP, PLT, PLX, PLY}
+use Rattle.model.specs.declared.code.Operation.the-variants.{PSH, PUL, RLA, ROL, ROR, RTI, RTL, RTS, SBC}
+use Rattle.model.specs.declared.code.Operation.the-variants.{SEB, SEC, SEI, SEM, SEP, STA, STP, STX, STY}
+use Rattle.model.specs.declared.code.Operation.the-variants.{TAD, TAS, TAX, TAY, TBD, TBS, TBX, TBY, TDA}
+use Rattle.model.specs.declared.code.Operation.the-variants.{TDB, TSA, TSB, TSX, TXA, TXB, TXS, TXY, TYA}
+use Rattle.model.specs.declared.code.Operation.the-variants.{TYB, TYX, WIT, XAB}
+use Rattle.model.specs.declared.code.Mode.{Mode}
+use Rattle.model.specs.declared.code.Mode.the-variants.{Implied, Immediate, Accumulator as InAccumulator, Direct}
+use Rattle.model.specs.declared.code.Mode.the-variants.{DirectBit, DirectIndexedX, DirectIndexedY}
+use Rattle.model.specs.declared.code.Mode.the-variants.{DirectIndirect, DirectIndexedXIndirect}
+use Rattle.model.specs.declared.code.Mode.the-variants.{DirectIndirectIndexedY, DirectIndirectLong}
+use Rattle.model.specs.declared.code.Mode.the-variants.{DirectIndirectLongIndexedY, Absolute, AbsoluteBit}
+use Rattle.model.specs.declared.code.Mode.the-variants.{AbsoluteIndexedX, AbsoluteIndexedY, AbsoluteLong}
+use Rattle.model.specs.declared.code.Mode.the-variants.{AbsoluteLongIndexedX, AbsoluteIndirect}
+use Rattle.model.specs.declared.code.Mode.the-variants.{AbsoluteIndirectLong, AbsoluteIndexedXIndirect}
+use Rattle.model.specs.declared.code.Mode.the-variants.{Stack, Relative, DirectBitRelative}
+use Rattle.model.specs.declared.code.Mode.the-variants.{AbsoluteBitRelative, StackPointerRelative}
+use Rattle.model.specs.declared.code.Mode.the-variants.{StackPointerRelativeIndirectIndexedY}
+use Rattle.model.specs.declared.code.Mode.the-variants.{BlockTransfer}
+use Rattle.model.specs.declared.code.Accumulator.{Accumulator}
+use Rattle.model.specs.declared.machine.Registers.{Registers}
+use Rattle.model.specs.declared.machine.Residence.{Residence}
+use Rattle.model.specs.declared.machine.Residence.the-variants.{Memory, Instruction, Register}
+use Rattle.model.specs.declared.machine.Data.{Data}
+use Rattle.model.specs.declared.machine.Store.{Store}
+use Rattle.model.specs.Choice.{pick}
+use Rattle.model.specs.Image.{bankSize}
+use Rattle.model.specs.Status.{numberOf, bit}
+use Rattle.model.specs.Addressing.{size, low, residenceOf, accumulatorOf, pulledAt}
+use Rattle.model.specs.Arithmetic.{half, topBit, withCarry, withDisable, withOverflow, withFlagsSet, withFlagsCleared}
+use Rattle.model.specs.Arithmetic.{withS, withDpr, withDt, withStatus, flagged, loadsA, loadsB, loadsX, loadsY}
+use Rattle.model.specs.Arithmetic.{loads, adds, subtracts, compares, ands, ors, exclusiveOrs}
+use Rattle.model.specs.Arithmetic.{rotatesA, swaps, clearedBy}
+
+-- The registers after, the bytes to be stored in their order, and whether a branch is taken.
+pub record Effect : Type 0 where
+  pub registers : Registers
+  pub stores : List Store
+  pub taken : Bool
+
+abbrev pub effect : Registers → List Store → Bool → Effect
+effect r stores taken = record { registers = r; stores = stores; taken = taken }
+
+abbrev pub store : ℕ → ℕ → Store
+store address v = record { address = address; byte = v % 256 }
+
+-- 'a word low byte first'
+abbrev pub storesOf : Bool → ℕ → ℕ → List Store
+storesOf true address v = store address v ∷ []
+storesOf false address v = store address v ∷ store (address + 1) (v / 256) ∷ []
+
+-- 'S is a 16-bit number that wraps within bank 0': where the n-th byte is pushed, counted from 0, and S after n bytes
+abbrev pub pushedAt : Registers → ℕ → ℕ
+pushedAt r n = (r .s + (bankSize - n)) % bankSize
+
+-- 'a push as pushed': the high byte first
+abbrev pub pushOf : Bool → ℕ → Registers → List Store
+pushOf true v r = store (r .s) v ∷ []
+pushOf false v r = store (r .s) (v / 256) ∷ store (pushedAt r 1) v ∷ []
+
+-- how many bytes data of a width has
+abbrev pub bytes : Bool → ℕ
+bytes short = pick short 1 2
+
+-- registers alone
+abbrev pub only : Registers → Effect
+only r = effect r [] false
+
+-- a branch, taken or not
+abbrev pub branchesIf : Bool → Registers → Effect
+branchesIf taken r = effect r [] taken
+
+-- data of a width goes to memory
+abbrev pub storesTo : Bool → ℕ → ℕ → Registers → Effect
+storesTo short address v r = effect r (storesOf short address v) false
+
+-- data of a width goes on the stack
+abbrev pub pushes : Bool → ℕ → Registers → Effect
+pushes short v r = effect (withS (pushedAt r (bytes short)) r) (pushOf short v r) false
+
+-- data of a width is taken off the stack
+abbrev pub popped : Bool → Registers → Registers
+popped short r = withS (pulledAt r (bytes short)) r
+
+-- a result goes where the data came from, with C, N and Z
+abbrev pub modifiesBy : Residence → Accumulator → Bool → ℕ → Bool → ℕ → Registers → Effect
+modifiesBy Memory named short address carry v r =
+    effect (flagged short v (withStatus (withCarry carry (r .status)) r)) (storesOf short address (low short v)) false
+modifiesBy Instruction named short address carry v r = only (loads named short v (withStatus (withCarry carry (r .status)) r))
+modifiesBy Register named short address carry v r = only (loads named short v (withStatus (withCarry carry (r .status)) r))
+
+-- SEB, CLB, BBS, BBC and LDM have immediate data behind an address of one byte or of two: how many numbers that address can be
+abbrev pub addressSize : Mode → ℕ
+addressSize Implied = 1
+addressSize Immediate = 1
+addressSize InAccumulator = 1
+addressSize Direct = 256
+addressSize DirectBit = 256
+addressSize DirectIndexedX = 256
+addressSize DirectIndexedY = 256
+addressSize DirectIndirect = 256
+addressSize DirectIndexedXIndirect = 256
+addressSize DirectIndirectIndexedY = 256
+addressSize DirectIndirectLong = 256
+addressSize DirectIndirectLongIndexedY = 256
+addressSize Absolute = bankSize
+addressSize AbsoluteBit = bankSize
+addressSize AbsoluteIndexedX = bankSize
+addressSize AbsoluteIndexedY = bankSize
+addressSize AbsoluteLong = bankSize
+addressSize AbsoluteLongIndexedX = bankSize
+addressSize AbsoluteIndirect = bankSize
+addressSize AbsoluteIndirectLong = bankSize
+addressSize AbsoluteIndexedXIndirect = bankSize
+addressSize Stack = 1
+addressSize Relative = 1
+addressSize DirectBitRelative = 256
+addressSize AbsoluteBitRelative = bankSize
+addressSize StackPointerRelative = 1
+addressSize StackPointerRelativeIndirectIndexedY = 1
+addressSize BlockTransfer = 1
+
+abbrev pub behindAddress : Mode → Bool → ℕ → ℕ
+behindAddress mode short operand = low short (operand / addressSize mode)
+
+-- An operation at its data: `named` is the accumulator that the entry names, `short` the width of its data, `operand` the number
+-- behind its code, `next` the address after the instruction, `v` the data and `address` its place.
+module _ (mode : Mode) (named : Accumulator) (short : Bool) (operand next : ℕ) (d : Data) (r : Registers) where
+  abbrev pub v : ℕ
+  v = d .value
+
+  abbrev pub address : ℕ
+  address = d .address
+
+  abbrev pub acc : ℕ
+  acc = accumulatorOf named r
+
+  abbrev pub behind : ℕ
+  behind = behindAddress mode short operand
+
+  abbrev pub modifies : Bool → ℕ → Effect
+  modifies carry result = modifiesBy (residenceOf mode) named short address carry result r
+
+  -- operations of other flows, SEM, CLM and NOP leave the registers as they are, and so does what is not carried
+  unfoldable pub effectOf : Operation → Effect
+  effectOf Unassigned = only r
+  effectOf ADC = only (adds named short v r)
+  effectOf AND = only (ands named short v r)
+  effectOf ASL = modifies (leb (half short) v) (2 * v)
+  effectOf BBC = branchesIf (eqb (bitAnd v behind) 0) r
+  effectOf BBS = branchesIf (eqb (clearedBy short v behind) 0) r
+  effectOf BCC = branchesIf (not (r .status .carry)) r
+  effectOf BCS = branchesIf (r .status .carry) r
+  effectOf BEQ = branchesIf (r .status .zero) r
+  effectOf BMI = branchesIf (r .status .negative) r
+  effectOf BNE = branchesIf (not (r .status .zero)) r
+  effectOf BPL = branchesIf (not (r .status .negative)) r
+  effectOf BRA = only r
+  effectOf BRK = only r
+  effectOf BVC = branchesIf (not (r .status .overflow)) r
+  effectOf BVS = branchesIf (r .status .overflow) r
+  effectOf CLB = storesTo short address (clearedBy short behind v) r
+  effectOf CLC = only (withStatus (withCarry false (r .status)) r)
+  effectOf CLI = only (withStatus (withDisable false (r .status)) r)
+  effectOf CLM = only r
+  effectOf CLP = only (withStatus (withFlagsCleared v (r .status)) r)
+  effectOf CLV = only (withStatus (withOverflow false (r .status)) r)
+  effectOf CMP = only (compares short acc v r)
+  effectOf CPX = only (compares short (r .x) v r)
+  effectOf CPY = only (compares short (r .y) v r)
+  effectOf DEC = modifies (r .status .carry) (v + size short - 1)
+  effectOf DEX = only (loadsX short (r .x + 65_535) r)
+  effectOf DEY = only (loadsY short (r .y + 65_535) r)
+  effectOf DIV = only r
+  effectOf EOR = only (exclusiveOrs named short v r)
+  effectOf INC = modifies (r .status .carry) (v + 1)
+  effectOf INX = only (loadsX short (r .x + 1) r)
+  effectOf INY = only (loadsY short (r .y + 1) r)
+  effectOf JMP = only r
+  effectOf JSR = only r
+  effectOf LDA = only (loads named short v r)
+  effectOf LDM = storesTo short address behind r
+  effectOf LDT = only (withDt (v % 256) r)
+  effectOf LDX = only (loadsX short v r)
+  effectOf LDY = only (loadsY short v r)
+  effectOf LSR = modifies (eqb (v % 2) 1) (v / 2)
+  effectOf MPY = only r
+  effectOf MVN = only r
+  effectOf MVP = only r
+  effectOf NOP = only r
+  effectOf ORA = only (ors named short v r)
+  effectOf PEA = pushes short operand r
+  effectOf PEI = pushes short v r
+  effectOf PER = pushes short (next + operand) r
+  effectOf PHA = pushes short (r .a) r
+  effectOf PHB = pushes short (r .b) r
+  effectOf PHD = pushes short (r .dpr) r
+  effectOf PHG = pushes short (next / bankSize) r
+  effectOf PHP = pushes short (numberOf (r .status)) r
+  effectOf PHT = pushes short (r .dt) r
+  effectOf PHX = pushes short (r .x) r
+  effectOf PHY = pushes short (r .y) r
+  effectOf PLA = only (loadsA short v (popped short r))
+  effectOf PLB = only (loadsB short v (popped short r))
+  effectOf PLD = only (withDpr v (popped short r))
+  effectOf PLP = only r
+  effectOf PLT = only (flagged short v (withDt (v % 256) (popped short r)))
+  effectOf PLX = only (loadsX short v (popped short r))
+  effectOf PLY = only (loadsY short v (popped short r))
+  effectOf PSH = only r
+  effectOf PUL = only r
+  effectOf RLA = only (rotatesA short v r)
+  effectOf ROL = modifies (leb (half short) v) (2 * v + bit (r .status .carry))
+  effectOf ROR = modifies (eqb (v % 2) 1) (v / 2 + topBit short (r .status .carry))
+  effectOf RTI = only r
+  effectOf RTL = only r
+  effectOf RTS = only r
+  effectOf SBC = only (subtracts named short v r)
+  effectOf SEB = storesTo short address (bitOr v behind) r
+  effectOf SEC = only (withStatus (withCarry true (r .status)) r)
+  effectOf SEI = only (withStatus (withDisable true (r .status)) r)
+  effectOf SEM = only r
+  effectOf SEP = only (withStatus (withFlagsSet v (r .status)) r)
+  effectOf STA = storesTo short address acc r
+  effectOf STP = only r
+  effectOf STX = storesTo short address (r .x) r
+  effectOf STY = storesTo short address (r .y) r
+  effectOf TAD = only (withDpr (r .a) r)
+  effectOf TAS = only (withS (r .a) r)
+  effectOf TAX = only (loadsX short (r .a) r)
+  effectOf TAY = only (loadsY short (r .a) r)
+  effectOf TBD = only (withDpr (r .b) r)
+  effectOf TBS = only (withS (r .b) r)
+  effectOf TBX = only (loadsX short (r .b) r)
+  effectOf TBY = only (loadsY short (r .b) r)
+  effectOf TDA = only (loadsA short (r .dpr) r)
+  effectOf TDB = only (loadsB short (r .dpr) r)
+  effectOf TSA = only (loadsA short (r .s) r)
+  effectOf TSB = only (loadsB short (r .s) r)
+  effectOf TSX = only (loadsX short (r .s) r)
+  effectOf TXA = only (loadsA short (r .x) r)
+  effectOf TXB = only (loadsB short (r .x) r)
+  effectOf TXS = only (withS (r .x) r)
+  effectOf TXY = only (loadsY short (r .x) r)
+  effectOf TYA = only (loadsA short (r .y) r)
+  effectOf TYB = only (loadsB short (r .y) r)
+  effectOf TYX = only (loadsX short (r .y) r)
+  effectOf WIT = only r
+  effectOf XAB = only (swaps short r)

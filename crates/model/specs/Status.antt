@@ -1,0 +1,67 @@
+-- The processor status register: 01, 'The places of C, Z, I, D, x, m, V, N belong to the status register and are named with it'.
+-- Assumes nothing.
+use Prim.Native.Nat.{ℕ, _+_, _*_, _/_, _%_}
+use mathlib.Core.Bool.{Bool}
+use lib.Dec.{eqb}
+use Rattle.model.specs.declared.machine.Status.{Status}
+use Rattle.model.specs.Choice.{pick}
+
+-- manual 2.9: the place of each flag, as its bit's value
+abbrev pub maskC : ℕ
+maskC = 1
+
+abbrev pub maskZ : ℕ
+maskZ = 2
+
+abbrev pub maskI : ℕ
+maskI = 4
+
+abbrev pub maskD : ℕ
+maskD = 8
+
+abbrev pub maskX : ℕ
+maskX = 16
+
+abbrev pub maskM : ℕ
+maskM = 32
+
+abbrev pub maskV : ℕ
+maskV = 64
+
+abbrev pub maskN : ℕ
+maskN = 128
+
+-- IPL lies above the flags, in three bits
+abbrev pub levelUnit : ℕ
+levelUnit = 256
+
+-- 'Bits 11-15 are fixed at 0'
+abbrev pub statusLimit : ℕ
+statusLimit = 2_048
+
+abbrev pub isSet : ℕ → ℕ → Bool
+isSet mask n = eqb (n / mask % 2) 1
+
+abbrev pub bit : Bool → ℕ
+bit flag = pick flag 1 0
+
+-- the status of a number
+abbrev pub statusOf : ℕ → Status
+statusOf n = record {
+  carry = isSet maskC n;
+  zero = isSet maskZ n;
+  disable = isSet maskI n;
+  decimal = isSet maskD n;
+  x = isSet maskX n;
+  m = isSet maskM n;
+  overflow = isSet maskV n;
+  negative = isSet maskN n;
+  level = n / levelUnit % 8;
+}
+
+-- the number of a status
+abbrev pub numberOf : Status → ℕ
+numberOf s =
+    maskC * bit (s .carry) + maskZ * bit (s .zero) + maskI * bit (s .disable) + maskD * bit (s .decimal)
+    + maskX * bit (s .x) + maskM * bit (s .m) + maskV * bit (s .overflow) + maskN * bit (s .negative)
+    + levelUnit * (s .level % 8)

@@ -1,0 +1,255 @@
+-- One step: 01, 'A step tests: code bytes 20, 21, operand bytes 20, 22, 27, reads 23, then 24 or 25, then stores 23 or 26. .. A
+-- stop undoes its whole step.'
+-- Assumes nothing.
+use Prim.Native.Nat.{ℕ, zero, suc, _+_, _-_, _*_, _/_, _%_}
+use mathlib.Core.Bool.{Bool, true, false, _&&_}
+use mathlib.Core.List.{List, [], _∷_}
+use lib.Dec.{eqb, ltb, leb}
+use lib.ListN.{length, getD, set}
+use Rattle.model.specs.declared.code.Kind.{Kind}
+use Rattle.model.specs.declared.code.Kind.the-variants.{ByRts, ByRtl}
+use Rattle.model.specs.declared.code.Flow.{Flow}
+use Rattle.model.specs.declared.code.Flow.the-variants.{Next, Branch, Jump, Call, Return, Halt}
+use Rattle.model.specs.declared.code.Instruction.{Instruction}
+use Rattle.model.specs.declared.code.Decoded.{Decoded}
+use Rattle.model.specs.declared.code.Decoded.the-variants.{Whole, NotCarried, CutOff}
+use Rattle.model.specs.declared.machine.Registers.{Registers}
+use Rattle.model.specs.declared.machine.Core.{Core}
+use Rattle.model.specs.declared.machine.State.{State}
+use Rattle.model.specs.declared.machine.Stop.{Stop}
+use Rattle.model.specs.declared.machine.Stop.the-variants.{Outside, Uncarried, Halt as Halted, Unmapped}
+use Rattle.model.specs.declared.machine.Stop.the-variants.{Astray, Deep, ImageStore, Decimal}
+use Rattle.model.specs.declared.machine.Access.{Access}
+use Rattle.model.specs.declared.machine.Access.the-variants.{Operand, Addend, Address, Pull, DirectWord}
+use Rattle.model.specs.declared.machine.Data.{Data}
+use Rattle.model.specs.declared.machine.Store.{Store}
+use Rattle.model.specs.declared.machine.Served.{Served}
+use Rattle.model.specs.declared.machine.Served.the-variants.{All, Refused}
+use Rattle.model.specs.declared.machine.CallChange.{CallChange}
+use Rattle.model.specs.declared.machine.CallChange.the-variants.{Keep, Open, Close}
+use Rattle.model.specs.declared.machine.Answer.{Answer}
+use Rattle.model.specs.declared.machine.Answer.the-variants.{Completed, Called, Stopped}
+use Rattle.model.specs.Choice.{pick}
+use Rattle.model.specs.Image.{bankSize, inBankOf}
+use Rattle.model.specs.Decode.{decode}
+use Rattle.model.specs.Rules.{nextAddress, targetAddress, mAfter, xAfter, kindNumber}
+use Rattle.model.specs.Status.{bit}
+use Rattle.model.specs.Memory.{Memory, memory, Act, ret, _>>=_, Outcome, done, unmapped, come, inImage}
+use Rattle.model.specs.Memory.{served, stored}
+use Rattle.model.specs.Addressing.{accessOf, isShort, dataOf, pulledAt, pulledWord, pulledLong}
+use Rattle.model.specs.Arithmetic.{withWidths, withStatus, withS}
+use Rattle.model.specs.Effects.{Effect, effectOf, store, pushedAt, pushOf}
+
+-- 'at most 64 open calls'
+abbrev pub callLimit : ℕ
+callLimit = 64
+
+-- the numbers of the stops
+abbrev pub stopNumber : Stop → ℕ
+stopNumber Outside = 20
+stopNumber Uncarried = 21
+stopNumber Halted = 22
+stopNumber Unmapped = 23
+stopNumber Astray = 24
+stopNumber Deep = 25
+stopNumber ImageStore = 26
+stopNumber Decimal = 27
+
+-- 'PG and PC count on as one 24-bit number'
+abbrev pub placeOf : Core → ℕ
+placeOf c = c .pg * bankSize + c .pc
+
+-- The instruction's bytes, each at its own 24-bit address, which wraps: as far as they lie in the image.
+unfoldable pub bytesFrom : Memory → ℕ → ℕ → List ℕ
+bytesFrom m address zero = []
+bytesFrom m address (suc n) =
+    pick (inImage m address) (getD (m .image) (address - m .base) 0 ∷ bytesFrom m (nextAddress address 1) n) []
+
+abbrev pub fetched : Memory → Core → Decoded
+fetched m c =
+    decode (bytesFrom m (placeOf c) (length (m .image))) (bit (c .registers .status .m)) (bit (c .registers .status .x))
+
+-- What a step changes once every stop but those of its stores is past.
+pub record Change : Type 0 where
+  pub registers : Registers
+  pub place : ℕ
+  pub calls : CallChange
+  pub stores : List Store
+
+abbrev pub change : Registers → ℕ → CallChange → List Store → Change
+change r place calls stores = record { registers = r; place = place; calls = calls; stores = stores }
+
+pub data Plan : Type 0 where
+  stops : Stop → Plan
+  changes : Change → Plan
+
+-- 23 of a read
+abbrev pub onRead : {A : Type 0} → Outcome A → (A → Plan) → Plan
+onRead (done v) more = more v
+onRead unmapped more = stops Unmapped
+
+-- 27, 'ADC or SBC with D=1'
+abbrev pub isDecimal : Access → Registers → Bool
+isDecimal Operand r = false
+isDecimal Addend r = r .status .decimal
+isDecimal Address r = false
+isDecimal Pull r = false
+isDecimal DirectWord r = false
+
+module _ (m : Memory) (s : State) (i : Instruction) where
+  abbrev pub r : Registers
+  r = s .core .registers
+
+  abbrev pub depth : ℕ
+  depth = s .core .depth
+
+  abbrev pub place : ℕ
+  place = placeOf (s .core)
+
+  abbrev pub next : ℕ
+  next = nextAddress place (i .length)
+
+  abbrev pub target : ℕ
+  target = targetAddress i place
+
+  -- the widths of the data at the widths in force
+  abbrev pub short : Bool
+  short = isShort (i .entry .width) (r .status .m) (r .status .x)
+
+  abbrev pub access : Access
+  access = accessOf (i .entry .operation)
+
+  -- an operation works on its data, and goes on where its flow says
+  abbrev pub works : (Bool → ℕ) → Data → Plan
+  works goes d = worked (effectOf (i .entry .mode) (i .entry .accumulator) short (i .operand) next d r (i .entry .operation))
+    where
+      worked : Effect → Plan
+      worked e = changes (change (e .registers) (goes (e .taken)) Keep (e .stores))
+
+  unfoldable pub operates : (Bool → ℕ) → Plan
+  operates goes =
+      pick (isDecimal access r) (stops Decimal)
+      (onRead (come m (dataOf access (i .entry .mode) (i .entry .accumulator) r short (i .operand))) (works goes))
+
+  -- 'A call pushes the address of the instruction after it .., bank first for JSR long, then high byte, then low'
+  abbrev pub pushesReturn : Kind → List Store
+  pushesReturn ByRts = store (r .s) (next / 256) ∷ store (pushedAt r 1) next ∷ []
+  pushesReturn ByRtl = store (r .s) (next / bankSize) ∷ store (pushedAt r 1) (next / 256) ∷ store (pushedAt r 2) next ∷ []
+
+  -- how many bytes a return address of a kind has
+  abbrev pub returnBytes : Kind → ℕ
+  returnBytes ByRts = 2
+  returnBytes ByRtl = 3
+
+  -- 25, 'call with 64 open'
+  unfoldable pub calls : Kind → Plan
+  calls kind =
+      pick (ltb depth callLimit)
+      (changes (change (withS (pushedAt r (returnBytes kind)) r) target (Open next (kindNumber kind)) (pushesReturn kind)))
+      (stops Deep)
+
+  -- 'the return pulls it and goes there'; RTS stays in the instruction's bank
+  abbrev pub pullsReturn : Kind → Act ℕ
+  pullsReturn ByRts = do
+    address ← pulledWord r
+    ret (inBankOf place address)
+  pullsReturn ByRtl = pulledLong r
+
+  -- 24, 'no open call, other kind, or pulled address not the open call's'
+  abbrev pub isReturn : Kind → ℕ → Bool
+  isReturn kind address =
+      ltb 0 depth && eqb (getD (s .kinds) (depth - 1) 0) (kindNumber kind) && eqb (getD (s .returns) (depth - 1) 0) address
+
+  unfoldable pub returnsTo : Kind → ℕ → Plan
+  returnsTo kind address =
+      pick (isReturn kind address) (changes (change (withS (pulledAt r (returnBytes kind)) r) address Close []))
+      (stops Astray)
+
+  -- by flow; 22, 'STP or WIT'
+  unfoldable pub planBy : Flow → Plan
+  planBy Next = operates (λ taken. next)
+  planBy Branch = operates (λ taken. pick taken target next)
+  planBy Jump = changes (change r target Keep [])
+  planBy (Call kind) = calls kind
+  planBy (Return kind) = onRead (come m (pullsReturn kind)) (returnsTo kind)
+  planBy Halt = stops Halted
+
+  abbrev pub plan : Plan
+  plan = planBy (i .entry .flow)
+
+-- The step's answer, and state and RAM after it.
+pub record Stepped : Type 0 where
+  pub answer : Answer
+  pub state : State
+  pub ram : List ℕ
+
+abbrev pub stepped : Answer → State → List ℕ → Stepped
+stepped answer s ram = record { answer = answer; state = s; ram = ram }
+
+-- 'a stopped step leaves RAM and state as given'
+abbrev pub stopped : Stop → Memory → State → Stepped
+stopped stop m s = stepped (Stopped stop) s (m .ram)
+
+-- the open calls after a step: an entry changes only when a call is opened in it
+abbrev pub depthAfter : CallChange → ℕ → ℕ
+depthAfter Keep depth = depth
+depthAfter (Open address kind) depth = depth + 1
+depthAfter Close depth = depth - 1
+
+abbrev pub returnsAfter : CallChange → ℕ → List ℕ → List ℕ
+returnsAfter Keep depth returns = returns
+returnsAfter (Open address kind) depth returns = set returns depth address
+returnsAfter Close depth returns = returns
+
+abbrev pub kindsAfter : CallChange → ℕ → List ℕ → List ℕ
+kindsAfter Keep depth kinds = kinds
+kindsAfter (Open address kind) depth kinds = set kinds depth kind
+kindsAfter Close depth kinds = kinds
+
+abbrev pub answerOf : CallChange → Answer
+answerOf Keep = Completed
+answerOf (Open address kind) = Called
+answerOf Close = Completed
+
+-- the widths after an instruction, whatever its operation left in the status
+abbrev pub widthsAfter : Instruction → Registers → Registers → Registers
+widthsAfter i before after =
+    withStatus
+    (withWidths
+    (eqb (mAfter (i .entry .effect) (bit (before .status .m)) (i .operand)) 1)
+    (eqb (xAfter (i .entry .effect) (bit (before .status .x)) (i .operand)) 1)
+    (after .status))
+    after
+
+abbrev pub coreAfter : Instruction → Core → Change → Core
+coreAfter i c d = record {
+  registers = widthsAfter i (c .registers) (d .registers);
+  pc = d .place % bankSize;
+  pg = d .place / bankSize;
+  depth = depthAfter (d .calls) (c .depth);
+}
+
+abbrev pub stateAfter : Instruction → State → Change → State
+stateAfter i s d = record {
+  core = coreAfter i (s .core) d;
+  returns = returnsAfter (d .calls) (s .core .depth) (s .returns);
+  kinds = kindsAfter (d .calls) (s .core .depth) (s .kinds);
+}
+
+-- 23 and 26 of the stores, then all of them
+abbrev pub onServed : Served → Instruction → Change → Memory → State → Stepped
+onServed All i d m s = stepped (answerOf (d .calls)) (stateAfter i s d) (stored (d .stores) (m .ram))
+onServed (Refused stop) i d m s = stopped stop m s
+
+abbrev pub finish : Plan → Instruction → Memory → State → Stepped
+finish (stops stop) i m s = stopped stop m s
+finish (changes d) i m s = onServed (served m (d .stores)) i d m s
+
+abbrev pub onDecoded : Decoded → Memory → State → Stepped
+onDecoded CutOff m s = stopped Outside m s
+onDecoded NotCarried m s = stopped Uncarried m s
+onDecoded (Whole i) m s = finish (plan m s i) i m s
+
+-- the step of a state
+unfoldable pub step : Memory → State → Stepped
+step m s = onDecoded (fetched m (s .core)) m s

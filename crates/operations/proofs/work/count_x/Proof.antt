@@ -1,0 +1,14 @@
+-- The definition's steps, one call each.
+-- Assumes nothing.
+use mathlib.Core.Path.{refl}
+use borrow.Author.Needs.{needs}
+use Rattle.operations.proofs.work.count_x.Statement.{statement}
+use Rattle.operations.proofs.work.count_x.Tie as tie
+
+returns : tie.Need-returns
+returns c = rw (c .only .ensures, c .before .loads-x .ensures) refl
+
+pub count-x-spec : {M : Type 1} → statement M
+count-x-spec = tie.close
+    (tie.spec
+    (λ c. search needs) (λ c. search needs) (λ c κs. search needs) (λ c κs. search needs) returns)

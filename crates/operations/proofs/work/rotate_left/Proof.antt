@@ -1,0 +1,22 @@
+-- The definition's steps, one call each.
+-- Assumes nothing.
+use mathlib.Core.Path.{refl}
+use borrow.Author.Needs.{needs}
+use Rattle.operations.proofs.work.rotate_left.Statement.{statement}
+use Rattle.operations.proofs.work.rotate_left.Tie as tie
+
+returns : tie.Need-returns
+returns c =
+    rw (
+      c .modifies-by .ensures,
+      c .before .before .before .residence-of .ensures,
+      c .before .before .half .ensures .0,
+      c .before .bit-of .ensures .0,
+    ) refl
+
+pub rotate-left-spec : {M : Type 1} → statement M
+rotate-left-spec =
+    tie.close
+    (tie.spec
+    (λ c. search needs) (λ c κs. search needs) (λ c κs. search needs) (λ c. search needs) (λ c κs. search needs)
+    (λ c. search needs) (λ c κs. search needs) returns)

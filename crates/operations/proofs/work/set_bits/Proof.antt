@@ -1,0 +1,15 @@
+-- The definition's steps, one call each.
+-- Assumes nothing.
+use mathlib.Core.Path.{refl}
+use borrow.Author.Needs.{needs}
+use Rattle.operations.proofs.work.set_bits.Statement.{statement}
+use Rattle.operations.proofs.work.set_bits.Tie as tie
+
+returns : tie.Need-returns
+returns c = rw (c .stores-to .ensures, c .before .wide .ensures, c .before .before .behind-address .ensures) refl
+
+pub set-bits-spec : {M : Type 1} → statement M
+set-bits-spec =
+    tie.close
+    (tie.spec
+    (λ c κs. search needs) (λ c κs. search needs) (λ c κs. search needs) returns)

@@ -1,0 +1,14 @@
+-- The definition's steps, one call each.
+-- Assumes nothing.
+use mathlib.Core.Path.{refl}
+use borrow.Author.Needs.{needs}
+use Rattle.operations.proofs.work.set_dt.Statement.{statement}
+use Rattle.operations.proofs.work.set_dt.Tie as tie
+
+returns : tie.Need-returns
+returns c = rw (c .only .ensures, c .before .with-dt .ensures) refl
+
+pub set-dt-spec : {M : Type 1} → statement M
+set-dt-spec = tie.close
+    (tie.spec
+    (λ c. search needs) (λ c κs. search needs) (λ c κs. search needs) returns)
