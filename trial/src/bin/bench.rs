@@ -15,6 +15,8 @@ const BATCHES: usize = 50;
 /// Calls in a batch, long beside the clock's own cost.
 const CALLS: usize = 20;
 const SEED: u64 = 7700;
+/// Bytes of code that the benchmark of the check goes through in a call.
+const BYTES: usize = 131_072;
 
 fn main() -> ExitCode {
     let args: Vec<String> = env::args().skip(1).collect();
@@ -30,16 +32,19 @@ fn main() -> ExitCode {
 }
 
 fn check() {
-    // The shorter image begins with the same programs as the longer one.
-    let mixed = |length| mixed_code(&mut Rng::new(SEED), length);
     println!("accepted images, ns per byte        library  simulator  ratio");
-    let whole = checked("mixed code", &mixed(16_384));
-    let half = checked("mixed code", &mixed(8_192));
-    checked(
-        "one-byte codes",
-        &one_byte_codes(&mut Rng::new(SEED), 16_384),
-    );
+    let whole = checked("mixed, 16,384", &drawn(mixed_code, 16_384));
+    let half = checked("mixed, 8,192", &drawn(mixed_code, 8_192));
+    checked("one-byte, 16,384", &drawn(one_byte_codes, 16_384));
     linear("mixed code", whole, half);
+}
+
+/// Different images of a length, together so many bytes at every length: one
+/// image repeated would let the processor learn more of a short one's branches.
+fn drawn(draw: fn(&mut Rng, usize) -> CheckCase, length: usize) -> Vec<CheckCase> {
+    (0..(BYTES / length) as u64)
+        .map(|k| draw(&mut Rng::new(SEED + k), length))
+        .collect()
 }
 
 fn lists() {
@@ -58,22 +63,33 @@ fn linear(name: &str, whole: f64, half: f64) {
     println!("library, {name}, t(16,384) / t(8,192): {ratio:.2}");
 }
 
-/// Times the check of an accepted image; the library's best time in ns.
-fn checked(name: &str, case: &CheckCase) -> f64 {
-    let CheckCase { image, marks, .. } = case;
-    let (base, reset) = (case.base, case.reset);
-    let (image_len, marks_len) = (image.len(), marks.len());
-    assert_eq!(sim7700::check(image, marks, base, reset), 0, "not accepted");
-    row(
+/// Times the check of accepted images; the library's best time of one in ns.
+fn checked(name: &str, cases: &[CheckCase]) -> f64 {
+    for case in cases {
+        let answer = sim7700::check(&case.image, &case.marks, case.base, case.reset);
+        assert_eq!(answer, 0, "not accepted");
+    }
+    let bytes: usize = cases.iter().map(|case| case.image.len()).sum();
+    let time = row(
         [name, "bytes"],
-        image_len,
-        // SAFETY: the pointers are valid for the lengths.
-        || unsafe {
-            let (image, marks) = (image.as_ptr(), marks.as_ptr());
-            m7700_check(image, image_len, marks, marks_len, base, reset) as u64
+        bytes,
+        || {
+            let answer = |case: &CheckCase| {
+                let (image, marks) = (case.image.as_ptr(), case.marks.as_ptr());
+                let (image_len, marks_len) = (case.image.len(), case.marks.len());
+                // SAFETY: the pointers are valid for the lengths.
+                unsafe { m7700_check(image, image_len, marks, marks_len, case.base, case.reset) }
+            };
+            cases.iter().map(|case| answer(case) as u64).sum()
         },
-        || sim7700::check(image, marks, base, reset) as u64,
-    )
+        || {
+            let answer = |case: &CheckCase| {
+                sim7700::check(&case.image, &case.marks, case.base, case.reset)
+            };
+            cases.iter().map(|case| answer(case) as u64).sum()
+        },
+    );
+    time / cases.len() as f64
 }
 
 /// Times the writing of a list; the library's best time in ns.
@@ -125,7 +141,7 @@ fn row(
     assert_eq!(library(), simulator(), "the answers differ");
     let (proved, simulated) = best(&mut library, &mut simulator);
     println!(
-        "{name:<14}{units:>8} {unit:<6}      {:>9.2}  {:>9.2}  {:>5.2}",
+        "{name:<17}{units:>7} {unit:<6}    {:>9.2}  {:>9.2}  {:>5.2}",
         proved / units as f64,
         simulated / units as f64,
         proved / simulated
