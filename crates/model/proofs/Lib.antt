@@ -14,3 +14,4 @@ pub mod MarkList
 pub mod ListAnswers
 pub mod RoundTrips
 pub mod Memory
+pub mod Step
