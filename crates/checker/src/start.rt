@@ -1,5 +1,4 @@
 // The rules at one start, as the number of the first that is broken.
-use crate::owed::kind_number;
 use crate::owed::owed_at;
 use decoder::Frame;
 use decoder::Framed;
@@ -14,6 +13,7 @@ use model::code::Flow;
 use model::code::Kind;
 use model::rules::Owed;
 use model::rules::Want;
+use successors::kind_number;
 ghost use mathlib.Core.Path.{_≡_};
 ghost use Prim.Native.Nat.{_+_, _-_, _≤_, _<_};
 ghost use mathlib.Core.Bool.{_&&_};

@@ -14,3 +14,5 @@ pub mod MarkList
 pub mod ListAnswers
 pub mod RoundTrips
 pub mod Memory
+pub mod Status
+pub mod Step

@@ -2,8 +2,8 @@
 -- Assumes nothing.
 use borrow.Author.Tests.{lt-ltb, le-ltb}
 use borrow.Author.Needs.{needs}
-use Rattle.checker.proofs.owed.offset_by.Statement.{statement}
-use Rattle.checker.proofs.owed.offset_by.Tie as tie
+use Rattle.successors.proofs.offset_by.Statement.{statement}
+use Rattle.successors.proofs.offset_by.Tie as tie
 
 returns : tie.Need-returns
 returns c = rw (lt-ltb _ _ (c .if1 .taken))

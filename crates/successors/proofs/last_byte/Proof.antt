@@ -6,8 +6,8 @@ use native.Mathlib.Nat.{div-one}
 use Prim.Native.Nat.{_-_}
 use mathlib.Core.Path.{_≡_, refl, sym}
 use borrow.Author.Needs.{needs}
-use Rattle.checker.proofs.owed.last_byte.Statement.{statement}
-use Rattle.checker.proofs.owed.last_byte.Tie as tie
+use Rattle.successors.proofs.last_byte.Statement.{statement}
+use Rattle.successors.proofs.last_byte.Tie as tie
 
 returns : tie.Need-returns
 returns c = let none : c .before .args .n - 2 ≡ 0 = omega arith in rw none (sym (div-one (c .before .args .operand)))

@@ -4,8 +4,8 @@ use Rattle.model.proofs.Widths.{last-byte-at-most}
 use Rattle.model.specs.Rules.{targetOf}
 use native.Mathlib.Omega.{arith}
 use borrow.Author.Needs.{needs}
-use Rattle.checker.proofs.owed.target_of.Statement.{statement}
-use Rattle.checker.proofs.owed.target_of.Tie as tie
+use Rattle.successors.proofs.target_of.Statement.{statement}
+use Rattle.successors.proofs.target_of.Tie as tie
 
 offset-by-requires : tie.Need-offset-by-requires
 offset-by-requires c κs = (

@@ -1,0 +1,132 @@
+-- The bytes that a step fetches, each at its own address, are those of the image from there on: an image lies within the 24-bit
+-- addresses, so that they wrap only behind its last byte, where no image byte lies. And the order of a step's stops.
+-- Assumes nothing.
+use mathlib.Core.Path.{_≡_, refl, sym, ap, ap₂, _∙_}
+use mathlib.Core.Logic.{_⊎_, inl, inr}
+use mathlib.Core.Bool.{Bool, true, false}
+use mathlib.Core.List.{List, [], _∷_}
+use Prim.Native.Nat.{ℕ, zero, suc, _+_, _-_, _/_, _%_, _≤_, _<_}
+use native.Mathlib.Nat.{eq-or-lt-of-le, mod-eq-of-lt}
+use native.Mathlib.Omega.{arith}
+use lib.Dec.{ltb, leb}
+use lib.ListN.{length, getD, drop, drop-of-length-le}
+use lib.Seq.{drop-cons}
+use borrow.Author.Tests.{lt-ltb, le-ltb, le-leb, lt-leb}
+use Rattle.model.specs.declared.code.Kind.{Kind}
+use Rattle.model.specs.declared.code.Flow.the-variants.{Call, Return}
+use Rattle.model.specs.declared.code.Instruction.{Instruction}
+use Rattle.model.specs.declared.machine.Registers.{Registers}
+use Rattle.model.specs.declared.machine.State.{State}
+use Rattle.model.specs.declared.machine.Store.{Store}
+use Rattle.model.specs.declared.machine.Stop.{Stop}
+use Rattle.model.specs.declared.machine.Stop.the-variants.{Outside, Uncarried, Halt as Halted, Unmapped}
+use Rattle.model.specs.declared.machine.Stop.the-variants.{Astray, Deep, ImageStore, Decimal}
+use Rattle.model.specs.declared.machine.Served.the-variants.{Refused}
+use Rattle.model.specs.Image.{addressLimit}
+use Rattle.model.specs.Rules.{nextAddress}
+use Rattle.model.specs.Memory.{Memory, inImage, unmapped, come, servedAt, served}
+use Rattle.model.specs.Addressing.{accessOf}
+use Rattle.model.specs.Effects.{store, storesOf, pushOf}
+use Rattle.model.specs.Step.{callLimit, stopNumber, bytesFrom, stops, isDecimal, operates, calls, pullsReturn}
+use Rattle.model.specs.Step.{planBy, stopped}
+
+module _ (m : Memory) where
+  -- no byte from an address outside the image
+  pub none-outside : (a n : ℕ) → inImage m a ≡ false → bytesFrom m a n ≡ []
+  unfolding bytesFrom
+  none-outside a zero h = refl
+  none-outside a (suc n) h = rw h refl
+
+  module _ (whole : m .base + length (m .image) ≤ addressLimit) (small : length (m .image) < addressLimit) where
+    is-inside : (o : ℕ) → o < length (m .image) → inImage m (m .base + o) ≡ true
+    is-inside o h =
+        rw (le-leb (m .base) (m .base + o) (omega arith))
+        (lt-ltb (m .base + o - m .base) (length (m .image)) (omega arith))
+
+    -- the address behind the last byte is not the image's, whether it wraps or not
+    behind : (a : ℕ) → a ≡ m .base + length (m .image) → inImage m (a % addressLimit) ≡ false
+    behind a e = by (eq-or-lt-of-le whole)
+      where
+        by : (m .base + length (m .image) ≡ addressLimit) ⊎ (m .base + length (m .image) < addressLimit)
+            → inImage m (a % addressLimit) ≡ false
+        by (inl end) = rw (e, end, lt-leb (m .base) 0 (omega arith)) refl
+        by (inr before) =
+            rw (
+              e,
+              mod-eq-of-lt before,
+              le-leb (m .base) (m .base + length (m .image)) (omega arith),
+              le-ltb (m .base + length (m .image) - m .base) (length (m .image)) (omega arith),
+            ) refl
+
+    pub bytes-inside : (n o : ℕ) → o < length (m .image) → length (m .image) ≤ o + n
+        → bytesFrom m (m .base + o) n ≡ drop o (m .image)
+    unfolding bytesFrom
+    bytes-inside zero o h enough = absurd (omega arith)
+    bytes-inside (suc n) o h enough =
+        rw (is-inside o h, drop-cons (m .image) o 0 h)
+        (ap₂ (λ b bs. b ∷ bs) (ap (λ k. getD (m .image) k 0) back)
+        (rest (eq-or-lt-of-le h) (λ further. bytes-inside n (suc o) further (omega arith))))
+      where
+        back : m .base + o - m .base ≡ o
+        back = omega arith
+
+        on : m .base + o + 1 ≡ m .base + suc o
+        on = omega arith
+
+        within : suc o < length (m .image) → m .base + o + 1 < addressLimit
+        within more = omega arith
+
+        rest : (suc o ≡ length (m .image)) ⊎ (suc o < length (m .image))
+            → (suc o < length (m .image) → bytesFrom m (m .base + suc o) n ≡ drop (suc o) (m .image))
+            → bytesFrom m (nextAddress (m .base + o) 1) n ≡ drop (suc o) (m .image)
+        rest (inl last) further =
+            none-outside ((m .base + o + 1) % addressLimit) n (behind (m .base + o + 1) (omega arith))
+            ∙ sym (drop-of-length-le (m .image) {i = suc o} (omega arith))
+        rest (inr more) further = rw (mod-eq-of-lt (within more), on) (further more)
+
+-- ---- the order of stops, as laws of the definition
+-- 27 before any read: whatever memory holds
+pub decimal-first : (m : Memory) (s : State) (i : Instruction) (goes : Bool → ℕ)
+    → isDecimal (accessOf (i .entry .operation)) (s .core .registers) ≡ true → operates m s i goes ≡ stops Decimal
+unfolding operates
+decimal-first m s i goes h = rw h refl
+
+-- 24 only after the pulls: a byte that is not mapped decides before
+pub pulls-first : (m : Memory) (s : State) (i : Instruction) (kind : Kind) → come m (pullsReturn m s i kind) ≡ unmapped
+    → planBy m s i (Return kind) ≡ stops Unmapped
+unfolding planBy
+pulls-first m s i kind h = rw h refl
+
+-- 25 before any push: whatever could be served
+pub deep-first : (m : Memory) (s : State) (i : Instruction) (kind : Kind) → ltb (s .core .depth) callLimit ≡ false
+    → planBy m s i (Call kind) ≡ stops Deep
+unfolding planBy calls
+deep-first m s i kind h = rw h refl
+
+-- the first store that can't be served decides
+pub first-unserved : (m : Memory) (a : Store) (rest : List Store) (stop : Stop) → servedAt m (a .address) ≡ Refused stop
+    → served m (a ∷ rest) ≡ Refused stop
+first-unserved m a rest stop h = rw h refl
+
+-- a word goes low byte first, a push high byte first
+pub low-first : (short : Bool) (address v : ℕ) → getD (storesOf short address v) 0 (store 0 0) ≡ store address v
+low-first true address v = refl
+low-first false address v = refl
+
+pub high-first : (v : ℕ) (r : Registers) → getD (pushOf false v r) 0 (store 0 0) ≡ store (r .s) (v / 256)
+high-first v r = refl
+
+-- a stop leaves state and RAM as given
+pub stop-leaves : (m : Memory) (s : State) (stop : Stop) → (stopped stop m s .state ≡ s) × (stopped stop m s .ram ≡ m .ram)
+stop-leaves m s stop = (refl, refl)
+
+-- the stops are numbers 20 to 27
+pub stop-range : (stop : Stop) → (20 ≤ stopNumber stop) × (stopNumber stop ≤ 27)
+stop-range Outside = (omega arith, omega arith)
+stop-range Uncarried = (omega arith, omega arith)
+stop-range Halted = (omega arith, omega arith)
+stop-range Unmapped = (omega arith, omega arith)
+stop-range Astray = (omega arith, omega arith)
+stop-range Deep = (omega arith, omega arith)
+stop-range ImageStore = (omega arith, omega arith)
+stop-range Decimal = (omega arith, omega arith)
