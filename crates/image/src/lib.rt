@@ -8,7 +8,7 @@ ghost use Rattle.model.specs.Image.{inBankOf};
 ghost use Rattle.model.specs.Verdict.{badMark};
 
 // The limits of model/specs/Image.antt.
-const IMAGE_LIMIT: usize = 16_384;
+pub const IMAGE_LIMIT: usize = 16_384;
 
 pub const BANK_SIZE: u32 = 65_536;
 

@@ -1,14 +1,14 @@
 // The interface for loaders written in C (include/m7700.h): numbers and byte slices, each as a pointer and a length.
 use checker::check;
 use marklist::reader::read_list;
+use marklist::refusal_number;
 use marklist::writer::write_list;
 use model::lists::ListRead;
 use model::lists::ListWritten;
-use model::lists::Refusal;
 use model::rules::Verdict;
 ghost use mathlib.Core.Path.{_≡_};
 ghost use Rattle.model.specs.Verdict.{verdict};
-ghost use Rattle.model.specs.MarkList.{refusalNumber, readList, marksRead, writeList, pageWritten};
+ghost use Rattle.model.specs.MarkList.{readList, marksRead, writeList, pageWritten};
 ghost use Rattle.loader.specs.Packed.{packedVerdict, Fits, packedRead, ReadFits, packedWritten, WrittenFits};
 
 fn pack(answer: Verdict) -> u32
@@ -29,26 +29,12 @@ pub extern "C" fn m7700_check(image: &[u8], marks: &[u8], base: u32, reset: u32)
     pack(check(image, marks, base, reset))
 }
 
-// The paper's number of a refusal.
-fn refusal_number(refusal: Refusal) -> u64
-    ensures { λ r. ⌜ r ≡ refusalNumber refusal ⌝ }
-{
-    match refusal {
-        Refusal::WrongLength => 1,
-        Refusal::WrongBase => 2,
-        Refusal::WrongReset => 3,
-        Refusal::WrongMark => 4,
-        Refusal::NotAList => 14,
-        Refusal::ShortPage => 15,
-    }
-}
-
 fn pack_read(answer: ListRead) -> u64
     requires { ⌜ ReadFits answer ⌝ }
     ensures { λ r. ⌜ r ≡ packedRead answer ⌝ }
 {
     match answer {
-        ListRead::NotRead(refusal) => refusal_number(refusal),
+        ListRead::NotRead(refusal) => refusal_number(refusal) as u64,
         ListRead::Read(h) => h.base as u64 * 256 + h.reset as u64 * 4_294_967_296,
     }
 }
@@ -58,7 +44,7 @@ fn pack_written(answer: ListWritten) -> u64
     ensures { λ r. ⌜ r ≡ packedWritten answer ⌝ }
 {
     match answer {
-        ListWritten::NotWritten(refusal) => refusal_number(refusal),
+        ListWritten::NotWritten(refusal) => refusal_number(refusal) as u64,
         ListWritten::Written(length) => length as u64 * 256,
     }
 }

@@ -48,7 +48,7 @@ pub length-field : (radix count n close : ℕ) → length (digits radix count n 
 length-field radix count n close =
     length-append (digits radix count n) (close ∷ []) ∙ ap (_+ 1) (length-digits radix count n)
 
-two-put : (page : List ℕ) (a b : ℕ) → 2 ≤ length page → set (set page 0 a) 1 b ≡ a ∷ b ∷ drop 2 page
+pub two-put : (page : List ℕ) (a b : ℕ) → 2 ≤ length page → set (set page 0 a) 1 b ≡ a ∷ b ∷ drop 2 page
 two-put [] a b some = absurd (omega arith)
 two-put (p ∷ []) a b some = absurd (omega arith)
 two-put (p ∷ q ∷ page) a b some = refl

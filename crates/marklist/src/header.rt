@@ -30,7 +30,7 @@ const LENGTH_PLACE: usize = 9;
 const HEADER_REST: usize = 15;
 
 // How many digits a length has, without a leading zero.
-fn decimal_digits(n: u32) -> usize
+pub fn decimal_digits(n: u32) -> usize
     ensures { λ r. ⌜ r ≡ spec.decimalDigits n ⌝ }
 {
     if n < 10 {
@@ -53,7 +53,7 @@ pub(crate) fn header_size(h: Header) -> usize
 }
 
 // Writes a field at the front of a page: a number's digits, and the byte that closes it.
-fn put_field(page: &mut [u8], radix: u32, count: usize, n: u32, close: u8)
+pub fn put_field(page: &mut [u8], radix: u32, count: usize, n: u32, close: u8)
     requires { ⌜ (0 < radix) × (radix ≤ 16) × (count + 1 ≤ length (now page)) ⌝ }
     ensures { λ _. ⌜ now (page .exit)
         ≡ (digits radix count n ++ (close ∷ [])) ++ drop (count + 1) (now (page .entry)) ⌝ }

@@ -15,9 +15,9 @@ ghost use lib.ListN.{length, drop};
 ghost use Rattle.model.specs.MarkList as spec;
 
 // Fields are parted by tabs, each line is closed by a line end.
-pub(crate) const TAB: u8 = b'\t';
+pub const TAB: u8 = b'\t';
 
-pub(crate) const LINE_END: u8 = b'\n';
+pub const LINE_END: u8 = b'\n';
 
 const ADDRESS_DIGITS: usize = 4;
 

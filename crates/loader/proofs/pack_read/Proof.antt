@@ -13,5 +13,5 @@ returns-2 : tie.Need-returns-2
 returns-2 c = rw (c .before .before .before .answer2 .given .1)
 
 pub pack-read-spec : {M : Type 1} → statement M
-pack-read-spec = tie.close (tie.spec (λ c. search needs) (λ c κs. search needs) (λ c. search needs) (λ c. search
+pack-read-spec = tie.close (tie.spec (λ c. search needs) (λ c κs. search needs) (λ c. search needs) (λ c. search needs) (λ c. search
     needs) (λ c. search needs) (λ c. search needs) (λ c. search needs) add-result (λ c. search needs) returns-2)

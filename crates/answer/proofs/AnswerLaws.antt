@@ -1,0 +1,60 @@
+-- The cases of an answer: a list that is refused, a list that is read, a file over its limit. The marks of an image
+-- that is
+-- accepted are few, and their starts no more.
+-- Assumes nothing.
+use mathlib.Core.Path.{_≡_, refl}
+use mathlib.Core.List.{List, [], _∷_}
+use Prim.Native.Nat.{ℕ, _≤_, _<_}
+use native.Mathlib.Omega.{arith}
+use borrow.Author.Tests.{le-leb, lt-leb}
+use lib.ListN.{length}
+use Rattle.model.specs.declared.lists.Header.{Header}
+use Rattle.model.specs.declared.lists.Refusal.{Refusal}
+use Rattle.model.specs.declared.lists.ListRead.the-variants.{NotRead, Read}
+use Rattle.model.specs.declared.rules.Verdict.the-variants.{Accepted}
+use Rattle.model.specs.Image.{imageLimit, isStart, startCount}
+use Rattle.model.specs.Verdict.{verdict}
+use Rattle.model.specs.MarkList.{refusalNumber, readList, marksRead, marksBy, marksOf}
+use Rattle.model.proofs.Choice.{one-or-none}
+use Rattle.model.proofs.Image.{right-length}
+use Rattle.model.proofs.Verdict.{accepted-rules}
+use Rattle.answer.specs.declared.answers.Answer.{Answer}
+use Rattle.answer.specs.declared.answers.Answer.the-variants.{Unread, Refused}
+use Rattle.answer.specs.AnswerLine.{listLimit, verdictAnswer, answerOf, listAnswer, answerFor}
+
+starts-most : (marks : List ℕ) → startCount marks ≤ length marks
+unfolding startCount
+starts-most [] = omega arith
+starts-most (mark ∷ marks) = omega (arith, one-or-none (isStart mark), starts-most marks)
+
+pub accepted-few : (image marks : List ℕ) (base reset : ℕ) → verdict image marks base reset ≡ Accepted
+    → startCount marks < 4_294_967_296
+accepted-few image marks base reset e =
+    let fits = right-length (length image) (length marks) (accepted-rules image marks base reset e .right-length) in
+    omega (arith, starts-most marks, fits .few, fits .same)
+
+module _ (image text marks : List ℕ) (alike : length marks ≡ length image) where
+  pub list-refused : (refusal : Refusal) → readList text marks ≡ NotRead refusal
+      → Refused (refusalNumber refusal) 0 ≡ listAnswer image text
+  unfolding listAnswer answerOf readList
+  list-refused refusal e = rw (← alike, e)
+
+  pub list-taken : (h : Header) → readList text marks ≡ Read h
+      → verdictAnswer image (marksRead text marks) (h .base) (h .reset) ≡ listAnswer image text
+  unfolding listAnswer answerOf readList marksRead marksBy
+  list-taken h e = rw (← alike, e)
+
+module _ (image text : List ℕ) where
+  pub long-list : listLimit < length text → Unread ≡ answerFor image text
+  unfolding answerFor
+  long-list h = rw (lt-leb (length text) listLimit h)
+
+  module _ (short : length text ≤ listLimit) where
+    pub long-image : imageLimit < length image → Unread ≡ answerFor image text
+    unfolding answerFor
+    long-image h = rw (le-leb (length text) listLimit short, lt-leb (length image) imageLimit h)
+
+    pub both-short : (answer : Answer) → answer ≡ listAnswer image text → length image ≤ imageLimit
+        → answer ≡ answerFor image text
+    unfolding answerFor
+    both-short answer e h = rw (le-leb (length text) listLimit short, le-leb (length image) imageLimit h) e

@@ -1,0 +1,59 @@
+// The answer for the bytes of two files.
+use checker::check;
+use checker::count_starts;
+use image::IMAGE_LIMIT;
+use marklist::reader::read_list;
+use marklist::refusal_number;
+use model::lists::ListRead;
+use model::rules::Verdict;
+ghost use mathlib.Core.Path.{_≡_};
+ghost use lib.ListN.{length};
+ghost use Rattle.answer.specs.AnswerLine as spec;
+
+// The most bytes of a list file.
+pub const LIST_LIMIT: usize = 61_440;
+
+// A file is not read; an image is accepted, with its number of starts; or a refusal has its number and its offset.
+pub enum Answer {
+    Unread,
+    Accepted(u32),
+    Refused { number: u8, offset: u32 },
+}
+
+// The check's answer, with the number of starts where it accepts.
+fn verdict_answer(image: &[u8], marks: &[u8], base: u32, reset: u32) -> Answer
+    ensures { λ r. ⌜ r ≡ spec.verdictAnswer (now (image .entry)) (now (marks .entry)) base reset ⌝ }
+{
+    match check(image, marks, base, reset) {
+        Verdict::Accepted => Answer::Accepted(count_starts(marks) as u32),
+        Verdict::Refused { number, offset } => Answer::Refused { number, offset },
+    }
+}
+
+// The list is read into marks of the image's length, and the image is checked against them.
+fn list_answer(image: &[u8], text: &[u8], marks: &mut [u8]) -> Answer
+    requires { ⌜ length (now marks) ≡ length (now image) ⌝ }
+    ensures { λ r. ⌜ r ≡ spec.listAnswer (now (image .entry)) (now (text .entry)) ⌝ }
+{
+    match read_list(text, marks) {
+        ListRead::NotRead(refusal) => Answer::Refused {
+            number: refusal_number(refusal),
+            offset: 0,
+        },
+        ListRead::Read(h) => verdict_answer(image, marks, h.base, h.reset),
+    }
+}
+
+// The answer for the bytes of an image file and of a list file.
+pub fn answer_for(image: &[u8], text: &[u8]) -> Answer
+    ensures { λ r. ⌜ r ≡ spec.answerFor (now (image .entry)) (now (text .entry)) ⌝ }
+{
+    if LIST_LIMIT < text.len() {
+        return Answer::Unread;
+    }
+    if IMAGE_LIMIT < image.len() {
+        return Answer::Unread;
+    }
+    let mut marks = [0u8; IMAGE_LIMIT];
+    list_answer(image, text, &mut marks[..image.len()])
+}
