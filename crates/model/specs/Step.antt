@@ -44,6 +44,20 @@ use Rattle.model.specs.Effects.{Effect, effectOf, store, pushedAt, pushO
 abbrev pub callLimit : ℕ
 callLimit = 64
 
+-- 'each with its 24-bit return address and kind': an open call is one number, the eight bytes of its entry (INTERFACE): four of
+-- the address, one of the kind, three that are 0 once a call is opened there
+abbrev pub entryUnit : ℕ
+entryUnit = 4_294_967_296
+
+abbrev pub entryOf : ℕ → ℕ → ℕ
+entryOf address kind = address + entryUnit * kind
+
+abbrev pub returnOf : ℕ → ℕ
+returnOf entry = entry % entryUnit
+
+abbrev pub kindOf : ℕ → ℕ
+kindOf entry = entry / entryUnit % 256
+
 -- the numbers of the stops
 abbrev pub stopNumber : Stop → ℕ
 stopNumber Outside = 20
@@ -156,9 +170,11 @@ module _ (m : Memory) (s : State) (i : Instruction) where
   pullsReturn ByRtl = pulledLong r
 
   -- 24, 'no open call, other kind, or pulled address not the open call's'
+  abbrev pub top : ℕ
+  top = getD (s .calls) (depth - 1) 0
+
   abbrev pub isReturn : Kind → ℕ → Bool
-  isReturn kind address =
-      ltb 0 depth && eqb (getD (s .kinds) (depth - 1) 0) (kindNumber kind) && eqb (getD (s .returns) (depth - 1) 0) address
+  isReturn kind address = ltb 0 depth && eqb (kindOf top) (kindNumber kind) && eqb (returnOf top) address
 
   unfoldable pub returnsTo : Kind → ℕ → Plan
   returnsTo kind address =
@@ -196,15 +212,10 @@ depthAfter Keep depth = depth
 depthAfter (Open address kind) depth = depth + 1
 depthAfter Close depth = depth - 1
 
-abbrev pub returnsAfter : CallChange → ℕ → List ℕ → List ℕ
-returnsAfter Keep depth returns = returns
-returnsAfter (Open address kind) depth returns = set returns depth address
-returnsAfter Close depth returns = returns
-
-abbrev pub kindsAfter : CallChange → ℕ → List ℕ → List ℕ
-kindsAfter Keep depth kinds = kinds
-kindsAfter (Open address kind) depth kinds = set kinds depth kind
-kindsAfter Close depth kinds = kinds
+abbrev pub callsAfter : CallChange → ℕ → List ℕ → List ℕ
+callsAfter Keep depth calls = calls
+callsAfter (Open address kind) depth calls = set calls depth (entryOf address kind)
+callsAfter Close depth calls = calls
 
 abbrev pub answerOf : CallChange → Answer
 answerOf Keep = Completed
@@ -232,8 +243,7 @@ coreAfter i c d = record {
 abbrev pub stateAfter : Instruction → State → Change → State
 stateAfter i s d = record {
   core = coreAfter i (s .core) d;
-  returns = returnsAfter (d .calls) (s .core .depth) (s .returns);
-  kinds = kindsAfter (d .calls) (s .core .depth) (s .kinds);
+  calls = callsAfter (d .calls) (s .core .depth) (s .calls);
 }
 
 -- 23 and 26 of the stores, then all of them
