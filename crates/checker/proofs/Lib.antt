@@ -1,5 +1,4 @@
 -- The laws that the proofs of the functions share.
 pub mod Clear
-pub mod Effects
 pub mod Forms
 pub mod Steps

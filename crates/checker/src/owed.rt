@@ -4,7 +4,6 @@ use decoder::operand_at;
 use entries::effect_of;
 use entries::flow_of;
 use entries::target_form_of;
-use image::choose;
 use image::mark_at;
 use model::code::Flow;
 use model::code::Kind;
@@ -15,6 +14,8 @@ use model::rules::Want;
 use successors::kind_number;
 use successors::next_address;
 use successors::target_of;
+use successors::widths::m_after;
+use successors::widths::x_after;
 ghost use mathlib.Core.Path.{_≡_};
 ghost use Prim.Native.Nat.{_+_, _-_, _*_, _≤_, _<_};
 ghost use lib.ListN.{length, drop};
@@ -24,46 +25,6 @@ ghost use Rattle.model.specs.Decode.{operandOf};
 ghost use Rattle.model.specs.Rules as rules;
 ghost use Rattle.codepages.specs.Packing.{unpacked};
 ghost use Rattle.decoder.specs.Frame.{Fitting, instructionOf};
-ghost use Rattle.checker.specs.Effects.{newWidth, ownBits, operandShare};
-
-// What the widths become that an instruction names.
-fn new_width(effect: WidthEffect) -> u8
-    ensures { λ r. ⌜ r ≡ newWidth effect ⌝ }
-{
-    match effect {
-        WidthEffect::KeepWidths => 0,
-        WidthEffect::SetM => 1,
-        WidthEffect::ClearM => 0,
-        WidthEffect::SetBits => 1,
-        WidthEffect::ClearBits => 0,
-    }
-}
-
-// The bits of the status register that an instruction names whatever its operand is.
-fn own_bits(effect: WidthEffect) -> u64
-    ensures { λ r. ⌜ r ≡ ownBits effect ⌝ }
-{
-    match effect {
-        WidthEffect::KeepWidths => 0,
-        WidthEffect::SetM => 32,
-        WidthEffect::ClearM => 32,
-        WidthEffect::SetBits => 0,
-        WidthEffect::ClearBits => 0,
-    }
-}
-
-// 1 where an instruction names bits by its operand, else 0.
-fn operand_share(effect: WidthEffect) -> u64
-    ensures { λ r. ⌜ r ≡ operandShare effect ⌝ }
-{
-    match effect {
-        WidthEffect::KeepWidths => 0,
-        WidthEffect::SetM => 0,
-        WidthEffect::ClearM => 0,
-        WidthEffect::SetBits => 1,
-        WidthEffect::ClearBits => 1,
-    }
-}
 
 // The mark of a start with these fields.
 fn mark_of(m: u8, x: u8, kind: u8, rm: u8, rx: u8) -> u8
@@ -75,13 +36,10 @@ fn mark_of(m: u8, x: u8, kind: u8, rm: u8, rx: u8) -> u8
 
 // The mark with the widths after an instruction.
 fn mark_after(effect: WidthEffect, operand: u64, mark: u8) -> u8
-    requires { ⌜ operand < 1_099_511_627_776 ⌝ }
     ensures { λ r. ⌜ r ≡ rules.markAfter effect operand mark ⌝ }
 {
-    let bits = own_bits(effect) + operand * operand_share(effect);
-    let new = new_width(effect);
-    let m = choose(bits / 32 % 2 == 1, new, mark / 2 % 2);
-    let x = choose(bits / 16 % 2 == 1, new, mark / 4 % 2);
+    let m = m_after(effect, mark / 2 % 2, operand);
+    let x = x_after(effect, mark / 4 % 2, operand);
     mark_of(m, x, mark / 8 % 4, mark / 32 % 2, mark / 64 % 2)
 }
 

@@ -1,4 +1,6 @@
 // Where control goes from an instruction: the next address and the target, for the check and the machine alike.
+pub mod widths;
+
 use model::code::Kind;
 use model::code::Target;
 ghost use mathlib.Core.Path.{_≡_};
@@ -43,7 +45,7 @@ fn last_byte(operand: u64, n: u8) -> u64
 }
 
 // An address in the bank of another.
-fn in_bank_of(address: u64, low: u64) -> u64
+pub fn in_bank_of(address: u64, low: u64) -> u64
     requires { ⌜ (address < 4_294_967_296) × (low < 1_099_511_627_776) ⌝ }
     ensures { λ r. ⌜ r ≡ inBankOf address low ⌝ }
 {

@@ -1,86 +1,31 @@
--- The bits named and what they become give the widths of the definition, which are bits again and fit a mark.
--- Assumes nothing.
-use Rattle.checker.proofs.Effects.{own-small, share-small, m-chosen, x-chosen}
-use Rattle.model.specs.Rules.{markAfter}
-use Rattle.model.proofs.Widths.{m-after-bit, x-after-bit}
-use Prim.Native.Nat.{_/_, _%_}
 use native.Mathlib.Omega.{arith}
+use Rattle.model.proofs.Widths.{m-after-bit, x-after-bit}
+use Rattle.model.specs.Rules.{markAfter}
 use borrow.Author.Needs.{needs}
 use Rattle.checker.proofs.owed.mark_after.Statement.{statement}
 use Rattle.checker.proofs.owed.mark_after.Tie as tie
+use Rattle.checker.proofs.owed.mark_after.Reads as reads
+use Rattle.checker.proofs.owed.mark_after.Lts as lts
+use Rattle.checker.proofs.owed.mark_of.Reads as mark-of-reads
+use Rattle.successors.proofs.widths.m_after.Reads as m-after-reads
+use Rattle.successors.proofs.widths.x_after.Reads as x-after-reads
 
-mul-bits : tie.Need-mul-bits
-mul-bits c =
-    rw (c .operand-share .ensures) (omega (
-      arith,
-      c .before .before .pre,
-      share-small (c .before .before .args
-          .effect) (c .before .before .args .operand),
-    ))
+-- src/owed.rt:41:9
+m-after-requires : tie.Need-m-after-requires
+m-after-requires c κs = search needs
 
-add-bits : tie.Need-add-bits
-add-bits c =
-    rw (c .operand-share .ensures, c .before .own-bits .ensures) (omega (
-      arith,
-      c .before .before .pre,
-      own-small (c
-          .before .before .args .effect),
-      share-small (c .before .before .args .effect) (c .before .before .args
-          .operand),
-    ))
+-- src/owed.rt:42:9
+x-after-requires : tie.Need-x-after-requires
+x-after-requires c κs = search needs
 
+-- src/owed.rt:43:5
 mark-of-requires : tie.Need-mark-of-requires
-mark-of-requires c κs = (
-  rw (m-chosen (c .before .before .before .before .before .args .effect) (c .before .before .before .before
-      .before .args .operand) (c .before .before .before .before .own-bits .result) (c .before .before .before
-      .operand-share .result) (c .before .before .new-width .result) (c .before .before .before .before .own-bits
-      .ensures) (c .before .before .before .operand-share .ensures) (c .before .before .new-width .ensures) (c .before
-      .before .before .before .before .args .mark / 2 % 2) (c .before .choose .result) (c .before .choose .ensures))
-      (m-after-bit _ _ _ (omega arith)),
-  rw (x-chosen (c .before .before .before .before .before .args .effect) (c
-      .before .before .before .before .before .args .operand) (c .before .before .before .before .own-bits .result) (c
-      .before .before .before .operand-share .result) (c .before .before .new-width .result) (c .before .before
-      .before .before .own-bits .ensures) (c .before .before .before .operand-share .ensures) (c .before .before
-      .new-width .ensures) (c .before .before .before .before .before .args .mark / 4 % 2) (c .choose2 .result) (c
-      .choose2 .ensures)) (x-after-bit _ _ _ (omega arith)),
-  omega arith,
-  omega arith,
-  omega arith,
-)
+mark-of-requires c κs = (rw (c .before .m-after .ensures) (m-after-bit _ _ _ (omega arith)), rw (c .x-after .ensures) (x-after-bit _ _ _ (omega arith)), omega arith, omega arith, omega arith)
 
+-- src/owed.rt:38:1
 returns : tie.Need-returns
 unfolding markAfter
-returns c =
-    rw (
-      ← m-chosen (c .before .before .before .before .before .before .args .effect) (c .before .before .before
-          .before .before .before .args .operand) (c .before .before .before .before .before .own-bits .result)
-          (c .before
-          .before .before .before .operand-share .result) (c .before .before .before .new-width .result) (c .before
-          .before .before .before .before .own-bits .ensures) (c .before .before .before .before .operand-share
-          .ensures)
-          (c .before .before .before .new-width .ensures) (c .before .before .before .before .before .before
-          .args .mark /
-          2 % 2) (c .before .before .choose .result) (c .before .before .choose .ensures),
-      ← x-chosen (c .before .before
-          .before .before .before .before .args .effect) (c .before .before .before .before .before .before .args
-          .operand) (c .before .before .before .before .before .own-bits .result) (c .before .before .before .before
-          .operand-share .result) (c .before .before .before .new-width .result) (c .before .before .before .before
-          .before .own-bits .ensures) (c .before .before .before .before .operand-share .ensures) (c .before .before
-          .before .new-width .ensures) (c .before .before .before .before .before .before .args .mark / 4 % 2)
-          (c .before
-          .choose2 .result) (c .before .choose2 .ensures),
-    ) (c .mark-of .ensures)
+returns c = rw (← c .before .before .m-after .ensures, ← c .before .x-after .ensures) (c .mark-of .ensures)
 
 pub mark-after-spec : {M : Type 1} → statement M
-mark-after-spec =
-    tie.close
-    (tie.spec
-    (λ c κs. search needs)
-    (λ c κs. search needs)
-    mul-bits
-    add-bits
-    (λ c κs. search needs)
-    (λ c κs. search needs)
-    (λ c κs. search needs)
-    mark-of-requires
-    returns)
+mark-after-spec = tie.close (tie.spec m-after-requires x-after-requires mark-of-requires returns)
