@@ -16,6 +16,7 @@ use Rattle.model.specs.declared.code.Kind.{Kind}
 use Rattle.model.specs.declared.code.Flow.the-variants.{Call, Return}
 use Rattle.model.specs.declared.code.Instruction.{Instruction}
 use Rattle.model.specs.declared.machine.Registers.{Registers}
+use Rattle.model.specs.declared.machine.Core.{Core}
 use Rattle.model.specs.declared.machine.State.{State}
 use Rattle.model.specs.declared.machine.Store.{Store}
 use Rattle.model.specs.declared.machine.Stop.{Stop}
@@ -86,22 +87,22 @@ module _ (m : Memory) where
 
 -- ---- the order of stops, as laws of the definition
 -- 27 before any read: whatever memory holds
-pub decimal-first : (m : Memory) (s : State) (i : Instruction) (goes : Bool → ℕ)
-    → isDecimal (accessOf (i .entry .operation)) (s .core .registers) ≡ true → operates m s i goes ≡ stops Decimal
+pub decimal-first : (m : Memory) (c : Core) (i : Instruction) (goes : Bool → ℕ)
+    → isDecimal (accessOf (i .entry .operation)) (c .registers) ≡ true → operates c i m goes ≡ stops Decimal
 unfolding operates
-decimal-first m s i goes h = rw h refl
+decimal-first m c i goes h = rw h refl
 
 -- 24 only after the pulls: a byte that is not mapped decides before
-pub pulls-first : (m : Memory) (s : State) (i : Instruction) (kind : Kind) → come m (pullsReturn m s i kind) ≡ unmapped
-    → planBy m s i (Return kind) ≡ stops Unmapped
+pub pulls-first : (m : Memory) (c : Core) (i : Instruction) (open-call : ℕ) (kind : Kind)
+    → come m (pullsReturn c i kind) ≡ unmapped → planBy c i m open-call (Return kind) ≡ stops Unmapped
 unfolding planBy
-pulls-first m s i kind h = rw h refl
+pulls-first m c i open-call kind h = rw h refl
 
 -- 25 before any push: whatever could be served
-pub deep-first : (m : Memory) (s : State) (i : Instruction) (kind : Kind) → ltb (s .core .depth) callLimit ≡ false
-    → planBy m s i (Call kind) ≡ stops Deep
+pub deep-first : (m : Memory) (c : Core) (i : Instruction) (open-call : ℕ) (kind : Kind)
+    → ltb (c .depth) callLimit ≡ false → planBy c i m open-call (Call kind) ≡ stops Deep
 unfolding planBy calls
-deep-first m s i kind h = rw h refl
+deep-first m c i open-call kind h = rw h refl
 
 -- the first store that can't be served decides
 pub first-unserved : (m : Memory) (a : Store) (rest : List Store) (stop : Stop) → servedAt m (a .address) ≡ Refused stop

@@ -31,7 +31,7 @@ maskV = 64
 abbrev pub maskN : ℕ
 maskN = 128
 
--- IPL lies above the flags, in three bits
+-- IPL lies above the flags, in three bits; the high byte is kept whole, so that a number with higher bits is known by it
 abbrev pub levelUnit : ℕ
 levelUnit = 256
 
@@ -56,7 +56,7 @@ statusOf n = record {
   m = isSet maskM n;
   overflow = isSet maskV n;
   negative = isSet maskN n;
-  level = n / levelUnit % 8;
+  level = n / levelUnit;
 }
 
 -- the number of a status
@@ -64,4 +64,4 @@ abbrev pub numberOf : Status → ℕ
 numberOf s =
     maskC * bit (s .carry) + maskZ * bit (s .zero) + maskI * bit (s .disable) + maskD * bit (s .decimal)
     + maskX * bit (s .x) + maskM * bit (s .m) + maskV * bit (s .overflow) + maskN * bit (s .negative)
-    + levelUnit * (s .level % 8)
+    + levelUnit * s .level

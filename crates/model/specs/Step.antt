@@ -44,6 +44,20 @@ use Rattle.model.specs.Effects.{Effect, effectOf, store, pushedAt, pushO
 abbrev pub callLimit : ℕ
 callLimit = 64
 
+-- 'each with its 24-bit return address and kind': an open call is one number, the eight bytes of its entry (INTERFACE): four of
+-- the address, one of the kind, three that are 0 once a call is opened there
+abbrev pub entryUnit : ℕ
+entryUnit = 4_294_967_296
+
+abbrev pub entryOf : ℕ → ℕ → ℕ
+entryOf address kind = address + entryUnit * kind
+
+abbrev pub returnOf : ℕ → ℕ
+returnOf entry = entry % entryUnit
+
+abbrev pub kindOf : ℕ → ℕ
+kindOf entry = entry / entryUnit % 256
+
 -- the numbers of the stops
 abbrev pub stopNumber : Stop → ℕ
 stopNumber Outside = 20
@@ -96,15 +110,12 @@ isDecimal Address r = false
 isDecimal Pull r = false
 isDecimal DirectWord r = false
 
-module _ (m : Memory) (s : State) (i : Instruction) where
+module _ (c : Core) (i : Instruction) where
   abbrev pub r : Registers
-  r = s .core .registers
-
-  abbrev pub depth : ℕ
-  depth = s .core .depth
+  r = c .registers
 
   abbrev pub place : ℕ
-  place = placeOf (s .core)
+  place = placeOf c
 
   abbrev pub next : ℕ
   next = nextAddress place (i .length)
@@ -126,8 +137,8 @@ module _ (m : Memory) (s : State) (i : Instruction) where
       worked : Effect → Plan
       worked e = changes (change (e .registers) (goes (e .taken)) Keep (e .stores))
 
-  unfoldable pub operates : (Bool → ℕ) → Plan
-  operates goes =
+  unfoldable pub operates : Memory → (Bool → ℕ) → Plan
+  operates m goes =
       pick (isDecimal access r) (stops Decimal)
       (onRead (come m (dataOf access (i .entry .mode) (i .entry .accumulator) r short (i .operand))) (works goes))
 
@@ -144,7 +155,7 @@ module _ (m : Memory) (s : State) (i : Instruction) where
   -- 25, 'call with 64 open'
   unfoldable pub calls : Kind → Plan
   calls kind =
-      pick (ltb depth callLimit)
+      pick (ltb (c .depth) callLimit)
       (changes (change (withS (pushedAt r (returnBytes kind)) r) target (Open next (kindNumber kind)) (pushesReturn kind)))
       (stops Deep)
 
@@ -155,27 +166,31 @@ module _ (m : Memory) (s : State) (i : Instruction) where
     ret (inBankOf place address)
   pullsReturn ByRtl = pulledLong r
 
-  -- 24, 'no open call, other kind, or pulled address not the open call's'
-  abbrev pub isReturn : Kind → ℕ → Bool
-  isReturn kind address =
-      ltb 0 depth && eqb (getD (s .kinds) (depth - 1) 0) (kindNumber kind) && eqb (getD (s .returns) (depth - 1) 0) address
+  -- 24, 'no open call, other kind, or pulled address not the open call's', whose entry is given
+  abbrev pub isReturn : ℕ → Kind → ℕ → Bool
+  isReturn open-call kind address =
+      ltb 0 (c .depth) && eqb (kindOf open-call) (kindNumber kind) && eqb (returnOf open-call) address
 
-  unfoldable pub returnsTo : Kind → ℕ → Plan
-  returnsTo kind address =
-      pick (isReturn kind address) (changes (change (withS (pulledAt r (returnBytes kind)) r) address Close []))
+  unfoldable pub returnsTo : ℕ → Kind → ℕ → Plan
+  returnsTo open-call kind address =
+      pick (isReturn open-call kind address) (changes (change (withS (pulledAt r (returnBytes kind)) r) address Close []))
       (stops Astray)
 
   -- by flow; 22, 'STP or WIT'
-  unfoldable pub planBy : Flow → Plan
-  planBy Next = operates (λ taken. next)
-  planBy Branch = operates (λ taken. pick taken target next)
-  planBy Jump = changes (change r target Keep [])
-  planBy (Call kind) = calls kind
-  planBy (Return kind) = onRead (come m (pullsReturn kind)) (returnsTo kind)
-  planBy Halt = stops Halted
+  unfoldable pub planBy : Memory → ℕ → Flow → Plan
+  planBy m open-call Next = operates m (λ taken. next)
+  planBy m open-call Branch = operates m (λ taken. pick taken target next)
+  planBy m open-call Jump = changes (change r target Keep [])
+  planBy m open-call (Call kind) = calls kind
+  planBy m open-call (Return kind) = onRead (come m (pullsReturn kind)) (returnsTo open-call kind)
+  planBy m open-call Halt = stops Halted
 
-  abbrev pub plan : Plan
-  plan = planBy (i .entry .flow)
+-- the entry of the call opened last
+abbrev pub lastOpened : State → ℕ
+lastOpened s = getD (s .calls) (s .core .depth - 1) 0
+
+abbrev pub plan : Memory → State → Instruction → Plan
+plan m s i = planBy (s .core) i m (lastOpened s) (i .entry .flow)
 
 -- The step's answer, and state and RAM after it.
 pub record Stepped : Type 0 where
@@ -196,15 +211,10 @@ depthAfter Keep depth = depth
 depthAfter (Open address kind) depth = depth + 1
 depthAfter Close depth = depth - 1
 
-abbrev pub returnsAfter : CallChange → ℕ → List ℕ → List ℕ
-returnsAfter Keep depth returns = returns
-returnsAfter (Open address kind) depth returns = set returns depth address
-returnsAfter Close depth returns = returns
-
-abbrev pub kindsAfter : CallChange → ℕ → List ℕ → List ℕ
-kindsAfter Keep depth kinds = kinds
-kindsAfter (Open address kind) depth kinds = set kinds depth kind
-kindsAfter Close depth kinds = kinds
+abbrev pub callsAfter : CallChange → ℕ → List ℕ → List ℕ
+callsAfter Keep depth calls = calls
+callsAfter (Open address kind) depth calls = set calls depth (entryOf address kind)
+callsAfter Close depth calls = calls
 
 abbrev pub answerOf : CallChange → Answer
 answerOf Keep = Completed
@@ -232,8 +242,7 @@ coreAfter i c d = record {
 abbrev pub stateAfter : Instruction → State → Change → State
 stateAfter i s d = record {
   core = coreAfter i (s .core) d;
-  returns = returnsAfter (d .calls) (s .core .depth) (s .returns);
-  kinds = kindsAfter (d .calls) (s .core .depth) (s .kinds);
+  calls = callsAfter (d .calls) (s .core .depth) (s .calls);
 }
 
 -- 23 and 26 of the stores, then all of them

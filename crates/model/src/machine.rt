@@ -4,7 +4,8 @@ ghost use mathlib.Core.Path.{_≡_};
 ghost use Prim.Native.Nat.{_≤_};
 ghost use Rattle.model.specs.Status.{statusOf, numberOf, bit};
 
-// The processor status register, a field for each flag and one for the interrupt priority level (manual 2.9).
+// The processor status register, a field for each flag and one for its high byte: the interrupt priority level, and above it
+// five bits that are 0 in every state that a run takes (manual 2.9).
 pub struct Status {
     pub carry: bool,
     pub zero: bool,
@@ -56,7 +57,7 @@ impl Status {
             m: n / Status::M % 2 == 1,
             overflow: n / Status::V % 2 == 1,
             negative: n / Status::N % 2 == 1,
-            level: (n / Status::LEVEL % 8) as u8,
+            level: (n / Status::LEVEL) as u8,
         }
     }
 
@@ -72,7 +73,7 @@ impl Status {
             + Status::M * bit_of(self.m)
             + Status::V * bit_of(self.overflow)
             + Status::N * bit_of(self.negative)
-            + Status::LEVEL * (self.level % 8) as u16
+            + Status::LEVEL * self.level as u16
     }
 }
 
@@ -96,11 +97,11 @@ pub struct Core {
     pub depth: usize,
 }
 
-// The state: the return addresses and the kinds of the open calls stand in the first `depth` entries, the first opened first.
+// The state: the open calls stand in the first `depth` entries, the first opened first, each as one number
+// (model/specs/Step.antt, `entryOf`).
 pub struct State {
     pub core: Core,
-    pub returns: [u32; 64],
-    pub kinds: [u8; 64],
+    pub calls: [u64; 64],
 }
 
 // Why a step stopped: numbers 20 to 27 of document 01.
