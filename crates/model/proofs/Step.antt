@@ -11,10 +11,12 @@ use native.Mathlib.Omega.{arith}
 use lib.Dec.{ltb, leb}
 use lib.ListN.{length, getD, drop, drop-of-length-le}
 use lib.Seq.{drop-cons}
-use borrow.Author.Tests.{lt-ltb, le-ltb, le-leb, lt-leb}
+use borrow.Author.Tests.{lt-ltb, le-ltb, le-leb, lt-leb, ltb-true, ltb-false}
 use Rattle.model.specs.declared.code.Kind.{Kind}
 use Rattle.model.specs.declared.code.Flow.the-variants.{Call, Return}
 use Rattle.model.specs.declared.code.Instruction.{Instruction}
+use Rattle.model.specs.declared.code.Decoded.{Decoded}
+use Rattle.model.specs.declared.code.Decoded.the-variants.{CutOff}
 use Rattle.model.specs.declared.machine.Registers.{Registers}
 use Rattle.model.specs.declared.machine.Core.{Core}
 use Rattle.model.specs.declared.machine.State.{State}
@@ -25,11 +27,14 @@ use Rattle.model.specs.declared.machine.Stop.the-variants.{Astray, Deep,
 use Rattle.model.specs.declared.machine.Served.the-variants.{Refused}
 use Rattle.model.specs.Image.{addressLimit}
 use Rattle.model.specs.Rules.{nextAddress}
-use Rattle.model.specs.Memory.{Memory, inImage, unmapped, come, servedAt, served}
+use Rattle.model.specs.Memory.{Memory, memory, inImage, unmapped, come, servedAt, served}
 use Rattle.model.specs.Addressing.{accessOf}
 use Rattle.model.specs.Effects.{store, storesOf, pushOf}
-use Rattle.model.specs.Step.{callLimit, stopNumber, bytesFrom, stops, isDecimal, operates, calls, pullsReturn}
+use Rattle.model.specs.Decode.{decode}
+use Rattle.model.specs.Status.{bit}
+use Rattle.model.specs.Step.{callLimit, stopNumber, placeOf, bytesFrom, fetched, stops, isDecimal, operates, calls, pullsReturn}
 use Rattle.model.specs.Step.{planBy, stopped}
+use Rattle.model.proofs.Decode.{decode-nothing}
 
 module _ (m : Memory) where
   -- no byte from an address outside the image
@@ -84,6 +89,35 @@ module _ (m : Memory) where
             none-outside ((m .base + o + 1) % addressLimit) n (behind (m .base + o + 1) (omega arith))
             ∙ sym (drop-of-length-le (m .image) {i = suc o} (omega arith))
         rest (inr more) further = rw (mod-eq-of-lt (within more), on) (further more)
+
+    -- from an address at the base or above, inside the image or not
+    pub bytes-from : (a : ℕ) → m .base ≤ a → bytesFrom m a (length (m .image)) ≡ drop (a - m .base) (m .image)
+    bytes-from a h = by (ltb (a - m .base) (length (m .image))) refl
+      where
+        again : m .base + (a - m .base) ≡ a
+        again = omega arith
+
+        by : (b : Bool) → ltb (a - m .base) (length (m .image)) ≡ b
+            → bytesFrom m a (length (m .image)) ≡ drop (a - m .base) (m .image)
+        by true e =
+            ap (λ k. bytesFrom m k (length (m .image))) (sym again)
+            ∙ bytes-inside (length (m .image)) (a - m .base) (ltb-true _ _ e) (omega arith)
+        by false e =
+            none-outside a (length (m .image)) (rw (le-leb (m .base) a h) e)
+            ∙ sym (drop-of-length-le (m .image) {i = a - m .base} (ltb-false _ _ e))
+
+-- what is fetched under the image, and from the base on
+module _ (ram image : List ℕ) (base : ℕ) (c : Core) (place : ℕ) (there : place ≡ placeOf c) where
+  pub fetched-under : place < base → CutOff ≡ fetched (memory ram image base) c
+  fetched-under h =
+      rw (← there, none-outside (memory ram image base) place (length image) (rw (lt-leb base place h) refl))
+      (decode-nothing [] _ _ refl)
+
+  pub fetched-from : base + length image ≤ addressLimit → length image < addressLimit → base ≤ place
+      → (d : Decoded) (m x : ℕ) → m ≡ bit (c .registers .status .m) → x ≡ bit (c .registers .status .x)
+      → d ≡ decode (drop (place - base) image) m x → d ≡ fetched (memory ram image base) c
+  fetched-from whole small h d m x is-m is-x e =
+      rw (e, is-m, is-x, ← there, bytes-from (memory ram image base) whole small place h) refl
 
 -- ---- the order of stops, as laws of the definition
 -- 27 before any read: whatever memory holds

@@ -231,11 +231,12 @@ widthsAfter i before after =
     (after .status))
     after
 
+-- 'one 24-bit number that wraps'
 abbrev pub coreAfter : Instruction → Core → Change → Core
 coreAfter i c d = record {
   registers = widthsAfter i (c .registers) (d .registers);
   pc = d .place % bankSize;
-  pg = d .place / bankSize;
+  pg = d .place / bankSize % 256;
   depth = depthAfter (d .calls) (c .depth);
 }
 

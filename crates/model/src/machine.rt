@@ -97,11 +97,14 @@ pub struct Core {
     pub depth: usize,
 }
 
+// At most so many calls are open.
+pub const CALL_LIMIT: usize = 64;
+
 // The state: the open calls stand in the first `depth` entries, the first opened first, each as one number
 // (model/specs/Step.antt, `entryOf`).
 pub struct State {
     pub core: Core,
-    pub calls: [u64; 64],
+    pub calls: [u64; CALL_LIMIT],
 }
 
 // Why a step stopped: numbers 20 to 27 of document 01.
