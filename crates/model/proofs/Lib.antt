@@ -16,3 +16,4 @@ pub mod RoundTrips
 pub mod Memory
 pub mod Status
 pub mod Step
+pub mod Run

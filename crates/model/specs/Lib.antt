@@ -17,3 +17,4 @@ pub mod Addressing
 pub mod Arithmetic
 pub mod Effects
 pub mod Step
+pub mod Run

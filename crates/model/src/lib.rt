@@ -3,3 +3,4 @@ pub mod code;
 pub mod lists;
 pub mod machine;
 pub mod rules;
+pub mod runs;

@@ -1,0 +1,211 @@
+-- Runs: 01, 'The machine', from 'A run takes ..' on. The history of a run comes first; its end, its counts and what it
+-- leaves are functions of the history.
+-- Assumes nothing.
+use Prim.Native.Nat.{ℕ, zero, suc, _+_}
+use mathlib.Core.Bool.{Bool, true, false, not, _&&_, _||_}
+use mathlib.Core.List.{List, [], _∷_, _++_}
+use lib.Dec.{eqb, ltb, leb}
+use lib.ListN.{length, getD}
+use Rattle.model.specs.declared.code.Kind.the-variants.{ByRts, ByRtl}
+use Rattle.model.specs.declared.machine.State.{State}
+use Rattle.model.specs.declared.machine.Answer.{Answer}
+use Rattle.model.specs.declared.machine.Answer.the-variants.{Completed, Called, Stopped}
+use Rattle.model.specs.declared.runs.RunRefusal.{RunRefusal}
+use Rattle.model.specs.declared.runs.RunRefusal.the-variants.{WrongLength, WrongBase, WrongRam}
+use Rattle.model.specs.declared.runs.RunRefusal.the-variants.{WrongState, ManySteps}
+use Rattle.model.specs.declared.runs.Admission.{Admission}
+use Rattle.model.specs.declared.runs.Admission.the-variants.{Admitted, Refused}
+use Rattle.model.specs.declared.runs.End.{End}
+use Rattle.model.specs.declared.runs.End.the-variants.{Done, AtStop}
+use Rattle.model.specs.declared.runs.RunAnswer.{RunAnswer}
+use Rattle.model.specs.declared.runs.RunAnswer.the-variants.{NotRun, Ended}
+use Rattle.model.specs.Choice.{pick}
+use Rattle.model.specs.Image.{addressLimit, lengthFits, baseFits}
+use Rattle.model.specs.Rules.{kindNumber}
+use Rattle.model.specs.Verdict.{firstFrom}
+use Rattle.model.specs.Status.{bit}
+use Rattle.model.specs.Memory.{Memory, memory}
+use Rattle.model.specs.Step.{callLimit, returnOf, kindOf, stopNumber, Stepped, step}
+
+-- 'RAM is 1 to 4,096 bytes'
+abbrev pub ramLimit : ℕ
+ramLimit = 4_096
+
+-- 'A run takes 0 to 1,000,000 steps'
+abbrev pub stepLimit : ℕ
+stepLimit = 1_000_000
+
+-- ---- the history
+
+-- 'A step is completed when it meets no stop'
+abbrev pub isCompleted : Answer → Bool
+isCompleted Completed = true
+isCompleted Called = true
+isCompleted (Stopped stop) = false
+
+-- 'completed steps whose code is a JSR, long or not'
+abbrev pub isCall : Answer → Bool
+isCall Completed = false
+isCall Called = true
+isCall (Stopped stop) = false
+
+-- A step of a history: the RAM and the state that it began from, and what it came to.
+pub record Event : Type 0 where
+  pub ram : List ℕ
+  pub state : State
+  pub result : Stepped
+
+abbrev pub event : Memory → State → Event
+event m s = record { ram = m .ram; state = s; result = step m s }
+
+-- the same image and base, and the RAM that a step or a run left
+abbrev pub withRam : List ℕ → Memory → Memory
+withRam ram m = memory ram (m .image) (m .base)
+
+-- 'The history of a run is demand 2's steps, one after another: the first from the given state and RAM, each later one
+-- from what the step before left, until the asked number is completed or one stops. .. a stopped one is the last and
+-- belongs to the history too.'
+unfoldable pub history : Memory → State → ℕ → List Event
+history m s zero = []
+history m s (suc n) =
+    event m s
+    ∷ elim (isCompleted (step m s .answer))
+    [ true ↦ history (withRam (step m s .ram) m) (step m s .state) n | false ↦ [] ]
+
+-- ---- functions of a history
+
+abbrev pub count : (Answer → Bool) → List Event → ℕ
+count test [] = 0
+count test (e ∷ rest) = bit (test (e .result .answer)) + count test rest
+
+-- 'its number of completed steps, and the number of its calls'
+abbrev pub completedSteps : List Event → ℕ
+completedSteps = count isCompleted
+
+abbrev pub callsAmong : List Event → ℕ
+callsAmong = count isCall
+
+-- 'the end (0 when all asked steps are done, else the stop)'
+abbrev pub endAfter : Answer → End → End
+endAfter Completed more = more
+endAfter Called more = more
+endAfter (Stopped stop) more = AtStop stop
+
+abbrev pub endOf : List Event → End
+endOf [] = Done
+endOf (e ∷ rest) = endAfter (e .result .answer) (endOf rest)
+
+abbrev pub endNumber : End → ℕ
+endNumber Done = 0
+endNumber (AtStop stop) = stopNumber stop
+
+-- 'it leaves the state and RAM as they are after the last completed step, or as given if there is none'
+abbrev pub stateLeft : State → List Event → State
+stateLeft s [] = s
+stateLeft s (e ∷ rest) = stateLeft (pick (isCompleted (e .result .answer)) (e .result .state) s) rest
+
+abbrev pub ramLeft : List ℕ → List Event → List ℕ
+ramLeft ram [] = ram
+ramLeft ram (e ∷ rest) = ramLeft (pick (isCompleted (e .result .answer)) (e .result .ram) ram) rest
+
+-- ---- refusals
+
+-- number 11: 'empty, over 4,096, or with more bytes than the base's number (equal is allowed)'
+unfoldable pub ramFits : ℕ → ℕ → Bool
+ramFits n base = ltb 0 n && leb n ramLimit && leb n base
+
+-- number 12: 'PS bits 11 to 15 set': a level past its three bits
+abbrev pub levelLimit : ℕ
+levelLimit = 8
+
+-- 'a kind other than 1 or 2 or an address above FFFFFF'
+unfoldable pub callFits : ℕ → Bool
+callFits entry =
+    (eqb (kindOf entry) (kindNumber ByRts) || eqb (kindOf entry) (kindNumber ByRtl))
+    && ltb (returnOf entry) addressLimit
+
+abbrev pub callBroken : List ℕ → ℕ → Bool
+callBroken calls k = not (callFits (getD calls k 0))
+
+-- 'among them': among the first so many entries
+unfoldable pub callsFit : List ℕ → ℕ → Bool
+callsFit calls depth = eqb (firstFrom (callBroken calls) 0 depth) depth
+
+unfoldable pub stateFits : State → Bool
+stateFits s =
+    ltb (s .core .registers .status .level) levelLimit && leb (s .core .depth) callLimit
+    && callsFit (s .calls) (s .core .depth)
+
+-- 'Run: 1, 2, 11, 12, 13.' A run takes no marks.
+unfoldable pub admission : Memory → State → ℕ → Admission
+admission m s asked =
+    pick (lengthFits (length (m .image)) (length (m .image)))
+    (pick (baseFits (m .base) (length (m .image)))
+    (pick (ramFits (length (m .ram)) (m .base))
+    (pick (stateFits s)
+    (pick (leb asked stepLimit)
+    Admitted
+    (Refused ManySteps))
+    (Refused WrongState))
+    (Refused WrongRam))
+    (Refused WrongBase))
+    (Refused WrongLength)
+
+-- the numbers of 'Numbers'
+abbrev pub runRefusalNumber : RunRefusal → ℕ
+runRefusalNumber WrongLength = 1
+runRefusalNumber WrongBase = 2
+runRefusalNumber WrongRam = 11
+runRefusalNumber WrongState = 12
+runRefusalNumber ManySteps = 13
+
+-- ---- a run
+
+-- 'A run is refused exactly when one of the numbers tested for a run holds ..; its history is empty.'
+unfoldable pub admittedHistory : Admission → Memory → State → ℕ → List Event
+admittedHistory Admitted m s asked = history m s asked
+admittedHistory (Refused why) m s asked = []
+
+abbrev pub runHistory : Memory → State → ℕ → List Event
+runHistory m s asked = admittedHistory (admission m s asked) m s asked
+
+-- '.. and answers the first such number'; 'A run that is not refused answers exactly its history's end, its number of
+-- completed steps, and the number of its calls'
+abbrev pub answerBy : Admission → List Event → RunAnswer
+answerBy Admitted h = Ended (endOf h) (completedSteps h) (callsAmong h)
+answerBy (Refused why) h = NotRun why
+
+-- A run's answer, and state and RAM after it. A step by itself is a run of one.
+pub record Ran : Type 0 where
+  pub answer : RunAnswer
+  pub state : State
+  pub ram : List ℕ
+
+-- what a run with this history comes to
+abbrev pub ranBy : Admission → Memory → State → List Event → Ran
+ranBy a m s h = record { answer = answerBy a h; state = stateLeft s h; ram = ramLeft (m .ram) h }
+
+unfoldable pub ran : Memory → State → ℕ → Ran
+ran m s asked = ranBy (admission m s asked) m s (runHistory m s asked)
+
+-- ---- a list of runs
+
+-- A run of a list: RAM and state as given to it, and the number of steps that it is asked for.
+pub record Run : Type 0 where
+  pub ram : List ℕ
+  pub state : State
+  pub asked : ℕ
+
+-- 'A list's runs share image, base and RAM buffer': each later run begins from what the last left. A list of runs is
+-- given by the numbers of steps that are asked for.
+unfoldable pub runsFrom : Memory → State → List ℕ → List Run
+runsFrom m s [] = []
+runsFrom m s (asked ∷ rest) =
+    record { ram = m .ram; state = s; asked = asked }
+    ∷ runsFrom (withRam (ran m s asked .ram) m) (ran m s asked .state) rest
+
+-- '.. and its history is theirs joined in order'
+unfoldable pub joinedHistory : List ℕ → ℕ → List Run → List Event
+joinedHistory image base [] = []
+joinedHistory image base (r ∷ rest) =
+    runHistory (memory (r .ram) image base) (r .state) (r .asked) ++ joinedHistory image base rest
