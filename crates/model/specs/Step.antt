@@ -110,6 +110,11 @@ isDecimal Address r = false
 isDecimal Pull r = false
 isDecimal DirectWord r = false
 
+-- how many bytes a return address of a kind has
+abbrev pub returnBytes : Kind → ℕ
+returnBytes ByRts = 2
+returnBytes ByRtl = 3
+
 module _ (c : Core) (i : Instruction) where
   abbrev pub r : Registers
   r = c .registers
@@ -146,11 +151,6 @@ module _ (c : Core) (i : Instruction) where
   abbrev pub pushesReturn : Kind → List Store
   pushesReturn ByRts = store (r .s) (next / 256) ∷ store (pushedAt r 1) next ∷ []
   pushesReturn ByRtl = store (r .s) (next / bankSize) ∷ store (pushedAt r 1) (next / 256) ∷ store (pushedAt r 2) next ∷ []
-
-  -- how many bytes a return address of a kind has
-  abbrev pub returnBytes : Kind → ℕ
-  returnBytes ByRts = 2
-  returnBytes ByRtl = 3
 
   -- 25, 'call with 64 open'
   unfoldable pub calls : Kind → Plan
