@@ -330,6 +330,18 @@ both-three a b c h =
     let inner = both-true a b (outer .0) in
     (inner .0, inner .1, outer .1)
 
+-- the rule of a return: its own kind, at the marked return widths
+returns-marked : (kind : Kind) (mark : ℕ) → returnsBy kind mark ≡ true
+    → (markKind mark ≡ kindNumber kind) × (markM mark ≡ returnM mark) × (markX mark ≡ returnX mark)
+unfolding returnsBy
+returns-marked kind mark rule =
+    let own = both-three (eqb (markKind mark) (kindNumber kind)) (eqb (markM mark) (returnM mark))
+    (eqb (markX mark) (returnX mark)) rule in (
+      eqb-true (markKind mark) (kindNumber kind) (own .0),
+      eqb-true (markM mark) (returnM mark) (own .1),
+      eqb-true (markX mark) (returnX mark) (own .2),
+    )
+
 module _ (marks : List ℕ) (base : ℕ) (s : State) (i : Instruction) (st : Stands marks base s) where
   abbrev place : ℕ
   place = placeOf (s .core)
@@ -400,23 +412,20 @@ module _ (marks : List ℕ) (base : ℕ) (s : State) (i : Instruction) (st : Sta
   -- a return to the address of the call opened last
   return-arrives : (kind : Kind) (address : ℕ) → i .entry .effect ≡ KeepWidths → returnsBy kind mark ≡ true
       → isReturn (s .core) i (lastOpened s) kind address ≡ true → Arrives marks base s i address Close
-  unfolding returnsBy mAfter xAfter
+  unfolding mAfter xAfter
   return-arrives kind address keeps rule matches =
       let entry = lastOpened s in
       let test = both-three (ltb 0 (s .core .depth)) (eqb (kindOf entry) (kindNumber kind))
       (eqb (returnOf entry) address) matches in
-      let own = both-three (eqb (markKind mark) (kindNumber kind)) (eqb (markM mark) (returnM mark))
-      (eqb (markX mark) (returnX mark)) rule in
+      let own = returns-marked kind mark rule in
       let kinds = eqb-true (kindOf entry) (kindNumber kind) (test .1) in
       let top = chain-top marks base (s .calls) (s .core .depth) mark (ltb-true 0 (s .core .depth) (test .0))
       (entry-there marks base (s .calls) (s .core .depth) kind kinds) (st .chain) in
       let goes : address ≡ returnOf entry = sym (eqb-true (returnOf entry) address (test .2)) in
       record {
         start = rw goes (top .0 .start);
-        m-after = rw (keeps, st .m-marked, goes)
-            (top .0 .same-m ∙ sym (eqb-true (markM mark) (returnM mark) (own .1)));
-        x-after = rw (keeps, st .x-marked, goes)
-            (top .0 .same-x ∙ sym (eqb-true (markX mark) (returnX mark) (own .2)));
+        m-after = rw (keeps, st .m-marked, goes) (top .0 .same-m ∙ sym (own .1));
+        x-after = rw (keeps, st .x-marked, goes) (top .0 .same-x ∙ sym (own .2));
         chain = rw goes (top .1);
       }
 
@@ -437,12 +446,9 @@ module _ (marks : List ℕ) (base : ℕ) (s : State) (i : Instruction) (st : Sta
   -- the mark's kind is a return's own, and so is that of the call opened last
   own-kind : (kind : Kind) → returnsBy kind mark ≡ true → 0 < s .core .depth → s .core .depth ≤ length (s .calls)
       → kindOf (lastOpened s) ≡ kindNumber kind
-  unfolding returnsBy
   own-kind kind rule some inside =
-      let own = both-three (eqb (markKind mark) (kindNumber kind)) (eqb (markM mark) (returnM mark))
-      (eqb (markX mark) (returnX mark)) rule in
       let top = chain-top marks base (s .calls) (s .core .depth) mark some inside (st .chain) in
-      sym (top .0 .same-kind) ∙ eqb-true (markKind mark) (kindNumber kind) (own .0)
+      sym (top .0 .same-kind) ∙ returns-marked kind mark rule .0
 
   -- by flow: what an instruction owes keeps the machine at its marks
   plan-good : (m : Memory) (flow : Flow) → ((kind : Kind) → flow ≡ Call kind → i .entry .effect ≡ KeepWidths)
