@@ -10,6 +10,11 @@ use native.Mathlib.Omega.{arith}
 use lib.Dec.{T, leb, leb→le, ltb, eqb, eqb·suc-zero}
 use lib.ListN.{getD}
 use Rattle.model.specs.declared.code.Entry.{Entry}
+use Rattle.model.specs.declared.code.Kind.{Kind}
+use Rattle.model.specs.declared.code.Flow.{Flow}
+use Rattle.model.specs.declared.code.Flow.the-variants.{Next, Branch, Jump, Call, Return, Halt}
+use Rattle.model.specs.declared.code.WidthEffect.{WidthEffect}
+use Rattle.model.specs.declared.code.WidthEffect.the-variants.{KeepWidths, SetM, ClearM, SetBits, ClearBits}
 use Rattle.model.specs.declared.code.LengthRule.{LengthRule}
 use Rattle.model.specs.declared.code.LengthRule.the-variants.{Fixed, MoreByM, MoreByX}
 use Rattle.model.specs.CodePages.{Form, none, plain, behind42, behind89, pages}
@@ -64,6 +69,49 @@ all-short = tt
 
 pub bytes-at-most : (page code : ℕ) → entryAt page code .bytes ≤ 6
 bytes-at-most page code = leb→le (entryAt page code .bytes) 6 (tested-at short (λ p. tt) all-short page code)
+
+-- 'Only SEM, CLM, SEP and CLP change them': no call and no return does
+abbrev keepsWidths : WidthEffect → Bool
+keepsWidths KeepWidths = true
+keepsWidths SetM = false
+keepsWidths ClearM = false
+keepsWidths SetBits = false
+keepsWidths ClearBits = false
+
+abbrev keepsBy : Flow → WidthEffect → Bool
+keepsBy Next effect = true
+keepsBy Branch effect = true
+keepsBy Jump effect = true
+keepsBy (Call kind) effect = keepsWidths effect
+keepsBy (Return kind) effect = keepsWidths effect
+keepsBy Halt effect = true
+
+abbrev keeping : ℕ → Entry → Bool
+keeping prefix e = keepsBy (e .flow) (e .effect)
+
+all-keeping : T (every (page-test keeping) 0 pages)
+unfolding pages plain behind42 behind89
+all-keeping = tt
+
+kept : (effect : WidthEffect) → T (keepsWidths effect) → effect ≡ KeepWidths
+kept KeepWidths t = refl
+kept SetM t = absurd t
+kept ClearM t = absurd t
+kept SetBits t = absurd t
+kept ClearBits t = absurd t
+
+module _ (page code : ℕ) (kind : Kind) where
+  abbrev entry : Entry
+  entry = entryAt page code
+
+  kept-by : (flow : Flow) → entry .flow ≡ flow → T (keepsBy flow (entry .effect))
+  kept-by flow same = rw same at (tested-at keeping (λ p. tt) all-keeping page code)
+
+  pub call-keeps : entry .flow ≡ Call kind → entry .effect ≡ KeepWidths
+  call-keeps h = kept (entry .effect) (kept-by (Call kind) h)
+
+  pub return-keeps : entry .flow ≡ Return kind → entry .effect ≡ KeepWidths
+  return-keeps h = kept (entry .effect) (kept-by (Return kind) h)
 
 -- a length hangs on no more of a width than whether it is 0
 narrow : ℕ → ℕ

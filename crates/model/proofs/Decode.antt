@@ -87,6 +87,15 @@ decodes bytes m x i h =
     let page = pageOf (getD bytes 0 0) in
     decodes-on page bytes m x i (passed page bytes m x i h)
 
+-- an instruction's entry is the code map's, and its length what the code map counts at these widths
+pub decoded-entry : (bytes : List ℕ) (m x : ℕ) (i : Instruction) → decode bytes m x ≡ Whole i
+    → (i .entry ≡ entryAt (pageOf (getD bytes 0 0)) (getD bytes (prefixBytes (pageOf (getD bytes 0 0))) 0))
+    × (i .length ≡ lengthAt (i .entry) m x)
+unfolding decode
+decoded-entry bytes m x i h =
+    let p = passed (pageOf (getD bytes 0 0)) bytes m x i h in
+    (p .entry, rw (p .entry) (p .long))
+
 -- every element is a byte; past the end `getD` gives 0, which is one too
 abbrev pub AllBytes : List ℕ → Type 0
 AllBytes l = (k : ℕ) → getD l k 0 < 256

@@ -17,3 +17,4 @@ pub mod Memory
 pub mod Status
 pub mod Step
 pub mod Run
+pub mod Guarantee

@@ -165,7 +165,7 @@ abbrev pub ended : End → ℕ → ℕ → State → List ℕ → Ran
 ended end steps calls s ram = record { answer = Ended end steps calls; state = s; ram = ram }
 
 -- what a completed step leaves is what the rest goes on from
-state-passes : (s : State) (e : Event) (h : List Event) → isCompleted (e .result .answer) ≡ true
+pub state-passes : (s : State) (e : Event) (h : List Event) → isCompleted (e .result .answer) ≡ true
     → stateLeft s (e ∷ h) ≡ stateLeft (e .result .state) h
 state-passes s e h c = ap (λ b. stateLeft (pick b (e .result .state) s) h) c
 

@@ -44,7 +44,7 @@ module _ (m : Memory) where
   none-outside a (suc n) h = rw h refl
 
   module _ (whole : m .base + length (m .image) ≤ addressLimit) (small : length (m .image) < addressLimit) where
-    is-inside : (o : ℕ) → o < length (m .image) → inImage m (m .base + o) ≡ true
+    pub is-inside : (o : ℕ) → o < length (m .image) → inImage m (m .base + o) ≡ true
     is-inside o h =
         rw (le-leb (m .base) (m .base + o) (omega arith))
         (lt-ltb (m .base + o - m .base) (length (m .image)) (omega arith))

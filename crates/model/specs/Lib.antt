@@ -18,3 +18,4 @@ pub mod Arithmetic
 pub mod Effects
 pub mod Step
 pub mod Run
+pub mod Guarantee
