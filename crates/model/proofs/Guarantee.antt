@@ -401,7 +401,7 @@ module _ (marks : List ℕ) (base : ℕ) (s : State) (i : Instruction) (st : Sta
     where
       by : (b : Bool) → Good marks base s i
           (pick b
-          (changes (change (withS (pushedAt (s .core .registers) (returnBytes (s .core) i kind)) (s .core .registers))
+          (changes (change (withS (pushedAt (s .core .registers) (returnBytes kind)) (s .core .registers))
           (target (s .core) i) (Open (next (s .core) i) (kindNumber kind)) (pushesReturn (s .core) i kind)))
           (stops Deep))
       by true =

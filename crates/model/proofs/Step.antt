@@ -13,10 +13,11 @@ use lib.ListN.{length, getD, drop, drop-of-length-le}
 use lib.Seq.{drop-cons}
 use borrow.Author.Tests.{lt-ltb, le-ltb, le-leb, lt-leb, ltb-true, ltb-false}
 use Rattle.model.specs.declared.code.Kind.{Kind}
-use Rattle.model.specs.declared.code.Flow.the-variants.{Call, Return}
+use Rattle.model.specs.declared.code.Flow.{Flow}
+use Rattle.model.specs.declared.code.Flow.the-variants.{Next, Branch, Jump, Call, Return, Halt}
 use Rattle.model.specs.declared.code.Instruction.{Instruction}
 use Rattle.model.specs.declared.code.Decoded.{Decoded}
-use Rattle.model.specs.declared.code.Decoded.the-variants.{CutOff}
+use Rattle.model.specs.declared.code.Decoded.the-variants.{Whole, NotCarried, CutOff}
 use Rattle.model.specs.declared.machine.Registers.{Registers}
 use Rattle.model.specs.declared.machine.Core.{Core}
 use Rattle.model.specs.declared.machine.State.{State}
@@ -24,16 +25,24 @@ use Rattle.model.specs.declared.machine.Store.{Store}
 use Rattle.model.specs.declared.machine.Stop.{Stop}
 use Rattle.model.specs.declared.machine.Stop.the-variants.{Outside, Uncarried, Halt as Halted, Unmapped}
 use Rattle.model.specs.declared.machine.Stop.the-variants.{Astray, Deep, ImageStore, Decimal}
-use Rattle.model.specs.declared.machine.Served.the-variants.{Refused}
+use Rattle.model.specs.declared.machine.Served.{Served}
+use Rattle.model.specs.declared.machine.Served.the-variants.{All, Refused}
+use Rattle.model.specs.declared.machine.CallChange.{CallChange}
+use Rattle.model.specs.declared.machine.CallChange.the-variants.{Keep, Open, Close}
+use Rattle.model.specs.declared.machine.Data.{Data}
+use Rattle.model.specs.Choice.{pick}
 use Rattle.model.specs.Image.{addressLimit}
-use Rattle.model.specs.Rules.{nextAddress}
-use Rattle.model.specs.Memory.{Memory, memory, inImage, unmapped, come, servedAt, served}
-use Rattle.model.specs.Addressing.{accessOf}
-use Rattle.model.specs.Effects.{store, storesOf, pushOf}
+use Rattle.model.specs.Rules.{nextAddress, kindNumber}
+use Rattle.model.specs.Memory.{Memory, memory, inImage, Outcome, done, unmapped, come, servedAt, served}
+use Rattle.model.specs.Addressing.{accessOf, dataOf, pulledAt}
+use Rattle.model.specs.Arithmetic.{withS}
+use Rattle.model.specs.Effects.{store, storesOf, pushOf, pushedAt}
 use Rattle.model.specs.Decode.{decode}
 use Rattle.model.specs.Status.{bit}
 use Rattle.model.specs.Step.{callLimit, stopNumber, placeOf, bytesFrom, fetched, stops, isDecimal, operates, calls, pullsReturn}
-use Rattle.model.specs.Step.{planBy, stopped}
+use Rattle.model.specs.Step.{planBy, stopped, returnsTo, returnBytes, next, target, short, access, works, pushesReturn}
+use Rattle.model.specs.Step.{isReturn, Change, change, changes, Plan, plan, onRead}
+use Rattle.model.specs.Step.{depthAfter, onServed, finish, onDecoded, lastOpened, step}
 use Rattle.model.proofs.Decode.{decode-nothing}
 
 module _ (m : Memory) where
@@ -150,6 +159,85 @@ low-first false address v = refl
 
 pub high-first : (v : ℕ) (r : Registers) → getD (pushOf false v r) 0 (store 0 0) ≡ store (r .s) (v / 256)
 high-first v r = refl
+
+-- ---- the open calls stay within their limit
+
+-- a change opens a call only where fewer than 64 are open
+abbrev pub Opens : CallChange → ℕ → Type 0
+Opens Keep depth = Unit {0}
+Opens (Open address kind) depth = depth < callLimit
+Opens Close depth = Unit {0}
+
+abbrev pub PlanOpens : Plan → ℕ → Type 0
+PlanOpens (stops stop) depth = Unit {0}
+PlanOpens (changes d) depth = Opens (d .calls) depth
+
+pub opens-below : (c : Core) (i : Instruction) (m : Memory) (opened : ℕ) (flow : Flow)
+    → PlanOpens (planBy c i m opened flow) (c .depth)
+unfolding planBy operates calls returnsTo
+opens-below c i m opened = by
+  where
+    decimal : Bool
+    decimal = isDecimal (access c i) (c .registers)
+
+    asked : Outcome Data
+    asked =
+        come m (dataOf (access c i) (i .entry .mode) (i .entry .accumulator) (c .registers) (short c i) (i .operand))
+
+    works-so : (b : Bool) (o : Outcome Data) (goes : Bool → ℕ)
+        → PlanOpens (pick b (stops Decimal) (onRead o (works c i goes))) (c .depth)
+    works-so true o goes = tt
+    works-so false unmapped goes = tt
+    works-so false (done d) goes = tt
+
+    calls-so : (kind : Kind) (b : Bool) → ltb (c .depth) callLimit ≡ b → (d : Change)
+        → d .calls ≡ Open (next c i) (kindNumber kind) → PlanOpens (pick b (changes d) (stops Deep)) (c .depth)
+    calls-so kind true e d same = rw same (ltb-true (c .depth) callLimit e)
+    calls-so kind false e d same = tt
+
+    returns-so : (b : Bool) (after : Registers) (address : ℕ)
+        → PlanOpens (pick b (changes (change after address Close [])) (stops Astray)) (c .depth)
+    returns-so true after address = tt
+    returns-so false after address = tt
+
+    pulls-so : (kind : Kind) (o : Outcome ℕ) → PlanOpens (onRead o (returnsTo c i opened kind)) (c .depth)
+    pulls-so kind unmapped = tt
+    pulls-so kind (done address) =
+        returns-so (isReturn c i opened kind address) (withS (pulledAt (c .registers) (returnBytes kind)) (c .registers)) address
+
+    by : (flow : Flow) → PlanOpens (planBy c i m opened flow) (c .depth)
+    by Next = works-so decimal asked (λ taken. next c i)
+    by Branch = works-so decimal asked (λ taken. pick taken (target c i) (next c i))
+    by Jump = tt
+    by (Call kind) =
+        calls-so kind (ltb (c .depth) callLimit) refl
+        (change (withS (pushedAt (c .registers) (returnBytes kind)) (c .registers)) (target c i)
+        (Open (next c i) (kindNumber kind)) (pushesReturn c i kind)) refl
+    by (Return kind) = pulls-so kind (come m (pullsReturn c i kind))
+    by Halt = tt
+
+depth-after : (change : CallChange) (depth : ℕ) → Opens change depth → depth ≤ callLimit → depthAfter change depth ≤ callLimit
+depth-after Keep depth o h = h
+depth-after (Open address kind) depth o h = omega arith
+depth-after Close depth o h = omega arith
+
+pub depth-kept : (m : Memory) (s : State) → s .core .depth ≤ callLimit → step m s .state .core .depth ≤ callLimit
+unfolding step
+depth-kept m s h = by (fetched m (s .core))
+  where
+    serves-so : (i : Instruction) (d : Change) (v : Served) → Opens (d .calls) (s .core .depth)
+        → onServed v i d m s .state .core .depth ≤ callLimit
+    serves-so i d All o = depth-after (d .calls) (s .core .depth) o h
+    serves-so i d (Refused stop) o = h
+
+    plans-so : (i : Instruction) (p : Plan) → PlanOpens p (s .core .depth) → finish p i m s .state .core .depth ≤ callLimit
+    plans-so i (stops stop) o = h
+    plans-so i (changes d) o = serves-so i d (served m (d .stores)) o
+
+    by : (d : Decoded) → onDecoded d m s .state .core .depth ≤ callLimit
+    by CutOff = h
+    by NotCarried = h
+    by (Whole i) = plans-so i (plan m s i) (opens-below (s .core) i m (lastOpened s) (i .entry .flow))
 
 -- a stop leaves state and RAM as given
 pub stop-leaves : (m : Memory) (s : State) (stop : Stop) → (stopped stop m s .state ≡ s) × (stopped stop m s .ram ≡ m .ram)
