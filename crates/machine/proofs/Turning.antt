@@ -17,6 +17,7 @@ use Rattle.memory.specs.Listed.{listed}
 use Rattle.model.specs.Memory.{memory, served, stored}
 use Rattle.model.specs.Step as spec
 use Rattle.model.specs.Step.{Stepped, stops, changes, planBy, fetched, step}
+use Rattle.model.proofs.Step.{Opens, PlanOpens, opens-below}
 use Rattle.machine.specs.declared.plan.Change.{Change}
 use Rattle.machine.specs.declared.plan.Plan.{Plan}
 use Rattle.machine.specs.declared.plan.Plan.the-variants.{Stops, Changes}
@@ -36,6 +37,13 @@ module _ (image : List ℕ) (base : ℕ) (c : Core) (calls ram : List ℕ) where
     by-plan : spec.onDecoded (Whole i) (memory ram image base) (state c calls)
         ≡ spec.finish (planned p) i (memory ram image base) (state c calls)
     by-plan = rw (← is-opened, ← is-plan) refl
+
+    -- a call is opened only below the limit
+    pub opens : (d : Change) → p ≡ Changes d → Opens (d .calls) (c .depth)
+    opens d e =
+        let kept : PlanOpens (planned p) (c .depth) =
+            rw is-plan (opens-below c i (memory ram image base) opened (i .entry .flow)) in
+        rw e at kept
 
     pub perform-stops : (stop : Stop) (t : Turn) → p ≡ Stops stop → t ≡ stoppedAt stop c
         → left t calls ram ≡ spec.onDecoded (Whole i) (memory ram image base) (state c calls)

@@ -27,7 +27,8 @@ ghost use Rattle.model.specs.Decode.{operandLimit};
 ghost use Rattle.model.specs.Image.{addressLimit, imageLimit};
 ghost use Rattle.model.specs.Memory.{memory};
 ghost use Rattle.model.specs.Step as spec;
-ghost use Rattle.machine.specs.Planned.{changed, planned};
+ghost use Rattle.model.proofs.Step.{Opens};
+ghost use Rattle.machine.specs.Planned.{changed};
 ghost use Rattle.machine.specs.Turns.{state, left, stoppedAt};
 ghost use Rattle.model.specs.declared.code.Decoded.the-variants.{Whole};
 ghost use Rattle.model.specs.Step.{changes};
@@ -96,14 +97,13 @@ fn core_after(i: Instruction, core: Core, change: Change) -> Core
 
 // The open calls after a change: one is entered where it is opened.
 fn change_calls(calls: &mut [u64; CALL_LIMIT], change: CallChange, depth: usize)
+    requires { ⌜ Opens change depth ⌝ }
     ensures { λ _. ⌜ now (calls .exit) ≡ spec.callsAfter change depth (now (calls .entry)) ⌝ }
 {
     match change {
         CallChange::Keep => {}
         CallChange::Open { address, kind } => {
-            if depth < CALL_LIMIT {
-                calls[depth] = address as u64 + 4_294_967_296 * kind as u64;
-            }
+            calls[depth] = address as u64 + 4_294_967_296 * kind as u64;
         }
         CallChange::Close => {}
     }
@@ -140,7 +140,7 @@ fn finish(
     calls: &mut [u64; CALL_LIMIT],
     ram: &mut [u8],
 ) -> Turn
-    requires { ⌜ core .depth ≤ spec.callLimit ⌝ }
+    requires { ⌜ (core .depth ≤ spec.callLimit) × Opens (change .calls) (core .depth) ⌝ }
     ensures { λ r. ⌜
         left r (now (calls .exit)) (now (ram .exit))
         ≡ spec.finish (changes (changed change)) i (memory (now (ram .entry)) (now (image .entry)) base) (state core (now (calls .entry)))

@@ -1,4 +1,4 @@
-use Rattle.machine.proofs.Turning.{perform-stops, perform-changes}
+use Rattle.machine.proofs.Turning.{perform-stops, perform-changes, opens}
 use borrow.Author.Needs.{needs}
 use Rattle.machine.proofs.step.perform.Statement.{statement}
 use Rattle.machine.proofs.step.perform.Tie as tie
@@ -31,7 +31,7 @@ enum-known-plan-2 c = search needs
 
 -- src/step.rt:180:34
 finish-requires : tie.Need-finish-requires
-finish-requires c κs = search needs
+finish-requires c κs = (c .before .before .before .before .before .before .before .before .before .before .before .pre .0, opens (c .before .before .before .before .before .before .before .before .before .before .before .args .image .now) (c .before .before .before .before .before .before .before .before .before .before .before .args .base) (c .before .before .before .before .before .before .before .before .before .before .before .args .core) (c .before .before .before .before .before .before .before .before .before .before .before .args .calls .now) (c .before .before .before .before .before .before .before .before .before .before .before .args .ram .now) (c .before .before .before .before .before .before .before .before .before .before .before .args .i) (c .before .before .before .before .before .before .before .last-opened .result) (c .before .before .before .before .before .before .before .last-opened .ensures) (c .before .before .before .before .before .plan-by .result) (c .before .before .before .before .before .plan-by .ensures) _ (c .before .before .before .plan2 .given .1))
 
 -- src/step.rt:162:1
 same-length : tie.Need-same-length

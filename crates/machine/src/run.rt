@@ -1,0 +1,82 @@
+// Steps one after another, until the asked number is done or one stops.
+use crate::step::step_in;
+use model::machine::Answer;
+use model::machine::CALL_LIMIT;
+use model::machine::Core;
+use model::runs::End;
+ghost use mathlib.Core.Path.{_≡_};
+ghost use Prim.Native.Nat.{_+_, _≤_};
+ghost use lib.ListN.{length};
+ghost use Rattle.codepages.specs.Packing.{numbers};
+ghost use Rattle.model.specs.Image.{addressLimit, imageLimit};
+ghost use Rattle.model.specs.Memory.{memory};
+ghost use Rattle.model.specs.Run.{stepLimit, isCall};
+ghost use Rattle.model.specs.Status.{bit};
+ghost use Rattle.model.proofs.Run.{played};
+ghost use Rattle.model.specs.Step.{callLimit};
+ghost use Rattle.machine.specs.Turns.{state, leftBy};
+
+// How a run ended, the steps completed, the calls among them, and the registers after it.
+pub struct Course {
+    pub end: End,
+    pub steps: u32,
+    pub calls: u32,
+    pub core: Core,
+}
+
+// One more, where a step was a call.
+fn with_call(made: u32, answer: Answer) -> u32
+    requires { ⌜ made ≤ 4_000_000_000 ⌝ }
+    ensures { λ r. ⌜ r ≡ made + bit (isCall answer) ⌝ }
+{
+    match answer {
+        Answer::Completed => made,
+        Answer::Called => made + 1,
+        Answer::Stopped(_) => made,
+    }
+}
+
+// The steps of a core with its open calls.
+pub fn run_in(
+    codes: &[[[u32; 16]; 16]; 3],
+    image: &[u8],
+    base: u32,
+    given: Core,
+    calls: &mut [u64; CALL_LIMIT],
+    ram: &mut [u8],
+    asked: u32,
+) -> Course
+    requires { ⌜
+        (now codes ≡ numbers) × (base + length (now image) ≤ addressLimit) × (length (now image) ≤ imageLimit)
+        × (given .depth ≤ callLimit) × (asked ≤ stepLimit)
+        ⌝ }
+    ensures { λ r. ⌜
+        leftBy r (now (calls .exit)) (now (ram .exit))
+        ≡ played (memory (now (ram .entry)) (now (image .entry)) base) (state given (now (calls .entry))) asked
+        ⌝ }
+{
+    let mut core = given;
+    let mut steps: u32 = 0;
+    let mut made: u32 = 0;
+    while steps < asked {
+        let turn = step_in(codes, image, base, core, calls, ram);
+        let answer = turn.answer;
+        core = turn.core;
+        if let Answer::Stopped(stop) = answer {
+            return Course {
+                end: End::AtStop(stop),
+                steps,
+                calls: made,
+                core,
+            };
+        }
+        made = with_call(made, answer);
+        steps += 1;
+    }
+    Course {
+        end: End::Done,
+        steps,
+        calls: made,
+        core,
+    }
+}
