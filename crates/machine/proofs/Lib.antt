@@ -2,3 +2,4 @@
 pub mod Fetching
 pub mod Plans
 pub mod Turning
+pub mod Courses

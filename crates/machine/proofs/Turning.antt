@@ -42,7 +42,7 @@ module _ (image : List ℕ) (base : ℕ) (c : Core) (calls ram : List ℕ) where
     pub opens : (d : Change) → p ≡ Changes d → Opens (d .calls) (c .depth)
     opens d e =
         let kept : PlanOpens (planned p) (c .depth) =
-            rw is-plan (opens-below c i (memory ram image base) opened (i .entry .flow)) in
+        rw is-plan (opens-below c i (memory ram image base) opened (i .entry .flow)) in
         rw e at kept
 
     pub perform-stops : (stop : Stop) (t : Turn) → p ≡ Stops stop → t ≡ stoppedAt stop c

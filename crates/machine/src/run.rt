@@ -10,7 +10,8 @@ ghost use lib.ListN.{length};
 ghost use Rattle.codepages.specs.Packing.{numbers};
 ghost use Rattle.model.specs.Image.{addressLimit, imageLimit};
 ghost use Rattle.model.specs.Memory.{memory};
-ghost use Rattle.model.specs.Run.{stepLimit, isCall};
+ghost use Rattle.model.specs.declared.runs.End.the-variants.{Done};
+ghost use Rattle.model.specs.Run.{stepLimit, isCompleted, isCall, endAfter};
 ghost use Rattle.model.specs.Status.{bit};
 ghost use Rattle.model.proofs.Run.{played};
 ghost use Rattle.model.specs.Step.{callLimit};
@@ -22,6 +23,28 @@ pub struct Course {
     pub steps: u32,
     pub calls: u32,
     pub core: Core,
+}
+
+// Whether a step met no stop.
+fn is_completed(answer: Answer) -> bool
+    ensures { λ r. ⌜ r ≡ isCompleted answer ⌝ }
+{
+    match answer {
+        Answer::Completed => true,
+        Answer::Called => true,
+        Answer::Stopped(_) => false,
+    }
+}
+
+// The end of a run whose last step ended so.
+fn end_at(answer: Answer) -> End
+    ensures { λ r. ⌜ r ≡ endAfter answer Done ⌝ }
+{
+    match answer {
+        Answer::Completed => End::Done,
+        Answer::Called => End::Done,
+        Answer::Stopped(stop) => End::AtStop(stop),
+    }
 }
 
 // One more, where a step was a call.
@@ -62,9 +85,9 @@ pub fn run_in(
         let turn = step_in(codes, image, base, core, calls, ram);
         let answer = turn.answer;
         core = turn.core;
-        if let Answer::Stopped(stop) = answer {
+        if !is_completed(answer) {
             return Course {
-                end: End::AtStop(stop),
+                end: end_at(answer),
                 steps,
                 calls: made,
                 core,

@@ -1,0 +1,142 @@
+-- A run is what is left of it at each step: a step that completes is one less to do, a step that stops ends it and leaves
+-- registers, open calls and RAM as they were.
+-- Assumes nothing.
+use mathlib.Core.Path.{_≡_, refl, sym, ap, _∙_}
+use mathlib.Core.Bool.{Bool, true, false}
+use mathlib.Core.List.{List}
+use Prim.Native.Nat.{ℕ, suc, _+_, _-_, _≤_, _<_}
+use native.Mathlib.Omega.{arith}
+use lib.ListN.{length}
+use Rattle.model.specs.declared.code.Instruction.{Instruction}
+use Rattle.model.specs.declared.code.Decoded.{Decoded}
+use Rattle.model.specs.declared.code.Decoded.the-variants.{Whole, NotCarried, CutOff}
+use Rattle.model.specs.declared.machine.Answer.{Answer}
+use Rattle.model.specs.declared.machine.Answer.the-variants.{Completed, Called, Stopped}
+use Rattle.model.specs.declared.machine.CallChange.{CallChange}
+use Rattle.model.specs.declared.machine.CallChange.the-variants.{Keep, Open, Close}
+use Rattle.model.specs.declared.machine.Core.{Core}
+use Rattle.model.specs.declared.machine.Served.{Served}
+use Rattle.model.specs.declared.machine.Served.the-variants.{All, Refused}
+use Rattle.model.specs.declared.machine.State.{State}
+use Rattle.model.specs.declared.machine.Stop.{Stop}
+use Rattle.model.specs.declared.runs.End.{End}
+use Rattle.model.specs.declared.runs.End.the-variants.{Done, AtStop}
+use Rattle.model.specs.Memory.{Memory, memory, served}
+use Rattle.model.specs.Status.{bit}
+use Rattle.model.specs.Step.{callLimit, Change, Plan, stops, changes, answerOf, onServed, finish, plan, fetched, onDecoded, step}
+use Rattle.model.specs.Run.{isCompleted, isCall, endAfter, Ran}
+use Rattle.model.proofs.Run.{played, further, ended, run-begins, run-goes-on, run-stops, run-ends}
+use Rattle.model.proofs.Step.{depth-kept}
+use Rattle.machine.specs.declared.step.Turn.{Turn}
+use Rattle.machine.specs.declared.run.Course.{Course}
+use Rattle.machine.specs.Turns.{state, left, leftBy}
+
+no-false : {A : Type 0} → true ≡ false → A
+no-false e = let z : _≡_ {A = ℕ} 0 1 = cc in absurd (omega arith)
+
+-- a stopped step leaves state and RAM
+module _ (m : Memory) (s : State) where
+  changes-complete : (change : CallChange) → isCompleted (answerOf change) ≡ true
+  changes-complete Keep = refl
+  changes-complete (Open address kind) = refl
+  changes-complete Close = refl
+
+  stopped-leaves : isCompleted (step m s .answer) ≡ false → (step m s .state ≡ s) × (step m s .ram ≡ m .ram)
+  unfolding step
+  stopped-leaves = by (fetched m (s .core))
+    where
+      served-so : (i : Instruction) (d : Change) (v : Served) → isCompleted (onServed v i d m s .answer) ≡ false
+          → (onServed v i d m s .state ≡ s) × (onServed v i d m s .ram ≡ m .ram)
+      served-so i d All e = no-false (sym (changes-complete (d .calls)) ∙ e)
+      served-so i d (Refused stop) e = (refl, refl)
+
+      planned-so : (i : Instruction) (p : Plan) → isCompleted (finish p i m s .answer) ≡ false
+          → (finish p i m s .state ≡ s) × (finish p i m s .ram ≡ m .ram)
+      planned-so i (stops stop) e = (refl, refl)
+      planned-so i (changes d) e = served-so i d (served m (d .stores)) e
+
+      by : (d : Decoded) → isCompleted (onDecoded d m s .answer) ≡ false
+          → (onDecoded d m s .state ≡ s) × (onDecoded d m s .ram ≡ m .ram)
+      by CutOff e = (refl, refl)
+      by NotCarried e = (refl, refl)
+      by (Whole i) e = planned-so i (plan m s i) e
+
+  -- the run ends so
+  stop-ends : (n steps made : ℕ) → (a : Answer) → step m s .answer ≡ a → isCompleted a ≡ false
+      → further steps made (played m s (suc n)) ≡ ended (endAfter a Done) steps made s (m .ram)
+  stop-ends n steps made Completed e h = no-false h
+  stop-ends n steps made Called e h = no-false h
+  stop-ends n steps made (Stopped stop) e h = run-stops m s n steps made stop e
+
+module _ (image : List ℕ) (base : ℕ) (calls₀ ram₀ : List ℕ) (given : Core) (asked : ℕ) where
+  abbrev whole : Ran
+  whole = played (memory ram₀ image base) (state given calls₀) asked
+
+  abbrev rest : Core → List ℕ → List ℕ → ℕ → ℕ → Ran
+  rest core calls ram steps made =
+      further steps made (played (memory ram image base) (state core calls) (asked - steps))
+
+  -- where a run stands after so many steps
+  pub record Going (calls ram : List ℕ) (core : Core) (steps made : ℕ) : Type 0 where
+    pub goes : rest core calls ram steps made ≡ whole
+    pub few : core .depth ≤ callLimit
+    pub counted : made ≤ steps
+    pub within : steps ≤ asked
+    pub same : length ram ≡ length ram₀
+
+  pub begins : given .depth ≤ callLimit → Going calls₀ ram₀ given 0 0
+  begins h =
+      let all : asked - 0 ≡ asked = omega arith in
+      record {
+        goes = rw all (run-begins (memory ram₀ image base) (state given calls₀) asked);
+        few = h;
+        counted = omega arith;
+        within = omega arith;
+        same = refl;
+      }
+
+  module _ (calls ram : List ℕ) (core : Core) (steps made : ℕ) (g : Going calls ram core steps made) where
+    abbrev m : Memory
+    m = memory ram image base
+
+    abbrev s : State
+    s = state core calls
+
+    pub ends : asked ≤ steps → leftBy (record { end = Done; steps = steps; calls = made; core = core }) calls ram ≡ whole
+    ends h =
+        let none : asked - steps ≡ 0 = omega arith in
+        let last = rw none at (g .goes) in
+        sym (run-ends m s steps made) ∙ last
+
+    module _ (more : steps < asked) (turn : Turn) (calls′ ram′ : List ℕ) (is-step : left turn calls′ ram′ ≡ step m s) where
+      one-more : asked - steps ≡ suc (asked - (steps + 1))
+      one-more = omega (arith, more)
+
+      pub goes-on : isCompleted (turn .answer) ≡ true → length ram′ ≡ length ram → (made′ : ℕ) → made′ ≡ made + bit (isCall (turn .answer))
+          → Going calls′ ram′ (turn .core) (steps + 1) made′
+      goes-on c long made′ e =
+          let answers : step m s .answer ≡ turn .answer = ap (λ t. t .answer) (sym is-step) in
+          let law = run-goes-on m s (asked - (steps + 1)) steps made (rw answers c) in
+          let first = rw one-more at (g .goes) in
+          let deep = depth-kept m s (g .few) in
+          record {
+            goes = rw e (rw (← is-step) at (sym law ∙ first));
+            few = rw (← is-step) at deep;
+            counted = rw e (by (isCall (turn .answer)));
+            within = omega arith;
+            same = long ∙ g .same;
+          }
+        where
+          by : (b : Bool) → made + bit b ≤ steps + 1
+          by true = omega (arith, g .counted)
+          by false = omega (arith, g .counted)
+
+      pub stops-so : isCompleted (turn .answer) ≡ false → (end : End) → end ≡ endAfter (turn .answer) Done
+          → leftBy (record { end = end; steps = steps; calls = made; core = turn .core }) calls′ ram′ ≡ whole
+      stops-so c end e =
+          let answers : step m s .answer ≡ turn .answer = ap (λ t. t .answer) (sym is-step) in
+          let kept = stopped-leaves m s (rw answers c) in
+          let same-state : state (turn .core) calls′ ≡ s = ap (λ t. t .state) is-step ∙ kept .0 in
+          let same-ram : ram′ ≡ ram = ap (λ t. t .ram) is-step ∙ kept .1 in
+          let first = rw one-more at (g .goes) in
+          rw (e, same-state, same-ram) (sym (stop-ends m s (asked - (steps + 1)) steps made (turn .answer) answers c) ∙ first)
