@@ -16,5 +16,6 @@ pub mod RoundTrips
 pub mod Memory
 pub mod Status
 pub mod Step
+pub mod StateBytes
 pub mod Run
 pub mod Guarantee

@@ -1,100 +1,146 @@
--- A status and its number are each other's inverse: numbers below 2,048 by one computed test over all of them, statuses by one over
--- all flags and levels.
+-- A status and its number are each other's inverse. A number is its eight low bits, each what a division by 2 leaves,
+-- and what is left above them; flags are the bits of a number made of them: a division by 2 takes the lowest away.
 -- Assumes nothing.
-use mathlib.Core.Path.{_≡_, refl}
-use mathlib.Core.Bool.{Bool, true, false, _&&_}
-use mathlib.Core.List.{List, [], _∷_}
-use Prim.Native.Nat.{ℕ, zero, suc, _<_}
+use mathlib.Core.Path.{_≡_, refl, _∙_}
+use mathlib.Core.Bool.{Bool, true, false}
+use mathlib.Core.List.{List, [], _∷_, _++_}
+use Prim.Native.Nat.{ℕ, zero, suc, _+_, _*_, _/_, _%_, _^_, _≤_, _<_}
+use native.Mathlib.Nat.{div-add-mod, div-div-eq-div-mul, div-one, mod-lt, mul-comm, pow-suc, pow-zero}
 use native.Mathlib.Omega.{arith}
-use lib.ListN.{length, getD}
-use lib.Dec.{T, eqb, eqb→eq}
+use borrow.Author.Tests.{eq-eqb, ne-eqb}
+use lib.Dec.{eqb}
+use lib.ListN.{length}
 use Rattle.model.specs.declared.machine.Status.{Status}
-use Rattle.model.specs.Status.{statusOf, numberOf, statusLimit}
-use Rattle.model.proofs.Table.{upTo, below-all, and-left, and-right}
+use Rattle.model.specs.Status.{bit, statusOf, numberOf, levelUnit}
 
-pub status-number : (n : ℕ) → n < statusLimit → numberOf (statusOf n) ≡ n
-status-number n h = eqb→eq (numberOf (statusOf n)) n (below-all (λ k. eqb (numberOf (statusOf k)) k) statusLimit tt n h)
-
--- a test of all lists of so many flags
-abbrev flags : ℕ → (List Bool → Bool) → Bool
-flags zero test = test []
-flags (suc k) test = flags k (λ l. test (true ∷ l)) && flags k (λ l. test (false ∷ l))
-
-all-flags : (k : ℕ) (test : List Bool → Bool) → T (flags k test) → (l : List Bool) → length l ≡ k → T (test l)
-all-flags zero test t [] h = t
-all-flags zero test t (b ∷ l) h = absurd (omega arith)
-all-flags (suc k) test t [] h = absurd (omega arith)
-all-flags (suc k) test t (true ∷ l) h =
-    all-flags k (λ bs. test (true ∷ bs)) (and-left (flags k (λ bs. test (true ∷ bs))) (flags k (λ bs. test (false ∷ bs))) t) l
-    (omega arith)
-all-flags (suc k) test t (false ∷ l) h =
-    all-flags k (λ bs. test (false ∷ bs)) (and-right (flags k (λ bs. test (true ∷ bs))) (flags k (λ bs. test (false ∷ bs))) t) l
-    (omega arith)
-
-abbrev same : Bool → Bool → Bool
-same true b = b
-same false true = false
-same false false = true
-
-same-flag : (a b : Bool) → T (same a b) → a ≡ b
-same-flag true true t = refl
-same-flag true false t = absurd t
-same-flag false true t = absurd t
-same-flag false false t = refl
-
-abbrev status : List Bool → ℕ → Status
-status l level = record {
-  carry = getD l 0 false;
-  zero = getD l 1 false;
-  disable = getD l 2 false;
-  decimal = getD l 3 false;
-  x = getD l 4 false;
-  m = getD l 5 false;
-  overflow = getD l 6 false;
-  negative = getD l 7 false;
-  level = level;
-}
-
--- all tests of a list, and each of them
-abbrev allOf : List Bool → Bool
-allOf [] = true
-allOf (b ∷ l) = b && allOf l
-
-nth : (l : List Bool) (k : ℕ) → T (allOf l) → T (getD l k true)
-nth [] k t = tt
-nth (b ∷ l) zero t = and-left b (allOf l) t
-nth (b ∷ l) (suc k) t = nth l k (and-right b (allOf l) t)
-
-abbrev alike : Status → Status → List Bool
-alike t s =
-    same (t .carry) (s .carry) ∷ same (t .zero) (s .zero) ∷ same (t .disable) (s .disable)
-    ∷ same (t .decimal) (s .decimal) ∷ same (t .x) (s .x) ∷ same (t .m) (s .m)
-    ∷ same (t .overflow) (s .overflow) ∷ same (t .negative) (s .negative) ∷ eqb (t .level) (s .level) ∷ []
-
-abbrev returns : Status → Bool
-returns s = allOf (alike (statusOf (numberOf s)) s)
-
-all-return : (s : Status) → s .level < 8 → T (returns s)
-all-return s h =
-    below-all (λ l. returns (status flags-of l)) 8
-    (all-flags 8 (λ bs. upTo (λ l. returns (status bs l)) 8) tt flags-of refl) (s .level) h
+remainder-bit : (k : ℕ) → bit (eqb (k % 2) 1) ≡ k % 2
+remainder-bit k = small (k % 2) (mod-lt k (omega arith))
   where
-    flags-of : List Bool
-    flags-of =
-        s .carry ∷ s .zero ∷ s .disable ∷ s .decimal ∷ s .x ∷ s .m ∷ s .overflow ∷ s .negative ∷ []
+    small : (r : ℕ) → r < 2 → bit (eqb r 1) ≡ r
+    small zero h = refl
+    small (suc zero) h = refl
+    small (suc (suc r)) h = absurd (omega arith)
 
-same-status : (t s : Status) → T (allOf (alike t s)) → t ≡ s
-same-status t s h = λ j. record {
-  carry = same-flag (t .carry) (s .carry) (nth (alike t s) 0 h) j;
-  zero = same-flag (t .zero) (s .zero) (nth (alike t s) 1 h) j;
-  disable = same-flag (t .disable) (s .disable) (nth (alike t s) 2 h) j;
-  decimal = same-flag (t .decimal) (s .decimal) (nth (alike t s) 3 h) j;
-  x = same-flag (t .x) (s .x) (nth (alike t s) 4 h) j;
-  m = same-flag (t .m) (s .m) (nth (alike t s) 5 h) j;
-  overflow = same-flag (t .overflow) (s .overflow) (nth (alike t s) 6 h) j;
-  negative = same-flag (t .negative) (s .negative) (nth (alike t s) 7 h) j;
-  level = eqb→eq (t .level) (s .level) (nth (alike t s) 8 h) j;
+halved : (n mask : ℕ) → n / mask ≡ n / mask % 2 + 2 * (n / (mask * 2))
+halved n mask = omega (arith, div-add-mod (n / mask) 2, div-div-eq-div-mul n mask 2)
+
+-- what each division leaves, and what is left at the end
+sum-up : (q r₀ q₁ r₁ q₂ r₂ q₃ r₃ q₄ r₄ q₅ r₅ q₆ r₆ q₇ r₇ q₈ : ℕ) → q ≡ r₀ + 2 * q₁ → q₁ ≡ r₁ + 2 * q₂ → q₂ ≡ r₂ + 2 * q₃
+    → q₃ ≡ r₃ + 2 * q₄ → q₄ ≡ r₄ + 2 * q₅ → q₅ ≡ r₅ + 2 * q₆ → q₆ ≡ r₆ + 2 * q₇ → q₇ ≡ r₇ + 2 * q₈
+    → 1 * r₀ + 2 * r₁ + 4 * r₂ + 8 * r₃ + 16 * r₄ + 32 * r₅ + 64 * r₆ + 128 * r₇ + 256 * q₈ ≡ q
+sum-up q r₀ q₁ r₁ q₂ r₂ q₃ r₃ q₄ r₄ q₅ r₅ q₆ r₆ q₇ r₇ q₈ h₀ h₁ h₂ h₃ h₄ h₅ h₆ h₇ = omega arith
+
+pub status-number : (n : ℕ) → numberOf (statusOf n) ≡ n
+status-number n =
+    rw (
+      remainder-bit (n / 1),
+      remainder-bit (n / 2),
+      remainder-bit (n / 4),
+      remainder-bit (n / 8),
+      remainder-bit (n / 16),
+      remainder-bit (n / 32),
+      remainder-bit (n / 64),
+      remainder-bit (n / 128),
+    )
+    (sum-up (n / 1) _ _ _ _ _ _ _ _ _ _ _ _ _ _ _ _ (halved n 1) (halved n 2) (halved n 4) (halved n 8) (halved n 16)
+    (halved n 32) (halved n 64) (halved n 128) ∙ div-one n)
+
+-- flags as bits, the lowest first, and a number above them
+abbrev stacked : List Bool → ℕ → ℕ
+stacked [] level = level
+stacked (f ∷ fs) level = bit f + 2 * stacked fs level
+
+without-lowest : (f : Bool) (q : ℕ) → (bit f + 2 * q) / 2 ≡ q
+without-lowest true q = omega arith
+without-lowest false q = omega arith
+
+lowest : (f : Bool) (q : ℕ) → eqb ((bit f + 2 * q) % 2) 1 ≡ f
+lowest true q = eq-eqb ((1 + 2 * q) % 2) 1 (omega arith)
+lowest false q = ne-eqb ((0 + 2 * q) % 2) 1 (λ e. omega arith)
+
+from : (before after : List Bool) (level : ℕ)
+    → stacked (before ++ after) level / 2 ^ length before ≡ stacked after level
+from [] after level = rw pow-zero (div-one (stacked after level))
+from (f ∷ before) after level =
+    rw (
+      pow-suc 2 (length before),
+      mul-comm (2 ^ length before) 2,
+      ← div-div-eq-div-mul (bit f + 2 * stacked (before ++ after) level) 2 (2 ^ length before),
+      without-lowest f (stacked (before ++ after) level),
+    )
+    (from before after level)
+
+flag-at : (before : List Bool) (f : Bool) (after : List Bool) (level n : ℕ) → n ≡ stacked (before ++ f ∷ after) level
+    → eqb (n / 2 ^ length before % 2) 1 ≡ f
+flag-at before f after level n e = rw (e, from before (f ∷ after) level) (lowest f (stacked after level))
+
+pub number-status : (s : Status) → statusOf (numberOf s) ≡ s
+number-status s = λ j. record {
+  carry = at [] c (z ∷ i ∷ d ∷ x ∷ m ∷ v ∷ n ∷ []) whole j;
+  zero = at (c ∷ []) z (i ∷ d ∷ x ∷ m ∷ v ∷ n ∷ []) whole j;
+  disable = at (c ∷ z ∷ []) i (d ∷ x ∷ m ∷ v ∷ n ∷ []) whole j;
+  decimal = at (c ∷ z ∷ i ∷ []) d (x ∷ m ∷ v ∷ n ∷ []) whole j;
+  x = at (c ∷ z ∷ i ∷ d ∷ []) x (m ∷ v ∷ n ∷ []) whole j;
+  m = at (c ∷ z ∷ i ∷ d ∷ x ∷ []) m (v ∷ n ∷ []) whole j;
+  overflow = at (c ∷ z ∷ i ∷ d ∷ x ∷ m ∷ []) v (n ∷ []) whole j;
+  negative = at (c ∷ z ∷ i ∷ d ∷ x ∷ m ∷ v ∷ []) n [] whole j;
+  level = above j;
 }
+  where
+    c : Bool
+    c = s .carry
 
-pub number-status : (s : Status) → s .level < 8 → statusOf (numberOf s) ≡ s
-number-status s h = same-status (statusOf (numberOf s)) s (all-return s h)
+    z : Bool
+    z = s .zero
+
+    i : Bool
+    i = s .disable
+
+    d : Bool
+    d = s .decimal
+
+    x : Bool
+    x = s .x
+
+    m : Bool
+    m = s .m
+
+    v : Bool
+    v = s .overflow
+
+    n : Bool
+    n = s .negative
+
+    added : (b₀ b₁ b₂ b₃ b₄ b₅ b₆ b₇ l : ℕ)
+        → 1 * b₀ + 2 * b₁ + 4 * b₂ + 8 * b₃ + 16 * b₄ + 32 * b₅ + 64 * b₆ + 128 * b₇ + 256 * l
+        ≡ b₀ + 2 * (b₁ + 2 * (b₂ + 2 * (b₃ + 2 * (b₄ + 2 * (b₅ + 2 * (b₆ + 2 * (b₇ + 2 * l)))))))
+    added b₀ b₁ b₂ b₃ b₄ b₅ b₆ b₇ l = omega arith
+
+    whole : numberOf s ≡ stacked (c ∷ z ∷ i ∷ d ∷ x ∷ m ∷ v ∷ n ∷ []) (s .level)
+    whole = added (bit c) (bit z) (bit i) (bit d) (bit x) (bit m) (bit v) (bit n) (s .level)
+
+    at : (before : List Bool) (f : Bool) (after : List Bool) → numberOf s ≡ stacked (before ++ f ∷ after) (s .level)
+        → eqb (numberOf s / 2 ^ length before % 2) 1 ≡ f
+    at before f after = flag-at before f after (s .level) (numberOf s)
+
+    above : numberOf s / levelUnit ≡ s .level
+    above = rw whole (from (c ∷ z ∷ i ∷ d ∷ x ∷ m ∷ v ∷ n ∷ []) [] (s .level))
+
+bit-most : (f : Bool) → bit f ≤ 1
+bit-most true = omega arith
+bit-most false = omega arith
+
+-- a status has 16 bits
+pub status-bound : (s : Status) → s .level < 256 → numberOf s < 65_536
+status-bound s small =
+    omega (
+      arith,
+      bit-most (s .carry),
+      bit-most (s .zero),
+      bit-most (s .disable),
+      bit-most (s .decimal),
+      bit-most (s .x),
+      bit-most (s .m),
+      bit-most (s .overflow),
+      bit-most (s .negative),
+    )

@@ -17,5 +17,6 @@ pub mod Addressing
 pub mod Arithmetic
 pub mod Effects
 pub mod Step
+pub mod StateBytes
 pub mod Run
 pub mod Guarantee

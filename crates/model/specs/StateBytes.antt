@@ -1,0 +1,96 @@
+-- The state as bytes: INTERFACE, 'The state: A, B, X, Y, S, PC, DPR, PS (two bytes each, low first), PG, DT (a byte
+-- each), the number of open calls (two bytes, low first), then the entries, the first opened first: return address
+-- (four bytes, low first), kind (one byte), three bytes reserved'. An entry is one number (Step, `entryOf`).
+-- Assumes nothing.
+use Prim.Native.Nat.{ℕ, zero, suc, _+_, _*_, _/_, _%_, _^_, _<_}
+use mathlib.Core.Path.{_≡_}
+use mathlib.Core.List.{List, [], _∷_, _++_}
+use lib.ListN.{length, getD, take, drop}
+use Rattle.model.specs.declared.machine.Registers.{Registers}
+use Rattle.model.specs.declared.machine.Core.{Core}
+use Rattle.model.specs.declared.machine.State.{State}
+use Rattle.model.specs.Decode.{number}
+use Rattle.model.specs.Status.{statusOf, numberOf}
+use Rattle.model.specs.Step.{callLimit}
+
+-- the bytes before the entries, those of an entry, and all of them
+abbrev pub headSize : ℕ
+headSize = 20
+
+abbrev pub entrySize : ℕ
+entrySize = 8
+
+abbrev pub stateSize : ℕ
+stateSize = headSize + entrySize * callLimit
+
+-- 'low first': so many bytes of a number
+unfoldable pub lowBytes : ℕ → ℕ → List ℕ
+lowBytes zero value = []
+lowBytes (suc size) value = value % 256 ∷ lowBytes size (value / 256)
+
+-- fields of one size, one behind the other
+unfoldable pub joined : ℕ → List ℕ → List ℕ
+joined size [] = []
+joined size (value ∷ values) = lowBytes size value ++ joined size values
+
+-- so many fields of one size that bytes begin with
+unfoldable pub parted : ℕ → ℕ → List ℕ → List ℕ
+parted size zero bytes = []
+parted size (suc n) bytes = number (take size bytes) ∷ parted size n (drop size bytes)
+
+-- the field of a size at a place
+abbrev pub fieldAt : ℕ → ℕ → List ℕ → ℕ
+fieldAt at size bytes = number (take size (drop at bytes))
+
+-- all but the entries, each field at its place
+unfoldable pub coreOf : List ℕ → Core
+coreOf bytes = record {
+  registers =
+      record {
+        a = fieldAt 0 2 bytes;
+        b = fieldAt 2 2 bytes;
+        x = fieldAt 4 2 bytes;
+        y = fieldAt 6 2 bytes;
+        s = fieldAt 8 2 bytes;
+        dpr = fieldAt 12 2 bytes;
+        dt = fieldAt 17 1 bytes;
+        status = statusOf (fieldAt 14 2 bytes);
+      };
+  pc = fieldAt 10 2 bytes;
+  pg = fieldAt 16 1 bytes;
+  depth = fieldAt 18 2 bytes;
+}
+
+-- the state of bytes
+unfoldable pub stateOf : List ℕ → State
+stateOf bytes = record { core = coreOf bytes; calls = parted entrySize callLimit (drop headSize bytes) }
+
+-- the bytes of all but the entries
+unfoldable pub headOf : Core → List ℕ
+headOf c =
+    joined 2 (r .a ∷ r .b ∷ r .x ∷ r .y ∷ r .s ∷ c .pc ∷ r .dpr ∷ numberOf (r .status) ∷ [])
+    ++ joined 1 (c .pg ∷ r .dt ∷ [])
+    ++ joined 2 (c .depth ∷ [])
+  where
+    r : Registers
+    r = c .registers
+
+-- the bytes of a state
+unfoldable pub bytesOf : State → List ℕ
+bytesOf s = headOf (s .core) ++ joined entrySize (s .calls)
+
+-- A state that its bytes keep whole: each field is below the bound of its bytes, and there are as many entries as fit.
+pub record Keeps (state : State) : Type 0 where
+  pub a : state .core .registers .a < 65_536
+  pub b : state .core .registers .b < 65_536
+  pub x : state .core .registers .x < 65_536
+  pub y : state .core .registers .y < 65_536
+  pub s : state .core .registers .s < 65_536
+  pub dpr : state .core .registers .dpr < 65_536
+  pub dt : state .core .registers .dt < 256
+  pub level : state .core .registers .status .level < 256
+  pub pc : state .core .pc < 65_536
+  pub pg : state .core .pg < 256
+  pub depth : state .core .depth < 65_536
+  pub calls : length (state .calls) ≡ callLimit
+  pub entries : (k : ℕ) → getD (state .calls) k 0 < 256 ^ entrySize
