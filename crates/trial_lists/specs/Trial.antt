@@ -30,16 +30,18 @@ space = 100_000
 unfoldable pub filled : ℕ → List ℕ
 filled byte = replicate space byte
 
--- 'The answer is the packed result of the C function', and the marks after the call are those of the record
+-- a call gives the answer, and leaves a buffer that begins with these bytes and is as before past them
+unfoldable pub callAgrees : ℕ → ℕ → List ℕ → List ℕ → ℕ → Bool
+callAgrees given answer buffer after before = eqb given answer && holds buffer after before
+
+-- 'The answer is the packed result of the C function'
 unfoldable pub readsAs : List ℕ → List ℕ → ℕ → List ℕ → Bool
 readsAs text marks answer after =
-    eqb (packedRead (readList text marks)) answer && holds (marksRead text marks) after 0x5A
+    callAgrees (packedRead (readList text marks)) answer (marksRead text marks) after 0x5A
 
--- the page after the call too
 unfoldable pub writesAs : List ℕ → ℕ → ℕ → List ℕ → ℕ → List ℕ → Bool
 writesAs marks base reset page answer after =
-    eqb (packedWritten (writeList marks base reset page)) answer
-    && holds (pageWritten marks base reset page) after 0xA5
+    callAgrees (packedWritten (writeList marks base reset page)) answer (pageWritten marks base reset page) after 0xA5
 
 -- 'Before a read every mark is 5A'
 unfoldable pub readAgrees : List ℕ → read.Case → Bool

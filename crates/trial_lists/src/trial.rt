@@ -47,18 +47,26 @@ fn filled(byte: u8) -> [u8; SPACE]
     [byte; SPACE]
 }
 
-// The reader gives an answer, and leaves marks that begin so.
+// A call has given this answer, and left a buffer that begins so and is as before past that.
+fn call_agrees(given: u64, answer: u64, buffer: &[u8], after: &[u8], before: u8) -> bool
+    ensures { λ r. ⌜ r ≡ spec.callAgrees given answer (now (buffer .entry)) (now (after .entry)) before ⌝ }
+{
+    if given != answer {
+        return false;
+    }
+    holds(buffer, after, before)
+}
+
+// The reader gives this answer, and leaves these marks.
 fn reads_as(text: &[u8], marks: &mut [u8], answer: u64, after: &[u8]) -> bool
     ensures answer { λ r. ⌜ r ≡ spec.readsAs (now (text .entry)) (now (marks .entry)) answer (now (after .entry)) ⌝ }
     ensures marks { λ _. ⌜ now (marks .exit) ≡ marksRead (now (text .entry)) (now (marks .entry)) ⌝ }
 {
-    if m7700_read_list(text, marks) != answer {
-        return false;
-    }
-    holds(marks, after, UNREAD)
+    let given = m7700_read_list(text, marks);
+    call_agrees(given, answer, marks, after, UNREAD)
 }
 
-// The writer gives an answer, and leaves a page that begins so.
+// The writer gives this answer, and leaves this list on the page.
 fn writes_as(
     marks: &[u8],
     base: u32,
@@ -71,10 +79,8 @@ fn writes_as(
         ≡ spec.writesAs (now (marks .entry)) base reset (now (page .entry)) answer (now (after .entry)) ⌝ }
     ensures page { λ _. ⌜ now (page .exit) ≡ pageWritten (now (marks .entry)) base reset (now (page .entry)) ⌝ }
 {
-    if m7700_write_list(marks, base, reset, page) != answer {
-        return false;
-    }
-    holds(page, after, UNWRITTEN)
+    let given = m7700_write_list(marks, base, reset, page);
+    call_agrees(given, answer, page, after, UNWRITTEN)
 }
 
 // The reader does what a record says.
