@@ -1,22 +1,21 @@
--- A part of a buffer of one byte has that byte everywhere.
+-- The front of a buffer with one value in every byte has that value in every byte.
 -- Assumes nothing.
 use mathlib.Core.Path.{_≡_, refl, sym, ap, _∙_}
-use mathlib.Core.List.{List, [], _∷_}
+use mathlib.Core.List.{List}
 use Prim.Native.Nat.{ℕ, zero, suc, _≤_}
 use native.Mathlib.Omega.{arith}
 use lib.ListN.{length, take, replicate, length-replicate}
-use lib.Seq.{length-take-le}
 use Rattle.trial_lists.specs.Trial.{space, filled}
 
-part-of-one : (m n byte : ℕ) → m ≤ n → take m (replicate n byte) ≡ replicate m byte
-part-of-one zero n byte h = refl
-part-of-one (suc m) zero byte h = absurd (omega arith)
-part-of-one (suc m) (suc n) byte h = rw (part-of-one m n byte (omega arith))
+front-of-one : (m n value : ℕ) → m ≤ n → take m (replicate n value) ≡ replicate m value
+front-of-one zero n value h = refl
+front-of-one (suc m) zero value h = absurd (omega arith)
+front-of-one (suc m) (suc n) value h = rw (front-of-one m n value (omega arith))
 
-module _ (buffer : List ℕ) (size byte : ℕ) (whole : buffer ≡ filled byte) (fits : size ≤ space) where
-  pub lent : take size buffer ≡ replicate size byte
+module _ (buffer : List ℕ) (size value : ℕ) (whole : buffer ≡ filled value) (fits : size ≤ space) where
+  pub lent : take size buffer ≡ replicate size value
   unfolding filled
-  lent = ap (take size) whole ∙ part-of-one size space byte fits
+  lent = ap (take size) whole ∙ front-of-one size space value fits
 
   pub lent-length : size ≡ length (take size buffer)
-  lent-length = sym (ap length lent ∙ length-replicate size byte)
+  lent-length = sym (ap length lent ∙ length-replicate size value)

@@ -23,40 +23,48 @@ use Rattle.trial_lists.specs.declared.trial.Kind.the-variants.{Read, Wri
 use Rattle.trial_lists.specs.declared.trial.Turn.{Turn}
 use Rattle.trial_lists.specs.declared.trial.Turn.the-variants.{Tried, Cut}
 
--- a buffer of the most bytes that are lent; a record that asks for more does not agree
+-- the most bytes that are lent; a record that asks for more does not agree
 abbrev pub space : ℕ
 space = 100_000
 
+-- 'Before a read every mark is 5A, before a write every byte of the page is A5'
+abbrev pub unread : ℕ
+unread = 0x5A
+
+abbrev pub unwritten : ℕ
+unwritten = 0xA5
+
+-- the space with one value in every byte
 unfoldable pub filled : ℕ → List ℕ
-filled byte = replicate space byte
+filled value = replicate space value
 
 -- a call gives the answer, and leaves a buffer that begins with these bytes and is as before past them
 unfoldable pub callAgrees : ℕ → ℕ → List ℕ → List ℕ → ℕ → Bool
 callAgrees given answer buffer after before = eqb given answer && holds buffer after before
 
--- 'The answer is the packed result of the C function'
+-- 'The answer is the packed result of the C function': of the reader, and of the writer
 unfoldable pub readsAs : List ℕ → List ℕ → ℕ → List ℕ → Bool
 readsAs text marks answer after =
-    callAgrees (packedRead (readList text marks)) answer (marksRead text marks) after 0x5A
+    callAgrees (packedRead (readList text marks)) answer (marksRead text marks) after unread
 
 unfoldable pub writesAs : List ℕ → ℕ → ℕ → List ℕ → ℕ → List ℕ → Bool
 writesAs marks base reset page answer after =
-    callAgrees (packedWritten (writeList marks base reset page)) answer (pageWritten marks base reset page) after 0xA5
+    callAgrees (packedWritten (writeList marks base reset page)) answer (pageWritten marks base reset page) after
+    unwritten
 
--- 'Before a read every mark is 5A'
+-- a record's call, on a buffer of the length that it says
 unfoldable pub readAgrees : List ℕ → read.Case → Bool
 readAgrees file case =
     leb (case .size) space
-    && readsAs (partOf file (case .text)) (replicate (case .size) 0x5A) (case .answer) (partOf file (case .after))
+    && readsAs (partOf file (case .text)) (replicate (case .size) unread) (case .answer) (partOf file (case .after))
 
--- 'before a write every byte of the page is A5'
 unfoldable pub writeAgrees : List ℕ → write.Case → Bool
 writeAgrees file case =
     leb (case .size) space
-    && writesAs (partOf file (case .marks)) (case .base) (case .reset) (replicate (case .size) 0xA5) (case .answer)
-    (partOf file (case .after))
+    && writesAs (partOf file (case .marks)) (case .base) (case .reset) (replicate (case .size) unwritten)
+    (case .answer) (partOf file (case .after))
 
--- a record, its number the answer's low byte; the next record begins where the bytes behind the answer end
+-- what a record shows, its number the answer's low byte; the next record begins where the bytes behind the answer end
 abbrev pub readShown : List ℕ → reads.Found → Turn
 readShown file reads.the-variants.Cut = Cut
 readShown file (reads.the-variants.Whole case) =
@@ -67,12 +75,14 @@ writeShown file writes.the-variants.Cut = Cut
 writeShown file (writes.the-variants.Whole case) =
     Tried (writeAgrees file case) (case .answer % 256) (case .after .end)
 
+-- the record at a place
 unfoldable pub readTurn : List ℕ → ℕ → Turn
 readTurn file at = readShown file (readAt file at)
 
 unfoldable pub writeTurn : List ℕ → ℕ → Turn
 writeTurn file at = writeShown file (writeAt file at)
 
+-- the same by the kind of the file
 abbrev pub turnAt : Kind → List ℕ → ℕ → Turn
 turnAt Read file at = readTurn file at
 turnAt Write file at = writeTurn file at

@@ -1,6 +1,6 @@
-// Tries the reader and the writer of mark lists that loaders call on the simulator's vectors, read-00.bin to read-09.bin
-// and write-00.bin to write-05.bin: a line for each file, how many records agree out of how many, and behind the files
-// of a kind a line for each number, how many records had an answer of that number and agreed.
+// Tries the reader and the writer of mark lists that loaders call on the simulator's vectors, read-00.bin to
+// read-09.bin and write-00.bin to write-05.bin: a line for each file, how many records agree out of how many, and behind
+// the files of a kind a line for each number, how many records had an answer of that number and agreed.
 mod trial;
 
 use crate::trial::Kind;

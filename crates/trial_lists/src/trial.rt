@@ -18,12 +18,12 @@ ghost use Rattle.trial_lists.specs.Trial as spec;
 // The most bytes that are lent; a record that asks for more does not agree.
 const SPACE: usize = 100_000;
 
-// The bytes before a call.
+// The value of every mark before a read, and of every byte of the page before a write.
 const UNREAD: u8 = 0x5A;
 
 const UNWRITTEN: u8 = 0xA5;
 
-// The files of the reader, or of the writer.
+// A file of the reader, or of the writer.
 pub enum Kind {
     Read,
     Write,
@@ -40,11 +40,11 @@ enum Turn {
     Cut,
 }
 
-// A buffer of one byte.
-fn filled(byte: u8) -> [u8; SPACE]
-    ensures { λ r. ⌜ r ≡ spec.filled byte ⌝ }
+// The space with one value in every byte.
+fn filled(value: u8) -> [u8; SPACE]
+    ensures { λ r. ⌜ r ≡ spec.filled value ⌝ }
 {
-    [byte; SPACE]
+    [value; SPACE]
 }
 
 // A call has given this answer, and left a buffer that begins so and is as before past that.
@@ -123,7 +123,7 @@ fn write_agrees(file: &[u8], case: writes::Case) -> bool
     )
 }
 
-// The record of the reader at a place. An answer has its number in the low byte.
+// The record at a place of a file of the reader. An answer has its number in the low byte.
 fn read_turn(file: &[u8], at: usize) -> Turn
     ensures { λ r. ⌜ r ≡ spec.readTurn (now (file .entry)) at ⌝ }
 {
@@ -140,7 +140,7 @@ fn read_turn(file: &[u8], at: usize) -> Turn
     }
 }
 
-// The record of the writer at a place.
+// The record at a place of a file of the writer.
 fn write_turn(file: &[u8], at: usize) -> Turn
     ensures { λ r. ⌜ r ≡ spec.writeTurn (now (file .entry)) at ⌝ }
 {

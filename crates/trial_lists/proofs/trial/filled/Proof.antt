@@ -2,7 +2,6 @@
 -- Assumes nothing.
 use mathlib.Core.Path.{refl}
 use Rattle.trial_lists.specs.Trial.{filled}
-use borrow.Author.Needs.{needs}
 use Rattle.trial_lists.proofs.trial.filled.Statement.{statement}
 use Rattle.trial_lists.proofs.trial.filled.Tie as tie
 

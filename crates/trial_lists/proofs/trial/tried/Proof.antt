@@ -9,7 +9,8 @@ use Rattle.trial_lists.proofs.trial.tried.Statement.{statement}
 use Rattle.trial_lists.proofs.trial.tried.Tie as tie
 
 abbrev Inv-loop : tie.InvT-loop
-Inv-loop kind file score₀ at₀ left₀ score at left = LeadsTo kind file (triedFrom left₀ kind file at₀ score₀) left at score
+Inv-loop kind file score₀ at₀ left₀ score at left =
+    LeadsTo kind file (triedFrom left₀ kind file at₀ score₀) left at score
 
 abbrev μ-loop : tie.MeasureT-loop
 μ-loop kind file score₀ at₀ left₀ score at left = left
