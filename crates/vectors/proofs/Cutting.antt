@@ -1,14 +1,37 @@
--- A record that begins too near the end of its file is cut.
+-- A record is cut where the file ends before a part that every record of its kind has.
 -- Assumes nothing.
 use mathlib.Core.Path.{_≡_}
 use mathlib.Core.List.{List}
-use Prim.Native.Nat.{ℕ, _+_, _<_}
+use Prim.Native.Nat.{ℕ, _+_, _/_, _<_}
 use native.Mathlib.Omega.{arith}
 use lib.ListN.{length}
-use Rattle.vectors.specs.declared.checks.Found.the-variants.{Cut}
+use Rattle.vectors.specs.declared.parts.Part.{Part}
+use Rattle.vectors.specs.declared.parts.Bytes.the-variants.{Whole}
+use Rattle.vectors.specs.declared.checks.Found.the-variants as check
+use Rattle.vectors.specs.declared.reads.Found.the-variants as read
+use Rattle.vectors.specs.declared.writes.Found.the-variants as write
+use Rattle.vectors.specs.Parts.{u32At, u64At}
 use Rattle.vectors.specs.Checks.{checkAt, withImage}
-use Rattle.vectors.proofs.Taking.{bytes-cut}
+use Rattle.vectors.specs.Reads as reads
+use Rattle.vectors.specs.Writes as writes
+use Rattle.vectors.proofs.Taking.{bytes-cut, after-cut}
 
-pub cut-before-image : (file : List ℕ) (at : ℕ) → length file < at + 8 → Cut ≡ checkAt file at
-unfolding checkAt withImage
-cut-before-image file at h = rw (← bytes-cut file (at + 8) (omega arith))
+module _ (file : List ℕ) (at : ℕ) where
+  pub cut-before-image : length file < at + 8 → check.Cut ≡ checkAt file at
+  unfolding checkAt withImage
+  cut-before-image h = rw (← bytes-cut file (at + 8) (omega arith))
+
+  pub cut-before-marks : length file < at + 12 → write.Cut ≡ writes.writeAt file at
+  unfolding writes.writeAt writes.withMarks
+  cut-before-marks h = rw (← bytes-cut file (at + 8) (omega arith))
+
+  pub cut-behind-text : (text : Part) → length file < text .end + 12 → read.Cut ≡ reads.withText file (Whole text)
+  unfolding reads.withText reads.withAfter
+  cut-behind-text text h =
+      rw (← after-cut file (text .end + 12) (u64At file (text .end + 4)) (u32At file (text .end)) h)
+
+  pub cut-behind-marks : (marks : Part) → length file < marks .end + 12
+      → write.Cut ≡ writes.withMarks file at (Whole marks)
+  unfolding writes.withMarks writes.withAfter
+  cut-behind-marks marks h =
+      rw (← after-cut file (marks .end + 12) (u64At file (marks .end + 4)) (u64At file (marks .end + 4) / 256) h)

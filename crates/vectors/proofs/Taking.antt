@@ -2,13 +2,16 @@
 -- Assumes nothing.
 use mathlib.Core.Path.{_≡_, refl}
 use mathlib.Core.List.{List, [], _∷_}
-use Prim.Native.Nat.{ℕ, _+_, _*_, _≤_, _<_}
+use Prim.Native.Nat.{ℕ, _+_, _*_, _%_, _≤_, _<_}
 use native.Mathlib.Omega.{arith}
+use lib.Dec.{eqb}
 use borrow.Author.Tests.{le-leb, lt-leb}
 use lib.ListN.{length, getD, take, drop, drop-of-length-le}
+use lib.Seq.{take-nil}
+use Rattle.model.specs.Choice.{pick}
 use Rattle.model.specs.Decode.{number}
 use Rattle.vectors.specs.declared.parts.Bytes.the-variants.{Whole, Cut}
-use Rattle.vectors.specs.Parts.{u32At, bytesAt}
+use Rattle.vectors.specs.Parts.{u32At, runAt, bytesAt, afterAt}
 
 -- four bytes, by halves
 pub four : (bytes : List ℕ)
@@ -19,16 +22,36 @@ four (a ∷ b ∷ []) = omega arith
 four (a ∷ b ∷ c ∷ []) = omega arith
 four (a ∷ b ∷ c ∷ d ∷ rest) = omega arith
 
+-- eight bytes, by halves
+pub eight : (bytes : List ℕ) → u32At bytes 0 + 4_294_967_296 * u32At bytes 4 ≡ number (take 8 bytes)
+unfolding u32At
+eight [] = refl
+eight (a ∷ []) = omega arith
+eight (a ∷ b ∷ []) = omega arith
+eight (a ∷ b ∷ c ∷ []) = omega arith
+eight (a ∷ b ∷ c ∷ d ∷ []) = omega arith
+eight (a ∷ b ∷ c ∷ d ∷ e ∷ []) = omega arith
+eight (a ∷ b ∷ c ∷ d ∷ e ∷ f ∷ []) = omega arith
+eight (a ∷ b ∷ c ∷ d ∷ e ∷ f ∷ g ∷ []) = omega arith
+eight (a ∷ b ∷ c ∷ d ∷ e ∷ f ∷ g ∷ h ∷ rest) = omega arith
+
+pub run-cut : (file : List ℕ) (first size : ℕ) → length file < first + size → Cut ≡ runAt file first size
+unfolding runAt
+run-cut file first size h = rw (lt-leb (first + size) (length file) h)
+
+pub run-whole : (file : List ℕ) (first size : ℕ) → first + size ≤ length file
+    → Whole (record { first = first; end = first + size }) ≡ runAt file first size
+unfolding runAt
+run-whole file first size h = rw (le-leb (first + size) (length file) h)
+
 module _ (file : List ℕ) (at : ℕ) where
-  pub past-the-end : length file < at → 0 ≡ u32At file at
-  unfolding u32At
-  past-the-end h = rw (drop-of-length-le file {i = at} (omega arith))
+  pub past-the-end : (count : ℕ) → length file < at → 0 ≡ number (take count (drop at file))
+  past-the-end count h = rw (drop-of-length-le file {i = at} (omega arith), take-nil count)
 
-  pub bytes-cut : length file < at + 4 + u32At file at → Cut ≡ bytesAt file at
+  pub bytes-cut : length file < at + 4 → Cut ≡ bytesAt file at
   unfolding bytesAt
-  bytes-cut h = rw (lt-leb (at + 4 + u32At file at) (length file) h)
+  bytes-cut h = run-cut file (at + 4) (u32At file at) (omega arith)
 
-  pub bytes-whole : (size : ℕ) → size ≡ u32At file at → at + 4 + size ≤ length file
-      → Whole (record { first = at + 4; end = at + 4 + size }) ≡ bytesAt file at
-  unfolding bytesAt
-  bytes-whole size e h = rw (← e, le-leb (at + 4 + size) (length file) h)
+  pub after-cut : (answer size : ℕ) → length file < at → Cut ≡ afterAt file at answer size
+  unfolding afterAt
+  after-cut answer size h = run-cut file at (pick (eqb (answer % 256) 0) size 0) (omega arith)

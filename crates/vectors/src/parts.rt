@@ -3,7 +3,7 @@ use image::byte_at;
 ghost use mathlib.Core.Path.{_≡_};
 ghost use lib.ListN.{take};
 ghost use Rattle.model.specs.Decode.{number};
-ghost use Rattle.vectors.specs.Parts.{u32At, bytesAt, partOf};
+ghost use Rattle.vectors.specs.Parts.{u32At, u64At, runAt, bytesAt, afterAt, partOf};
 
 // A part of a file, from its first place to its end.
 pub struct Part {
@@ -43,6 +43,39 @@ pub fn u32_at(file: &[u8], at: usize) -> u32
     first_four(&file[at..])
 }
 
+// The first eight bytes as one number, the low byte first; missing bytes count 0.
+fn first_eight(bytes: &[u8]) -> u64
+    ensures { λ r. ⌜ r ≡ number (take 8 (now (bytes .entry))) ⌝ }
+{
+    u32_at(bytes, 0) as u64 + 4_294_967_296 * (u32_at(bytes, 4) as u64)
+}
+
+// The u64 at a place; bytes past the end count 0.
+pub fn u64_at(file: &[u8], at: usize) -> u64
+    ensures { λ r. ⌜ r ≡ u64At (now (file .entry)) at ⌝ }
+{
+    if file.len() < at {
+        return 0;
+    }
+    first_eight(&file[at..])
+}
+
+// So many bytes from a place on.
+fn run_at(file: &[u8], first: usize, size: usize) -> Bytes
+    ensures { λ r. ⌜ r ≡ runAt (now (file .entry)) first size ⌝ }
+{
+    if file.len() < first {
+        return Bytes::Cut;
+    }
+    if file.len() - first < size {
+        return Bytes::Cut;
+    }
+    Bytes::Whole(Part {
+        first,
+        end: first + size,
+    })
+}
+
 // The run of bytes whose length stands at a place.
 pub fn bytes_at(file: &[u8], at: usize) -> Bytes
     ensures { λ r. ⌜ r ≡ bytesAt (now (file .entry)) at ⌝ }
@@ -53,15 +86,18 @@ pub fn bytes_at(file: &[u8], at: usize) -> Bytes
     if file.len() - 4 < at {
         return Bytes::Cut;
     }
-    let first = at + 4;
-    let size = u32_at(file, at) as usize;
-    if file.len() - first < size {
-        return Bytes::Cut;
+    run_at(file, at + 4, u32_at(file, at) as usize)
+}
+
+// The bytes behind an answer, so many: there are some only where the answer's low byte is 0.
+pub(crate) fn after_at(file: &[u8], at: usize, answer: u64, size: usize) -> Bytes
+    ensures { λ r. ⌜ r ≡ afterAt (now (file .entry)) at answer size ⌝ }
+{
+    if answer % 256 == 0 {
+        run_at(file, at, size)
+    } else {
+        run_at(file, at, 0)
     }
-    Bytes::Whole(Part {
-        first,
-        end: first + size,
-    })
 }
 
 // The bytes of a part, or none where the file does not have it whole.

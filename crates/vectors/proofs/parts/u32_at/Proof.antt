@@ -8,7 +8,8 @@ use Rattle.vectors.proofs.parts.u32_at.Statement.{statement}
 use Rattle.vectors.proofs.parts.u32_at.Tie as tie
 
 returns : tie.Need-returns
-returns c = past-the-end (c .before .before .args .file .now) (c .before .before .args .at) (c .if1 .taken)
+unfolding u32At
+returns c = past-the-end (c .before .before .args .file .now) (c .before .before .args .at) 4 (c .if1 .taken)
 
 returns-2 : tie.Need-returns-2
 unfolding u32At
