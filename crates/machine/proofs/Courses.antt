@@ -31,41 +31,12 @@ use Rattle.machine.specs.declared.step.Turn.{Turn}
 use Rattle.machine.specs.declared.run.Course.{Course}
 use Rattle.machine.specs.Turns.{state, left, leftBy}
 
-no-false : {A : Type 0} → true ≡ false → A
-no-false e = let z : _≡_ {A = ℕ} 0 1 = cc in absurd (omega arith)
-
--- a stopped step leaves state and RAM
 module _ (m : Memory) (s : State) where
-  changes-complete : (change : CallChange) → isCompleted (answerOf change) ≡ true
-  changes-complete Keep = refl
-  changes-complete (Open address kind) = refl
-  changes-complete Close = refl
-
-  stopped-leaves : isCompleted (step m s .answer) ≡ false → (step m s .state ≡ s) × (step m s .ram ≡ m .ram)
-  unfolding step
-  stopped-leaves = by (fetched m (s .core))
-    where
-      served-so : (i : Instruction) (d : Change) (v : Served) → isCompleted (onServed v i d m s .answer) ≡ false
-          → (onServed v i d m s .state ≡ s) × (onServed v i d m s .ram ≡ m .ram)
-      served-so i d All e = no-false (sym (changes-complete (d .calls)) ∙ e)
-      served-so i d (Refused stop) e = (refl, refl)
-
-      planned-so : (i : Instruction) (p : Plan) → isCompleted (finish p i m s .answer) ≡ false
-          → (finish p i m s .state ≡ s) × (finish p i m s .ram ≡ m .ram)
-      planned-so i (stops stop) e = (refl, refl)
-      planned-so i (changes d) e = served-so i d (served m (d .stores)) e
-
-      by : (d : Decoded) → isCompleted (onDecoded d m s .answer) ≡ false
-          → (onDecoded d m s .state ≡ s) × (onDecoded d m s .ram ≡ m .ram)
-      by CutOff e = (refl, refl)
-      by NotCarried e = (refl, refl)
-      by (Whole i) e = planned-so i (plan m s i) e
-
   -- the run ends so
   stop-ends : (n steps made : ℕ) → (a : Answer) → step m s .answer ≡ a → isCompleted a ≡ false
       → further steps made (played m s (suc n)) ≡ ended (endAfter a Done) steps made s (m .ram)
-  stop-ends n steps made Completed e h = no-false h
-  stop-ends n steps made Called e h = no-false h
+  stop-ends n steps made Completed e h = absurd (completed-stops h)
+  stop-ends n steps made Called e h = absurd (completed-stops h)
   stop-ends n steps made (Stopped stop) e h = run-stops m s n steps made stop e
 
 module _ (image : List ℕ) (base : ℕ) (calls₀ ram₀ : List ℕ) (given : Core) (asked : ℕ) where

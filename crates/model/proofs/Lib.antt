@@ -19,3 +19,4 @@ pub mod Step
 pub mod StateBytes
 pub mod Run
 pub mod Guarantee
+pub mod RunBytes

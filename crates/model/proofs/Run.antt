@@ -2,7 +2,7 @@
 -- left, a stopped one by nothing. From these come the end and the counts of a history, and what a loop over the steps
 -- needs.
 -- Assumes nothing.
-use mathlib.Core.Path.{_≡_, refl, ap}
+use mathlib.Core.Path.{_≡_, refl, sym, ap, _∙_}
 use mathlib.Core.Logic.{_↔_}
 use mathlib.Core.Bool.{Bool, true, false, not}
 use mathlib.Core.List.{List, [], _∷_}
@@ -10,6 +10,13 @@ use Prim.Native.Nat.{ℕ, zero, suc, _+_}
 use native.Mathlib.Nat.{zero-add, add-zero, add-assoc}
 use native.Mathlib.Omega.{arith}
 use lib.ListN.{length}
+use Rattle.model.specs.declared.code.Instruction.{Instruction}
+use Rattle.model.specs.declared.code.Decoded.{Decoded}
+use Rattle.model.specs.declared.code.Decoded.the-variants.{Whole, NotCarried, CutOff}
+use Rattle.model.specs.declared.machine.CallChange.{CallChange}
+use Rattle.model.specs.declared.machine.CallChange.the-variants.{Keep, Open, Close}
+use Rattle.model.specs.declared.machine.Served.{Served}
+use Rattle.model.specs.declared.machine.Served.the-variants.{All, Refused as Unserved}
 use Rattle.model.specs.declared.machine.State.{State}
 use Rattle.model.specs.declared.machine.Stop.{Stop}
 use Rattle.model.specs.declared.machine.Answer.{Answer}
@@ -22,11 +29,12 @@ use Rattle.model.specs.declared.runs.RunAnswer.{RunAnswer}
 use Rattle.model.specs.declared.runs.RunAnswer.the-variants.{NotRun, Ended}
 use Rattle.model.specs.Choice.{pick}
 use Rattle.model.specs.Status.{bit}
-use Rattle.model.specs.Memory.{Memory, memory}
-use Rattle.model.specs.Step.{step}
+use Rattle.model.specs.Memory.{Memory, memory, served}
+use Rattle.model.specs.Step.{Change, Plan, stops, changes, answerOf, onServed, finish, plan, fetched, onDecoded}
+use Rattle.model.specs.Step.{Stepped, step}
 use Rattle.model.specs.Run.{isCompleted, isCall, Event, event, withRam, history, completedSteps}
-use Rattle.model.specs.Run.{endAfter, endOf, endNumber, stateLeft, ramLeft, Ran, ranBy}
-use Rattle.model.specs.Run.{admission, admittedHistory, runHistory, ran}
+use Rattle.model.specs.Run.{endAfter, endOf, endNumber, stateLeft, ramLeft, Ran}
+use Rattle.model.specs.Run.{admission, admittedHistory, runHistory, played, ran, oneStep}
 use Rattle.model.proofs.Step.{stop-range}
 
 -- ---- what a history goes on with after its first step
@@ -149,10 +157,6 @@ all-asked m s (suc n) =
 
 -- ---- what a loop over the steps needs
 
--- what a run comes to that is not refused
-abbrev pub played : Memory → State → ℕ → Ran
-played m s n = ranBy Admitted m s (history m s n)
-
 -- an answer with steps and calls that came before
 abbrev pub counted : ℕ → ℕ → RunAnswer → RunAnswer
 counted steps calls (NotRun why) = NotRun why
@@ -217,3 +221,49 @@ module _ (m : Memory) (s : State) (n : ℕ) where
       → (runHistory m s n ≡ []) × (ran m s n ≡ record { answer = NotRun why; state = s; ram = m .ram })
   unfolding ran admittedHistory
   refused-ran why a = (rw a refl, rw a refl)
+
+pub completed-stops : true ≡ false → ⊥
+completed-stops e = let z : _≡_ {A = ℕ} 0 1 = cc in absurd (omega arith)
+
+-- ---- 'a stopped step leaves state and RAM'
+
+module _ (m : Memory) (s : State) where
+  changes-complete : (change : CallChange) → isCompleted (answerOf change) ≡ true
+  changes-complete Keep = refl
+  changes-complete (Open address kind) = refl
+  changes-complete Close = refl
+
+  pub stopped-leaves : isCompleted (step m s .answer) ≡ false → (step m s .state ≡ s) × (step m s .ram ≡ m .ram)
+  unfolding step
+  stopped-leaves = by (fetched m (s .core))
+    where
+      served-so : (i : Instruction) (d : Change) (v : Served) → isCompleted (onServed v i d m s .answer) ≡ false
+          → (onServed v i d m s .state ≡ s) × (onServed v i d m s .ram ≡ m .ram)
+      served-so i d All e = absurd (completed-stops (sym (changes-complete (d .calls)) ∙ e))
+      served-so i d (Unserved stop) e = (refl, refl)
+
+      planned-so : (i : Instruction) (p : Plan) → isCompleted (finish p i m s .answer) ≡ false
+          → (finish p i m s .state ≡ s) × (finish p i m s .ram ≡ m .ram)
+      planned-so i (stops stop) e = (refl, refl)
+      planned-so i (changes d) e = served-so i d (served m (d .stores)) e
+
+      by : (d : Decoded) → isCompleted (onDecoded d m s .answer) ≡ false
+          → (onDecoded d m s .state ≡ s) × (onDecoded d m s .ram ≡ m .ram)
+      by CutOff e = (refl, refl)
+      by NotCarried e = (refl, refl)
+      by (Whole i) e = planned-so i (plan m s i) e
+
+  -- a run of one step answers as the step ended, and leaves what it left
+  pub one-step : admission m s 1 ≡ Admitted → ran m s 1 ≡ oneStep (step m s)
+  unfolding history
+  one-step a = admitted-ran m s 1 a .1 ∙ by (isCompleted (step m s .answer)) refl
+    where
+      stays : (t : Answer) → isCompleted t ≡ false → bit (isCall t) ≡ 0
+      stays Completed c = absurd (completed-stops c)
+      stays Called c = absurd (completed-stops c)
+      stays (Stopped stop) c = refl
+
+      by : (b : Bool) → isCompleted (step m s .answer) ≡ b → played m s 1 ≡ oneStep (step m s)
+      by true c = rw (goes-on m s 0 c, c) (simp add-zero)
+      by false c =
+          rw (stops-there m s 0 c, c, stays (step m s .answer) c, stopped-leaves c .0, stopped-leaves c .1) (simp add-zero)

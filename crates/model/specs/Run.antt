@@ -136,13 +136,13 @@ stateFits s =
     ltb (s .core .registers .status .level) levelLimit && leb (s .core .depth) callLimit
     && callsFit (s .calls) (s .core .depth)
 
--- 'Run: 1, 2, 11, 12, 13.' A run takes no marks.
-unfoldable pub admission : Memory → State → ℕ → Admission
-admission m s asked =
+-- 'Run: 1, 2, 11, 12, 13.' A run takes no marks. Whether the state is one that a run takes is given.
+unfoldable pub admissionBy : Memory → Bool → ℕ → Admission
+admissionBy m fits asked =
     pick (lengthFits (length (m .image)) (length (m .image)))
     (pick (baseFits (m .base) (length (m .image)))
     (pick (ramFits (length (m .ram)) (m .base))
-    (pick (stateFits s)
+    (pick fits
     (pick (leb asked stepLimit)
     Admitted
     (Refused ManySteps))
@@ -150,6 +150,9 @@ admission m s asked =
     (Refused WrongRam))
     (Refused WrongBase))
     (Refused WrongLength)
+
+abbrev pub admission : Memory → State → ℕ → Admission
+admission m s asked = admissionBy m (stateFits s) asked
 
 -- the numbers of 'Numbers'
 abbrev pub runRefusalNumber : RunRefusal → ℕ
@@ -185,8 +188,20 @@ pub record Ran : Type 0 where
 abbrev pub ranBy : Admission → Memory → State → List Event → Ran
 ranBy a m s h = record { answer = answerBy a h; state = stateLeft s h; ram = ramLeft (m .ram) h }
 
+-- what a run comes to that is not refused
+abbrev pub played : Memory → State → ℕ → Ran
+played m s asked = ranBy Admitted m s (history m s asked)
+
 unfoldable pub ran : Memory → State → ℕ → Ran
 ran m s asked = ranBy (admission m s asked) m s (runHistory m s asked)
+
+-- What a step comes to as a run of one: completed, completed as a call, or stopped.
+abbrev pub oneStep : Stepped → Ran
+oneStep t = record {
+  answer = Ended (endAfter (t .answer) Done) (bit (isCompleted (t .answer))) (bit (isCall (t .answer)));
+  state = t .state;
+  ram = t .ram;
+}
 
 -- ---- a list of runs
 
