@@ -2,3 +2,5 @@
 pub mod Taking
 pub mod Cutting
 pub mod Lent
+pub mod Patching
+pub mod Growing

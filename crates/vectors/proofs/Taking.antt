@@ -13,6 +13,12 @@ use Rattle.model.specs.Decode.{number}
 use Rattle.vectors.specs.declared.parts.Bytes.the-variants.{Whole, Cut}
 use Rattle.vectors.specs.Parts.{u32At, runAt, bytesAt, afterAt}
 
+-- two bytes
+pub two : (bytes : List ℕ) → getD bytes 0 0 + 256 * getD bytes 1 0 ≡ number (take 2 bytes)
+two [] = refl
+two (a ∷ []) = omega arith
+two (a ∷ b ∷ rest) = omega arith
+
 -- four bytes, by halves
 pub four : (bytes : List ℕ)
     → getD bytes 0 0 + 256 * getD bytes 1 0 + 65_536 * (getD bytes 2 0 + 256 * getD bytes 3 0) ≡ number (take 4 bytes)

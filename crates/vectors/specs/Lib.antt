@@ -2,5 +2,8 @@ pub mod Parts
 pub mod Checks
 pub mod Reads
 pub mod Writes
+pub mod Pieces
+pub mod Given
+pub mod Runs
 pub mod Buffers
 pub mod Scores

@@ -11,7 +11,11 @@ use Rattle.vectors.specs.declared.parts.Part.{Part}
 use Rattle.vectors.specs.declared.parts.Bytes.{Bytes}
 use Rattle.vectors.specs.declared.parts.Bytes.the-variants.{Whole, Cut}
 
--- 'All numbers are unsigned, the low byte first': the four bytes at a place
+-- 'All numbers are unsigned, the low byte first': the two bytes at a place
+unfoldable pub u16At : List ℕ → ℕ → ℕ
+u16At file at = number (take 2 (drop at file))
+
+-- the four bytes at a place
 unfoldable pub u32At : List ℕ → ℕ → ℕ
 u32At file at = number (take 4 (drop at file))
 

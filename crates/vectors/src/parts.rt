@@ -3,7 +3,7 @@ use image::byte_at;
 ghost use mathlib.Core.Path.{_≡_};
 ghost use lib.ListN.{take};
 ghost use Rattle.model.specs.Decode.{number};
-ghost use Rattle.vectors.specs.Parts.{u32At, u64At, runAt, bytesAt, afterAt, partOf};
+ghost use Rattle.vectors.specs.Parts.{u16At, u32At, u64At, runAt, bytesAt, afterAt, partOf};
 
 // A part of a file, from its first place to its end.
 pub struct Part {
@@ -22,6 +22,23 @@ fn wide(b: u8) -> u32
     ensures { λ r. ⌜ r ≡ b ⌝ }
 {
     b as u32
+}
+
+// The first two bytes as one number, the low byte first; missing bytes count 0.
+fn first_two(bytes: &[u8]) -> u16
+    ensures { λ r. ⌜ r ≡ number (take 2 (now (bytes .entry))) ⌝ }
+{
+    byte_at(bytes, 0) as u16 + 256 * (byte_at(bytes, 1) as u16)
+}
+
+// The u16 at a place; bytes past the end count 0.
+pub fn u16_at(file: &[u8], at: usize) -> u16
+    ensures { λ r. ⌜ r ≡ u16At (now (file .entry)) at ⌝ }
+{
+    if file.len() < at {
+        return 0;
+    }
+    first_two(&file[at..])
 }
 
 // The first four bytes as one number, the low byte first; missing bytes count 0.
@@ -61,7 +78,7 @@ pub fn u64_at(file: &[u8], at: usize) -> u64
 }
 
 // So many bytes from a place on.
-fn run_at(file: &[u8], first: usize, size: usize) -> Bytes
+pub(crate) fn run_at(file: &[u8], first: usize, size: usize) -> Bytes
     ensures { λ r. ⌜ r ≡ runAt (now (file .entry)) first size ⌝ }
 {
     if file.len() < first {
