@@ -1,5 +1,5 @@
--- A step that completes and leaves state and RAM as they were is followed by itself: by induction a history of n such steps is
--- its one event n times. What such a list comes to, again by induction, is the start.
+-- A step that completes and leaves state and RAM as they were is followed by itself: by induction a history of n such
+-- steps is its one event n times, and what such a list comes to, again by induction, is the start.
 -- Assumes nothing.
 use mathlib.Core.Path.{_≡_, refl, ap, _∙_}
 use mathlib.Core.List.{_∷_}

@@ -1,5 +1,5 @@
--- What a row of the proved set says, and when it holds: an image with its marks, the check's verdict, and runs and steps of the
--- machine on it, all by the model's definitions.
+-- What a row of the proved set says, and when it holds: an image with its marks, the check's verdict, and runs and
+-- steps of the machine on it, all by the model's definitions.
 -- Assumes nothing.
 use mathlib.Core.Path.{_≡_}
 use Prim.Native.Nat.{ℕ, zero, suc, _≤_}
@@ -27,8 +27,8 @@ abbrev pub listOf : ℕ → (ℕ → ℕ) → List ℕ
 listOf zero f = []
 listOf (suc n) f = let rest = listOf n (λ k. f (suc k)) in f 0 ∷ rest
 
--- Where 01 is silent: registers, flags, the bytes of RAM, entries that hold no open call. A case holds whatever these are. The
--- status register's high byte is 0 in every case: from 8 on a run is refused (number 12).
+-- Where 01 is silent: registers, flags, the bytes of RAM, entries that hold no open call. A case holds whatever these
+-- are. The status register's high byte is 0 in every case: from 8 on a run is refused (number 12).
 pub record Silent : Type 0 where
   pub a : ℕ
   pub b : ℕ
@@ -91,14 +91,15 @@ abbrev pub stage : ℕ → ℕ → List Named → Stage
 stage end calls after = record { end = end; calls = calls; after = after }
 
 pub data Claim : Type 0 where
-  -- a run from a state and RAM, asked for some steps: its end, the steps completed, the calls among them, what is named after
+  -- a run from a state and RAM, asked for some steps: its end, the steps completed, the calls among them, what is named
+  -- after it
   runs : State → List ℕ → ℕ → ℕ → ℕ → ℕ → List Named → Claim
   -- single steps from a state and RAM, one after another
   stages : State → List ℕ → List Stage → Claim
   -- n steps from a state and RAM return to it, for every n
   returns : State → List ℕ → Claim
 
--- A row: an image, its marks, base and reset address, the check's verdict, and what is said of the machine on this image.
+-- A row: an image, its marks, base and reset address, the check's verdict, and what is said of the machine on it.
 pub record Row : Type 0 where
   pub image : List ℕ
   pub marks : List ℕ
@@ -136,8 +137,8 @@ Stepwise m s [] = Unit {0}
 Stepwise m s (g ∷ rest) =
     SteppedTo s (m .ram) (step m s) g × Stepwise (withRam (step m s .ram) m) (step m s .state) rest
 
--- 'n steps return to its start': every step of the history begins where the first did, and after n of them, none of which
--- stops or calls, state and RAM are as given; a run of n steps, where that is not too many, answers so.
+-- 'n steps return to its start': every step of the history begins where the first did, and after n of them, none of
+-- which stops or calls, state and RAM are as given; a run of n steps, where that is not too many, answers so.
 pub record Returns (m : Memory) (s : State) (n : ℕ) : Type 0 where
   pub begins : Every (λ e. (e .state ≡ s) × (e .ram ≡ m .ram)) (history m s n)
   pub end : endOf (history m s n) ≡ Done
