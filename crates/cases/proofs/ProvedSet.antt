@@ -15,7 +15,7 @@ use Rattle.model.specs.Memory.{byteAt, servedAt}
 use Rattle.model.specs.Addressing.{operandBy, dataOf}
 use Rattle.model.specs.Effects.{effectOf}
 use Rattle.model.specs.Step.{bytesFrom, operates, calls, returnsTo, planBy, step}
-use Rattle.model.specs.Run.{stepLimit, history, ramFits, callsFit, stateFits, admission, admittedHistory, ran}
+use Rattle.model.specs.Run.{stepLimit, history, ramFits, callsFit, stateFits, admissionBy, admittedHistory, ran}
 use Rattle.model.specs.Guarantee.{Every}
 use Rattle.cases.specs.Rows.{Silent, Holds}
 use Rattle.cases.specs.ProvedSet.{case1, case2, case3, case4, case5, case6, case7, case8, case9, case10}
@@ -28,7 +28,7 @@ unfolding plain pages entryAt judged decodeOn decode isFormed lengthFits baseFit
     targetOf mAfter xAfter markOfRoutine markOnReturn markAfter owedBy owedAt returnsBy returnFits firstFrom isClear
     wantsStart allStarts wantsMark allMarks owedNumber wholeNumber decodedNumber startNumber badMark badStart
     startsVerdict verdict byteAt servedAt operandBy dataOf effectOf bytesFrom operates calls returnsTo planBy
-    step history ramFits callsFit stateFits admission admittedHistory ran
+    step history ramFits callsFit stateFits admissionBy admittedHistory ran
 computed = tt
 
 module _ (v : Silent) where

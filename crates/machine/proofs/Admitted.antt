@@ -1,6 +1,6 @@
 -- What a run that is taken up may count on, and that what is left of it as bytes is the definition's.
 -- Assumes nothing.
-use mathlib.Core.Path.{_≡_, refl, sym, ap, _∙_}
+use mathlib.Core.Path.{_≡_, refl}
 use mathlib.Core.Bool.{Bool, true, false, _&&_}
 use mathlib.Core.List.{List}
 use Prim.Native.Nat.{ℕ, _+_, _≤_}
@@ -18,7 +18,7 @@ use Rattle.model.specs.Choice.{pick}
 use Rattle.model.specs.Image.{addressLimit, imageLimit, lengthFits, baseFits}
 use Rattle.model.specs.Memory.{Memory}
 use Rattle.model.specs.Step.{callLimit}
-use Rattle.model.specs.Run.{stepLimit, ramFits, levelLimit, callsFit, stateFits, admissionBy, Ran, played}
+use Rattle.model.specs.Run.{stepLimit, ramFits, callsFit, stateFits, admissionBy, Ran, played}
 use Rattle.model.specs.RunBytes.{bytesFit, asBytes, ranBytes}
 use Rattle.model.specs.StateBytes.{stateSize, stateOf}
 use Rattle.model.proofs.Image.{right-length, base-whole}

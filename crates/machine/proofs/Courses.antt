@@ -7,29 +7,20 @@ use mathlib.Core.List.{List}
 use Prim.Native.Nat.{ℕ, suc, _+_, _-_, _≤_, _<_}
 use native.Mathlib.Omega.{arith}
 use lib.ListN.{length}
-use Rattle.model.specs.declared.code.Instruction.{Instruction}
-use Rattle.model.specs.declared.code.Decoded.{Decoded}
-use Rattle.model.specs.declared.code.Decoded.the-variants.{Whole, NotCarried, CutOff}
 use Rattle.model.specs.declared.machine.Answer.{Answer}
 use Rattle.model.specs.declared.machine.Answer.the-variants.{Completed, Called, Stopped}
-use Rattle.model.specs.declared.machine.CallChange.{CallChange}
-use Rattle.model.specs.declared.machine.CallChange.the-variants.{Keep, Open, Close}
 use Rattle.model.specs.declared.machine.Core.{Core}
-use Rattle.model.specs.declared.machine.Served.{Served}
-use Rattle.model.specs.declared.machine.Served.the-variants.{All, Refused}
 use Rattle.model.specs.declared.machine.State.{State}
-use Rattle.model.specs.declared.machine.Stop.{Stop}
 use Rattle.model.specs.declared.runs.End.{End}
-use Rattle.model.specs.declared.runs.End.the-variants.{Done, AtStop}
-use Rattle.model.specs.Memory.{Memory, memory, served}
+use Rattle.model.specs.declared.runs.End.the-variants.{Done}
+use Rattle.model.specs.Memory.{Memory, memory}
 use Rattle.model.specs.Status.{bit}
-use Rattle.model.specs.Step.{callLimit, Change, Plan, stops, changes, answerOf, onServed, finish, plan, fetched, onDecoded, step}
+use Rattle.model.specs.Step.{callLimit, step}
 use Rattle.model.specs.Run.{isCompleted, isCall, endAfter, Ran, played}
 use Rattle.model.proofs.Run.{further, ended, completed-stops, stopped-leaves}
 use Rattle.model.proofs.Run.{run-begins, run-goes-on, run-stops, run-ends}
 use Rattle.model.proofs.Step.{depth-kept}
 use Rattle.machine.specs.declared.step.Turn.{Turn}
-use Rattle.machine.specs.declared.run.Course.{Course}
 use Rattle.machine.specs.Turns.{state, left, leftBy}
 
 module _ (m : Memory) (s : State) where

@@ -2,7 +2,7 @@
 -- Assumes nothing.
 use mathlib.Core.Path.{_≡_, refl, sym, ap, _∙_}
 use mathlib.Core.Bool.{Bool, true, false, _&&_}
-use mathlib.Core.List.{List, []}
+use mathlib.Core.List.{[]}
 use Prim.Native.Nat.{ℕ, _≤_, _<_}
 use lib.Dec.{eqb, ltb}
 use borrow.Author.Tests.{lt-ltb, le-ltb, eq-eqb, ne-eqb}
@@ -11,11 +11,9 @@ use Rattle.addressing.specs.declared.reach.DataRead.the-variants.{Found, Unmapp
 use Rattle.addressing.specs.Found.{dataRead}
 use Rattle.cpu.specs.declared.effects.Effect.{Effect}
 use Rattle.cpu.specs.View.{viewed}
-use Rattle.memory.specs.declared.reads.WordRead.{WordRead}
 use Rattle.memory.specs.declared.reads.LongRead.{LongRead}
 use Rattle.memory.specs.declared.reads.LongRead.the-variants.{Long, Unmapped as NoLong}
 use Rattle.memory.specs.declared.stores.Stores.{Stores}
-use Rattle.memory.specs.declared.stores.Stores.the-variants.{None}
 use Rattle.memory.specs.Reads.{wordRead, longRead}
 use Rattle.memory.specs.Listed.{listed}
 use Rattle.memory.proofs.Views.{long-done, long-unmapped}
@@ -40,9 +38,8 @@ use Rattle.model.specs.Step as spec
 use Rattle.model.specs.Step.{Plan, stops, changes, change, callLimit, placeOf, kindOf, returnOf, returnBytes, isDecimal}
 use Rattle.model.specs.Step.{operates, calls, returnsTo, planBy}
 use Rattle.model.proofs.Memory.{onDone, come-bind}
-use Rattle.model.proofs.Step.{decimal-first, pulls-first, deep-first}
-use Rattle.machine.specs.declared.plan.Change.{Change as Kept}
-use Rattle.machine.specs.Planned.{changed, inOwnBank}
+use Rattle.model.proofs.Step.{decimal-first, pulls-first}
+use Rattle.machine.specs.Planned.{inOwnBank}
 
 data-done : (o : Outcome Data) (w : DataRead) (d : Data) → w ≡ dataRead o → w ≡ Found d → o ≡ done d
 data-done (done u) w d e e′ = cc

@@ -42,7 +42,7 @@ use Rattle.model.specs.declared.runs.End.the-variants.{Done, AtStop}
 use Rattle.model.specs.Choice.{pick}
 use Rattle.model.specs.CodeMap.{prefixBytes, entryAt}
 use Rattle.model.specs.Image.{bankSize, addressLimit, isStart, markM, markX, markKind, returnM, returnX, markOf}
-use Rattle.model.specs.Image.{baseFits, markAt}
+use Rattle.model.specs.Image.{markAt}
 use Rattle.model.specs.Decode.{pageOf, decode}
 use Rattle.model.specs.Rules.{nextAddress, mAfter, xAfter, kindNumber, want, markOfRoutine, markOnReturn}
 use Rattle.model.specs.Rules.{markAfter, owedBy, owedAt, returnsBy, returnFits, Met, AllMet, StartRules, Accepts}
