@@ -83,9 +83,8 @@ fn checked(name: &str, cases: &[CheckCase]) -> f64 {
             cases.iter().map(|case| answer(case) as u64).sum()
         },
         || {
-            let answer = |case: &CheckCase| {
-                sim7700::check(&case.image, &case.marks, case.base, case.reset)
-            };
+            let answer =
+                |case: &CheckCase| sim7700::check(&case.image, &case.marks, case.base, case.reset);
             cases.iter().map(|case| answer(case) as u64).sum()
         },
     );
