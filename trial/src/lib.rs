@@ -7,6 +7,7 @@ pub mod guard;
 pub mod library;
 pub mod lists;
 pub mod machine;
+pub mod runs;
 pub mod steps;
 pub mod tally;
 
