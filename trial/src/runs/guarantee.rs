@@ -11,20 +11,22 @@ use sim7700::state::Registers;
 /// What is amiss where a step begins, if anything is.
 pub fn at_begin(marks: &[u8], case: &RunCase) -> Result<(), String> {
     let registers = Registers::read(&case.state);
-    let instruction = Instruction::of(&case.image, case.base, &registers)
-        .ok_or_else(|| format!("a step begins outside, at {:06X}", registers.pc))?;
+    let (pc, m, x) = (registers.pc, registers.m(), registers.x_flag());
+    let Some(instruction) = Instruction::of(&case.image, case.base, &registers) else {
+        return Err(format!("a step begins outside, at {pc:06X}"));
+    };
     let mark = marks[instruction.at];
-    let m = if registers.m() { marks::M } else { 0 };
-    let x = if registers.x_flag() { marks::X } else { 0 };
-    let pc = registers.pc;
-    if !is_start(mark) || marks::widths(mark) != m | x {
+    let as_marked = (mark & marks::M != 0, mark & marks::X != 0) == (m, x);
+    if !is_start(mark) || !as_marked {
+        let widths = (m as u8, x as u8);
         return Err(format!(
-            "a step begins at {pc:06X}, marked {mark:02X}, with m and x {m:02X} {x:02X}"
+            "a step begins at {pc:06X}, marked {mark:02X}, with m and x {widths:?}"
         ));
     }
-    if !instruction.entry.carried || instruction.at + instruction.length > case.image.len() {
+    let whole = instruction.at + instruction.length <= case.image.len();
+    if !instruction.entry.carried || !whole {
         return Err(format!(
-            "an instruction at {pc:06X} is not carried or not whole"
+            "the instruction at {pc:06X} is not carried or not whole"
         ));
     }
     Ok(())

@@ -1,4 +1,4 @@
-//! Goes through a list of runs, each run at once and step by step.
+//! Runs under trial; those of a list also step by step.
 
 use super::guarantee;
 use super::lists::List;
@@ -35,6 +35,11 @@ impl Lister {
     /// Calls among them.
     pub fn calls(&self) -> u64 {
         self.calls
+    }
+
+    /// The number of a single run, or what differs.
+    pub fn alone(&mut self, case: &RunCase) -> Result<u8, String> {
+        self.run.compare(case).map(After::number)
     }
 
     /// Counts each run of a list; a difference ends it.

@@ -6,7 +6,6 @@ pub mod lister;
 pub mod lists;
 
 use crate::library::{m7700_check, m7700_run, m7700_step};
-use crate::machine::{After, Call, Subject};
 use crate::steps::noise::Noise;
 use crate::tally::{Named, Tally};
 use lister::Lister;
@@ -50,18 +49,20 @@ const LEAST: u64 = 100;
 /// Single runs for each list of runs.
 const ALONE: u64 = 5;
 
-/// Compares the library with the simulator: `count` runs, and a list of runs
-/// over an accepted program for every fifth. The tallies of both.
+/// Compares the library with the simulator: the tallies of `tried`.
 pub fn trial(count: u64, seed: u64) -> [Tally; 2] {
+    tried(Lister::new(m7700_check, m7700_step, m7700_run), count, seed)
+}
+
+/// Compares a machine with the simulator's: `count` runs, and a list of runs
+/// over an accepted program for every fifth. The tallies of both.
+pub fn tried(mut lister: Lister, count: u64, seed: u64) -> [Tally; 2] {
     let mut rng = Rng::new(seed);
     let noise = Noise::new(&mut rng);
-    let mut subject = Subject::new(Call::Run(m7700_run));
     let mut alone = Tally::of("runs alone", &NUMBERS, LEAST);
     let mut listed = Tally::of("runs in lists", &LIST_NUMBERS, LEAST);
-    let mut lister = Lister::new(m7700_check, m7700_step, m7700_run);
     for turn in 0..count {
-        let case = alone::drawn(&mut rng, &noise);
-        alone.note(subject.compare(&case).map(After::number));
+        alone.note(lister.alone(&alone::drawn(&mut rng, &noise)));
         if turn % ALONE == 0 {
             lister.go_through(&List::drawn(&mut rng, &noise), &mut listed);
         }

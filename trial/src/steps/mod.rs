@@ -8,7 +8,7 @@ pub mod random;
 pub mod refusals;
 
 use crate::library::m7700_step;
-use crate::machine::{Call, Subject};
+use crate::machine::{Call, StepCall, Subject};
 use crate::tally::{Named, Tally};
 use coverage::Coverage;
 use noise::Noise;
@@ -35,12 +35,17 @@ pub const NUMBERS: [Named; 13] = [
 /// often.
 const LEAST: u64 = 100;
 
-/// Compares the library with the simulator: the sweeps, then `count` steps
-/// drawn at edges and as many at random. The tallies of edges and of the rest.
+/// Compares the library with the simulator: the tallies of `tried`.
 pub fn trial(count: u64, seed: u64) -> [Tally; 2] {
+    tried(m7700_step, count, seed)
+}
+
+/// Compares a step with the simulator's: the sweeps, then `count` steps drawn
+/// at edges and as many at random. The tallies of edges and of the rest.
+pub fn tried(step: StepCall, count: u64, seed: u64) -> [Tally; 2] {
     let mut rng = Rng::new(seed);
     let noise = Noise::new(&mut rng);
-    let mut subject = Subject::new(Call::Step(m7700_step));
+    let mut subject = Subject::new(Call::Step(step));
     let mut coverage = Coverage::new();
     let mut note = |tally: &mut Tally, case: &RunCase| {
         let outcome = subject.compare(case).map(|after| after.number());
