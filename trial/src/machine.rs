@@ -4,7 +4,7 @@
 use crate::faults;
 use crate::guard::Guarded;
 use crate::hex;
-use sim7700::codes::{entry_of, page_of, Entry};
+use sim7700::codes::{entry_of, page_of, Entry, PREFIX_42, PREFIX_89};
 use sim7700::generate::RunCase;
 use sim7700::numbers::MAX_IMAGE;
 use sim7700::state::{depth, Registers, HEAD_BYTES, STATE_BYTES};
@@ -165,6 +165,22 @@ pub fn carried() -> &'static [Code] {
         all.filter(|&(page, code)| entry_of(page, code).carried)
             .collect()
     })
+}
+
+/// The bytes of a code, its prefix first if it has one.
+pub fn code_bytes((page, code): Code) -> Vec<u8> {
+    match page {
+        0 => vec![code],
+        1 => vec![PREFIX_42, code],
+        _ => vec![PREFIX_89, code],
+    }
+}
+
+/// Puts a code into an image, as far as that goes.
+pub fn put_code(image: &mut [u8], at: usize, code: Code) {
+    for (place, byte) in image[at..].iter_mut().zip(code_bytes(code)) {
+        *place = byte;
+    }
 }
 
 /// A packed answer in words.

@@ -1,6 +1,6 @@
 //! Single runs.
 
-use crate::machine::{carried, Instruction};
+use crate::machine::{carried, put_code, Instruction};
 use crate::steps::noise::Noise;
 use crate::steps::random;
 use sim7700::codes::entry_of;
@@ -25,7 +25,7 @@ pub fn drawn(rng: &mut Rng, noise: &Noise) -> RunCase {
 fn at_random(rng: &mut Rng, noise: &Noise) -> RunCase {
     let mut case = random::drawn(rng, noise);
     if rng.chance(1, 2) && state::accept(&case.state).is_ok() {
-        put_code(rng, &mut case);
+        fill_with_code(rng, &mut case);
     }
     case.steps = match rng.below(500) {
         0 => *rng.pick(&[MAX_STEPS, MAX_STEPS - 1, MAX_STEPS + 1]),
@@ -37,7 +37,7 @@ fn at_random(rng: &mut Rng, noise: &Noise) -> RunCase {
 
 /// Puts carried codes into the image from PG and PC on; what lies between them
 /// stays as operands.
-fn put_code(rng: &mut Rng, case: &mut RunCase) {
+fn fill_with_code(rng: &mut Rng, case: &mut RunCase) {
     let registers = Registers::read(&case.state);
     let Some(Instruction { mut at, .. }) = Instruction::of(&case.image, case.base, &registers)
     else {
@@ -45,11 +45,7 @@ fn put_code(rng: &mut Rng, case: &mut RunCase) {
     };
     while at < case.image.len() {
         let &(page, code) = rng.pick(carried());
-        let prefix: &[u8] = [&[][..], &[0x42], &[0x89]][page];
-        let bytes = prefix.iter().copied().chain([code]);
-        for (place, byte) in case.image[at..].iter_mut().zip(bytes) {
-            *place = byte;
-        }
+        put_code(&mut case.image, at, (page, code));
         at += entry_of(page, code).length(registers.m(), registers.x_flag());
     }
 }

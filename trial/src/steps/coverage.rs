@@ -1,56 +1,51 @@
 //! Which instructions were completed, and how often.
 
-use crate::machine::Instruction;
+use crate::machine::{carried, Code, Instruction};
 use crate::tally::Tally;
 use sim7700::codes::{entry_of, Word};
 use sim7700::generate::RunCase;
 use sim7700::state::Registers;
+use std::collections::HashMap;
 
-/// Completed steps by page, code and widths (m, then x).
+/// Completed steps by code, m and x.
+#[derive(Default)]
 pub struct Coverage {
-    counts: Vec<[u64; 4]>,
+    counts: HashMap<(Code, bool, bool), u64>,
 }
 
 impl Coverage {
-    pub fn new() -> Coverage {
-        Coverage {
-            counts: vec![[0; 4]; 3 * 256],
-        }
-    }
-
     /// Counts a step that was completed.
     pub fn note(&mut self, case: &RunCase) {
         let registers = Registers::read(&case.state);
-        let widths = (registers.m() as usize) << 1 | registers.x_flag() as usize;
         if let Some(done) = Instruction::of(&case.image, case.base, &registers) {
-            self.counts[done.page * 256 + done.code as usize][widths] += 1;
+            let code = (done.page, done.code);
+            let widths = (registers.m(), registers.x_flag());
+            *self.counts.entry((code, widths.0, widths.1)).or_default() += 1;
         }
     }
 
     /// Prints the least count of a code that can be completed; the tally lacks
-    /// it if it is too small.
+    /// that code if it is under `least`.
     pub fn report(&self, least: u64, tally: &mut Tally) {
-        let all = (0..3).flat_map(|page| (0..=255).map(move |code| (page, code)));
-        let completed = all.filter(|&(page, code)| completes(page, code));
-        let counts = completed.flat_map(|(page, code)| {
-            let counts = self.counts[page * 256 + code as usize];
-            (0..4).map(move |widths| (counts[widths], page, code, widths))
-        });
-        let (fewest, page, code, widths) = counts.min().expect("some codes are carried");
-        println!(
-            "steps: each carried code completed at each pair of widths, {fewest} times or more"
-        );
+        let count = |key| self.counts.get(&key).copied().unwrap_or(0);
+        let widths = [(false, false), (false, true), (true, false), (true, true)];
+        let keys = carried()
+            .iter()
+            .filter(|code| completes(**code))
+            .flat_map(|&code| widths.map(|(m, x)| (code, m, x)));
+        let seldom = keys.min_by_key(|&key| count(key));
+        let (code, m, x) = seldom.expect("some codes are carried");
+        let fewest = count((code, m, x));
+        println!("steps: each carried code at each pair of widths {fewest} times or more");
         if fewest < least {
-            let word = entry_of(page, code).word;
-            tally.lack(format!(
-                "{word:?} by {code:02X} of page {page} at {widths:02b}"
-            ));
+            let word = entry_of(code.0, code.1).word;
+            let place = format!("{:02X} of page {}", code.1, code.0);
+            tally.lack(format!("{word:?} by {place}, m {m}, x {x}"));
         }
     }
 }
 
 /// STP and WIT always stop.
-fn completes(page: usize, code: u8) -> bool {
-    let entry = entry_of(page, code);
-    entry.carried && !matches!(entry.word, Word::STP | Word::WIT)
+fn completes((page, code): Code) -> bool {
+    !matches!(entry_of(page, code).word, Word::STP | Word::WIT)
 }

@@ -4,7 +4,7 @@
 use super::calls::{litter, reopen};
 use super::noise::Noise;
 use super::refusals;
-use crate::machine::{carried, Code};
+use crate::machine::{carried, code_bytes, Code};
 use sim7700::alu::{D, M, X};
 use sim7700::codes::entry_of;
 use sim7700::generate::{
@@ -116,9 +116,7 @@ fn cornered(rng: &mut Rng, noise: &Noise, (page, code): Code, widths: u16) -> Ru
     let place = Place::drawn(rng, length);
     let at = *rng.pick(&[0, place.image_len - length]);
     let mut image = noise.mixed(rng, place.image_len).to_vec();
-    let operand = operand(rng, &place);
-    let prefix: &[u8] = [&[][..], &[0x42], &[0x89]][page];
-    let bytes = [prefix, &[code], &operand].concat();
+    let bytes = [code_bytes((page, code)), operand(rng, &place)].concat();
     image[at..at + length].copy_from_slice(&bytes[..length]);
     let mut state = vec![0; STATE_BYTES];
     registers(rng, &place, widths, at).write(&mut state);

@@ -46,7 +46,7 @@ pub fn tried(step: StepCall, count: u64, seed: u64) -> [Tally; 2] {
     let mut rng = Rng::new(seed);
     let noise = Noise::new(&mut rng);
     let mut subject = Subject::new(Call::Step(step));
-    let mut coverage = Coverage::new();
+    let mut coverage = Coverage::default();
     let mut note = |tally: &mut Tally, case: &RunCase| {
         let outcome = subject.compare(case).map(|after| after.number());
         if outcome == Ok(0) {

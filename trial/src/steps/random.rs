@@ -2,7 +2,7 @@
 
 use super::calls::{litter, reopen};
 use super::noise::Noise;
-use crate::machine::carried;
+use crate::machine::{carried, put_code};
 use sim7700::alu::D;
 use sim7700::generate::{refused_by, Rng, RunCase};
 use sim7700::numbers::{BASE, LENGTH, MAX_ADDRESS, MAX_IMAGE, MAX_RAM, RAM, STATE};
@@ -47,12 +47,7 @@ fn image(rng: &mut Rng, noise: &Noise) -> (Vec<u8>, usize) {
     let mut image = noise.mixed(rng, length).to_vec();
     let at = rng.index(length);
     if rng.chance(3, 4) {
-        let &(page, code) = rng.pick(carried());
-        let prefix: &[u8] = [&[][..], &[0x42], &[0x89]][page];
-        let bytes = prefix.iter().copied().chain([code]);
-        for (place, byte) in image[at..].iter_mut().zip(bytes) {
-            *place = byte;
-        }
+        put_code(&mut image, at, *rng.pick(carried()));
     }
     (image, at)
 }

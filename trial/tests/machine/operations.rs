@@ -49,7 +49,7 @@ fn inx_clears(made: &mut Made) {
 /// The address behind the instruction.
 fn next(made: &Made) -> Option<u32> {
     let length = made.instruction()?.length as u32;
-    Some(made.before().pc + length & 0xFF_FFFF)
+    Some((made.before().pc + length) & 0xFF_FFFF)
 }
 
 fn branch_from_itself(made: &mut Made) {

@@ -34,7 +34,7 @@ fn halt_early(made: &mut Made) {
 fn stp_goes_on(made: &mut Made) {
     if made.stops(Word::STP, 22) {
         made.answer = 1 << 16;
-        made.put(|r| r.pc = r.pc + 1 & 0xFF_FFFF);
+        made.put(|r| r.pc = (r.pc + 1) & 0xFF_FFFF);
     }
 }
 
@@ -155,7 +155,7 @@ fn pull_kept(made: &mut Made) {
 
 fn halt_kept(made: &mut Made) {
     if made.stops(Word::WIT, 22) {
-        made.put(|r| r.pc = r.pc + 1 & 0xFF_FFFF);
+        made.put(|r| r.pc = (r.pc + 1) & 0xFF_FFFF);
     }
 }
 
