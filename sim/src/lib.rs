@@ -4,7 +4,7 @@
 //! same packing of the result. "01" in a comment is 01-scope.md, "manual"
 //! the MELPS 7700 Software Manual.
 
-mod alu;
+pub mod alu;
 pub mod answer;
 mod check;
 pub mod codes;

@@ -27,6 +27,11 @@ const MAP_PRIVATE_ANONYMOUS: c_int = 0x22;
 const FRONT: usize = 64;
 const FRONT_BYTE: u8 = 0xA5;
 
+/// Bytes of a buffer that are shown whole; of a longer one those that differ.
+const SHOWN: usize = 64;
+/// Differing bytes of a longer one that are shown.
+const SHOWN_PLACES: usize = 16;
+
 /// A buffer to lend: its last byte lies right before an unmapped page, so
 /// that a read or write past its end faults. A write in front of it is found
 /// by `difference`.
@@ -87,7 +92,7 @@ impl Guarded {
         let (front, bytes) = used.split_at(FRONT);
         let mut difference = String::new();
         if bytes != expected {
-            difference += &format!("{name} after the call: {}\n", hex(bytes));
+            difference += &format!("{name} after the call: {}\n", shown(bytes, expected));
         }
         if front != [FRONT_BYTE; FRONT] {
             difference += &format!("written in front of the {name}: {}\n", hex(front));
@@ -100,6 +105,17 @@ impl Guarded {
         // way that has the pointer.
         unsafe { slice::from_raw_parts(self.map, self.room) }
     }
+}
+
+/// The bytes, or the places where a long buffer is not as expected.
+fn shown(bytes: &[u8], expected: &[u8]) -> String {
+    if bytes.len() <= SHOWN || bytes.len() != expected.len() {
+        return hex(bytes);
+    }
+    let differs = |&at: &usize| bytes[at] != expected[at];
+    let place = |at: usize| format!("{:02X} for {:02X} at {at}", bytes[at], expected[at]);
+    let places = (0..bytes.len()).filter(differs).map(place);
+    places.take(SHOWN_PLACES).collect::<Vec<_>>().join(", ")
 }
 
 impl Drop for Guarded {

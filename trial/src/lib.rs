@@ -6,6 +6,9 @@ pub mod faults;
 pub mod guard;
 pub mod library;
 pub mod lists;
+pub mod machine;
+pub mod runs;
+pub mod steps;
 pub mod tally;
 
 use std::fmt::Write;

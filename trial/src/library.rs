@@ -25,4 +25,25 @@ extern "C" {
         page: *mut u8,
         page_len: usize,
     ) -> u64;
+
+    pub fn m7700_step(
+        image: *const u8,
+        image_len: usize,
+        base: u32,
+        state: *mut u8,
+        state_len: usize,
+        ram: *mut u8,
+        ram_len: usize,
+    ) -> u64;
+
+    pub fn m7700_run(
+        image: *const u8,
+        image_len: usize,
+        base: u32,
+        state: *mut u8,
+        state_len: usize,
+        ram: *mut u8,
+        ram_len: usize,
+        steps: u32,
+    ) -> u64;
 }

@@ -8,20 +8,39 @@ const PRINTED: u64 = 3;
 
 /// Cases by answer, and differences.
 pub struct Tally {
+    /// What the cases have in common, where a trial has several tallies.
+    name: &'static str,
     numbers: &'static [Named],
+    /// How often each of them has to occur.
+    least: u64,
     counts: [u64; 256],
     cases: u64,
     differences: u64,
+    /// What else should have occurred.
+    lacks: Vec<String>,
 }
 
 impl Tally {
     /// `numbers`: those that have to occur.
     pub fn new(numbers: &'static [Named]) -> Tally {
         Tally {
+            name: "",
             numbers,
+            least: 1,
             counts: [0; 256],
             cases: 0,
             differences: 0,
+            lacks: Vec::new(),
+        }
+    }
+
+    /// The tally of cases with a name, each number of which has to occur so
+    /// often.
+    pub fn of(name: &'static str, numbers: &'static [Named], least: u64) -> Tally {
+        Tally {
+            name,
+            least,
+            ..Tally::new(numbers)
         }
     }
 
@@ -39,6 +58,11 @@ impl Tally {
         }
     }
 
+    /// Names something besides the numbers that has occurred too seldom.
+    pub fn lack(&mut self, what: String) {
+        self.lacks.push(what);
+    }
+
     pub fn cases(&self) -> u64 {
         self.cases
     }
@@ -47,13 +71,23 @@ impl Tally {
         self.differences
     }
 
-    /// Numbers that never occurred.
+    /// Numbers that occurred less often than they have to.
     pub fn missing(&self) -> Vec<Named> {
-        let never = |named: &&Named| self.counts[named.0 as usize] == 0;
-        self.numbers.iter().filter(never).copied().collect()
+        let seldom = |named: &&Named| self.counts[named.0 as usize] < self.least;
+        self.numbers.iter().filter(seldom).copied().collect()
+    }
+
+    /// All that has occurred less often than it has to.
+    pub fn lacks(&self) -> Vec<String> {
+        let numbers = self.missing().into_iter();
+        let numbers = numbers.map(|(number, word)| format!("{number} {word}"));
+        numbers.chain(self.lacks.iter().cloned()).collect()
     }
 
     pub fn print(&self) {
+        if !self.name.is_empty() {
+            println!("{}", self.name);
+        }
         for (number, word) in self.numbers {
             let count = self.counts[*number as usize];
             println!("{number:>4} {word:<12}{count:>12}");

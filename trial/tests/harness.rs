@@ -189,6 +189,17 @@ fn sweeps_meet_every_number_from_4_on() {
     assert_eq!(missing, [1, 2, 3]);
 }
 
+#[test]
+fn what_occurs_too_seldom_is_named() {
+    let mut tally = Tally::of("some", &[(1, "one"), (2, "two"), (3, "three")], 2);
+    for number in [1, 2, 1, 1] {
+        tally.note(Ok(number));
+    }
+    assert_eq!(tally.missing(), [(2, "two"), (3, "three")]);
+    tally.lack("a code".into());
+    assert_eq!(tally.lacks(), ["2 two", "3 three", "a code"]);
+}
+
 fn trial(args: &[&str]) -> Output {
     let command = Command::new(env!("CARGO_BIN_EXE_trial"))
         .args(args)
@@ -198,7 +209,7 @@ fn trial(args: &[&str]) -> Output {
 
 #[test]
 fn the_seed_alone_decides() {
-    for name in ["check", "lists"] {
+    for name in ["check", "lists", "steps", "runs"] {
         let once = trial(&[name, "5000", "1"]);
         assert!(once.status.success());
         assert_eq!(once.stdout, trial(&[name, "5000", "1"]).stdout);

@@ -1,7 +1,8 @@
 //! At length 0 the library takes any pointer (include/m7700.h).
 
+use sim7700::state::STATE_BYTES;
 use std::ptr::{null_mut, without_provenance_mut};
-use trial7700::library::{m7700_check, m7700_read_list, m7700_write_list};
+use trial7700::library::{m7700_check, m7700_read_list, m7700_run, m7700_step, m7700_write_list};
 
 #[test]
 fn at_length_0_any_pointer_will_do() {
@@ -30,5 +31,32 @@ fn at_length_0_any_pointer_will_do() {
             ]
         };
         assert_eq!(answers, [14, 1, 1, 15]);
+    }
+}
+
+#[test]
+fn at_length_0_any_pointer_will_do_for_steps() {
+    let image = [0xEA];
+    let mut ram = [0];
+    let mut state = [0; STATE_BYTES];
+    let (code, state, ram) = (image.as_ptr(), state.as_mut_ptr(), ram.as_mut_ptr());
+    for nowhere in [
+        null_mut(),
+        without_provenance_mut(1),
+        without_provenance_mut(usize::MAX),
+    ] {
+        // SAFETY: each pointer is valid for its length, and what is written
+        // overlaps nothing.
+        let answers = unsafe {
+            [
+                m7700_step(nowhere, 0, 0, nowhere, 0, nowhere, 0),
+                m7700_step(code, 1, 1, state, STATE_BYTES, nowhere, 0),
+                m7700_step(code, 1, 1, nowhere, 0, ram, 1),
+                m7700_run(nowhere, 0, 0, nowhere, 0, nowhere, 0, 0),
+                m7700_run(code, 1, 1, state, STATE_BYTES, nowhere, 0, 1),
+                m7700_run(code, 1, 1, nowhere, 0, ram, 1, 1),
+            ]
+        };
+        assert_eq!(answers, [1, 11, 12, 1, 11, 12]);
     }
 }

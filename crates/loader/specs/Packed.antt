@@ -7,8 +7,11 @@ use Rattle.model.specs.declared.lists.ListRead.{ListRead}
 use Rattle.model.specs.declared.lists.ListRead.the-variants.{NotRead, Read}
 use Rattle.model.specs.declared.lists.ListWritten.{ListWritten}
 use Rattle.model.specs.declared.lists.ListWritten.the-variants.{NotWritten, Written}
+use Rattle.model.specs.declared.runs.RunAnswer.{RunAnswer}
+use Rattle.model.specs.declared.runs.RunAnswer.the-variants.{NotRun, Ended}
 use Rattle.model.specs.Image.{addressLimit, bankSize}
 use Rattle.model.specs.MarkList.{refusalNumber}
+use Rattle.model.specs.Run.{stepLimit}
 
 -- the check's answer: the number in the upper 16 bits, the offset in the lower; 0 is accepted
 abbrev pub packedVerdict : Verdict → ℕ
@@ -38,3 +41,8 @@ packedWritten (Written n) = n * 256
 abbrev pub WrittenFits : ListWritten → Type 0
 WrittenFits (NotWritten refusal) = Unit {0}
 WrittenFits (Written n) = n < 72_057_594_037_927_936
+
+-- a run's answer that fits its packing (model/specs/RunBytes.antt)
+abbrev pub RunFits : RunAnswer → Type 0
+RunFits (NotRun why) = Unit {0}
+RunFits (Ended end steps calls) = (steps ≤ stepLimit) × (calls ≤ stepLimit)

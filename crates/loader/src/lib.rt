@@ -1,5 +1,9 @@
 // The interface for loaders written in C (include/m7700.h): numbers and byte slices, each as a pointer and a length.
+pub mod runs;
+
+use crate::runs::pack_run;
 use checker::check;
+use machine::bytes::run;
 use marklist::reader::read_list;
 use marklist::refusal_number;
 use marklist::writer::write_list;
@@ -7,6 +11,8 @@ use model::lists::ListRead;
 use model::lists::ListWritten;
 use model::rules::Verdict;
 ghost use mathlib.Core.Path.{_≡_};
+ghost use Rattle.model.specs.Memory.{memory};
+ghost use Rattle.model.specs.RunBytes.{ranBytes, packedRun};
 ghost use Rattle.model.specs.Verdict.{verdict};
 ghost use Rattle.model.specs.MarkList.{readList, marksRead, writeList, pageWritten};
 ghost use Rattle.loader.specs.Packed.{packedVerdict, Fits, packedRead, ReadFits, packedWritten, WrittenFits};
@@ -65,4 +71,46 @@ pub extern "C" fn m7700_write_list(marks: &[u8], base: u32, reset: u32, page: &m
     ensures page { λ _. ⌜ now (page .exit) ≡ pageWritten (now (marks .entry)) base reset (now (page .entry)) ⌝ }
 {
     pack_written(write_list(marks, base, reset, page))
+}
+
+// A run of the machine: 0 in the low byte and the end, the steps and the calls above it, or the number that refuses it.
+#[no_mangle]
+pub extern "C" fn m7700_run(
+    image: &[u8],
+    base: u32,
+    state: &mut [u8],
+    ram: &mut [u8],
+    steps: u32,
+) -> u64
+    ensures answer { λ r. ⌜
+        r ≡ packedRun (ranBytes (memory (now (ram .entry)) (now (image .entry)) base) (now (state .entry)) steps .answer)
+        ⌝ }
+    ensures state { λ _. ⌜
+        now (state .exit)
+        ≡ ranBytes (memory (now (ram .entry)) (now (image .entry)) base) (now (state .entry)) steps .state
+        ⌝ }
+    ensures ram { λ _. ⌜
+        now (ram .exit)
+        ≡ ranBytes (memory (now (ram .entry)) (now (image .entry)) base) (now (state .entry)) steps .ram
+        ⌝ }
+{
+    pack_run(run(image, base, state, ram, steps))
+}
+
+// A step of the machine: a run of one.
+#[no_mangle]
+pub extern "C" fn m7700_step(image: &[u8], base: u32, state: &mut [u8], ram: &mut [u8]) -> u64
+    ensures answer { λ r. ⌜
+        r ≡ packedRun (ranBytes (memory (now (ram .entry)) (now (image .entry)) base) (now (state .entry)) 1 .answer)
+        ⌝ }
+    ensures state { λ _. ⌜
+        now (state .exit)
+        ≡ ranBytes (memory (now (ram .entry)) (now (image .entry)) base) (now (state .entry)) 1 .state
+        ⌝ }
+    ensures ram { λ _. ⌜
+        now (ram .exit)
+        ≡ ranBytes (memory (now (ram .entry)) (now (image .entry)) base) (now (state .entry)) 1 .ram
+        ⌝ }
+{
+    m7700_run(image, base, state, ram, 1)
 }

@@ -7,28 +7,20 @@ use mathlib.Core.List.{List}
 use Prim.Native.Nat.{ℕ, suc, _+_, _-_, _≤_, _<_}
 use native.Mathlib.Omega.{arith}
 use lib.ListN.{length}
-use Rattle.model.specs.declared.code.Instruction.{Instruction}
-use Rattle.model.specs.declared.code.Decoded.{Decoded}
-use Rattle.model.specs.declared.code.Decoded.the-variants.{Whole, NotCarried, CutOff}
 use Rattle.model.specs.declared.machine.Answer.{Answer}
 use Rattle.model.specs.declared.machine.Answer.the-variants.{Completed, Called, Stopped}
-use Rattle.model.specs.declared.machine.CallChange.{CallChange}
-use Rattle.model.specs.declared.machine.CallChange.the-variants.{Keep, Open, Close}
 use Rattle.model.specs.declared.machine.Core.{Core}
-use Rattle.model.specs.declared.machine.Served.{Served}
-use Rattle.model.specs.declared.machine.Served.the-variants.{All, Refused}
 use Rattle.model.specs.declared.machine.State.{State}
-use Rattle.model.specs.declared.machine.Stop.{Stop}
 use Rattle.model.specs.declared.runs.End.{End}
-use Rattle.model.specs.declared.runs.End.the-variants.{Done, AtStop}
-use Rattle.model.specs.Memory.{Memory, memory, served}
+use Rattle.model.specs.declared.runs.End.the-variants.{Done}
+use Rattle.model.specs.Memory.{Memory, memory}
 use Rattle.model.specs.Status.{bit}
-use Rattle.model.specs.Step.{callLimit, Change, Plan, stops, changes, answerOf, onServed, finish, plan, fetched, onDecoded, step}
-use Rattle.model.specs.Run.{isCompleted, isCall, endAfter, Ran}
-use Rattle.model.proofs.Run.{played, further, ended, run-begins, run-goes-on, run-stops, run-ends}
+use Rattle.model.specs.Step.{callLimit, step}
+use Rattle.model.specs.Run.{isCompleted, isCall, endAfter, Ran, played}
+use Rattle.model.proofs.Run.{further, ended, completed-stops, stopped-leaves}
+use Rattle.model.proofs.Run.{run-begins, run-goes-on, run-stops, run-ends}
 use Rattle.model.proofs.Step.{depth-kept}
 use Rattle.machine.specs.declared.step.Turn.{Turn}
-use Rattle.machine.specs.declared.run.Course.{Course}
 use Rattle.machine.specs.Turns.{state, left, leftBy}
 
 module _ (m : Memory) (s : State) where
@@ -73,41 +65,51 @@ module _ (image : List ℕ) (base : ℕ) (calls₀ ram₀ : List ℕ) (given : C
     abbrev s : State
     s = state core calls
 
-    pub ends : asked ≤ steps → leftBy (record { end = Done; steps = steps; calls = made; core = core }) calls ram ≡ whole
+    pub ends : asked ≤ steps → leftBy (record {
+      end =
+          Done;
+      steps = steps;
+      calls = made;
+      core = core;
+    }) calls ram ≡ whole
     ends h =
         let none : asked - steps ≡ 0 = omega arith in
         let last = rw none at (g .goes) in
         sym (run-ends m s steps made) ∙ last
 
-    module _ (more : steps < asked) (turn : Turn) (calls′ ram′ : List ℕ) (is-step : left turn calls′ ram′ ≡ step m s) where
-      one-more : asked - steps ≡ suc (asked - (steps + 1))
-      one-more = omega (arith, more)
+    module _ (more : steps < asked) (turn : Turn) (calls′ ram′ : List ℕ) (is-step : left turn calls′ ram′ ≡ step m s)
+      where
+        one-more : asked - steps ≡ suc (asked - (steps + 1))
+        one-more = omega (arith, more)
 
-      pub goes-on : isCompleted (turn .answer) ≡ true → length ram′ ≡ length ram → (made′ : ℕ) → made′ ≡ made + bit (isCall (turn .answer))
-          → Going calls′ ram′ (turn .core) (steps + 1) made′
-      goes-on c long made′ e =
-          let answers : step m s .answer ≡ turn .answer = ap (λ t. t .answer) (sym is-step) in
-          let law = run-goes-on m s (asked - (steps + 1)) steps made (rw answers c) in
-          let first = rw one-more at (g .goes) in
-          let deep = depth-kept m s (g .few) in
-          record {
-            goes = rw e (rw (← is-step) at (sym law ∙ first));
-            few = rw (← is-step) at deep;
-            counted = rw e (by (isCall (turn .answer)));
-            within = omega arith;
-            same = long ∙ g .same;
-          }
-        where
-          by : (b : Bool) → made + bit b ≤ steps + 1
-          by true = omega (arith, g .counted)
-          by false = omega (arith, g .counted)
+        pub goes-on : isCompleted (turn .answer) ≡ true → length ram′ ≡ length ram → (made′ : ℕ) → made′ ≡ made + bit
+            (isCall (turn .answer))
+            → Going calls′ ram′ (turn .core) (steps + 1) made′
+        goes-on c long made′ e =
+            let answers : step m s .answer ≡ turn .answer = ap (λ t. t .answer) (sym is-step) in
+            let law = run-goes-on m s (asked - (steps + 1)) steps made (rw answers c) in
+            let first = rw one-more at (g .goes) in
+            let deep = depth-kept m s (g .few) in
+            record {
+              goes = rw e (rw (← is-step) at (sym law ∙ first));
+              few = rw (← is-step) at deep;
+              counted = rw e (by (isCall (turn .answer)));
+              within = omega arith;
+              same = long ∙ g .same;
+            }
+          where
+            by : (b : Bool) → made + bit b ≤ steps + 1
+            by true = omega (arith, g .counted)
+            by false = omega (arith, g .counted)
 
-      pub stops-so : isCompleted (turn .answer) ≡ false → (end : End) → end ≡ endAfter (turn .answer) Done
-          → leftBy (record { end = end; steps = steps; calls = made; core = turn .core }) calls′ ram′ ≡ whole
-      stops-so c end e =
-          let answers : step m s .answer ≡ turn .answer = ap (λ t. t .answer) (sym is-step) in
-          let kept = stopped-leaves m s (rw answers c) in
-          let same-state : state (turn .core) calls′ ≡ s = ap (λ t. t .state) is-step ∙ kept .0 in
-          let same-ram : ram′ ≡ ram = ap (λ t. t .ram) is-step ∙ kept .1 in
-          let first = rw one-more at (g .goes) in
-          rw (e, same-state, same-ram) (sym (stop-ends m s (asked - (steps + 1)) steps made (turn .answer) answers c) ∙ first)
+        pub stops-so : isCompleted (turn .answer) ≡ false → (end : End) → end ≡ endAfter (turn .answer) Done
+            → leftBy (record { end = end; steps = steps; calls = made; core = turn .core }) calls′ ram′ ≡ whole
+        stops-so c end e =
+            let answers : step m s .answer ≡ turn .answer = ap (λ t. t .answer) (sym is-step) in
+            let kept = stopped-leaves m s (rw answers c) in
+            let same-state : state (turn .core) calls′ ≡ s = ap (λ t. t .state) is-step ∙ kept .0 in
+            let same-ram : ram′ ≡ ram = ap (λ t. t .ram) is-step ∙ kept .1 in
+            let first = rw one-more at (g .goes) in
+            rw (e, same-state, same-ram) (sym (stop-ends m s (asked - (steps + 1)) steps made (turn .answer) answers
+            c)
+            ∙ first)

@@ -2,7 +2,7 @@
 -- Assumes nothing.
 use mathlib.Core.Path.{_≡_, refl, sym, ap, _∙_}
 use mathlib.Core.Bool.{Bool, true, false, _&&_}
-use mathlib.Core.List.{List, []}
+use mathlib.Core.List.{[]}
 use Prim.Native.Nat.{ℕ, _≤_, _<_}
 use lib.Dec.{eqb, ltb}
 use borrow.Author.Tests.{lt-ltb, le-ltb, eq-eqb, ne-eqb}
@@ -11,11 +11,9 @@ use Rattle.addressing.specs.declared.reach.DataRead.the-variants.{Found, Unmapp
 use Rattle.addressing.specs.Found.{dataRead}
 use Rattle.cpu.specs.declared.effects.Effect.{Effect}
 use Rattle.cpu.specs.View.{viewed}
-use Rattle.memory.specs.declared.reads.WordRead.{WordRead}
 use Rattle.memory.specs.declared.reads.LongRead.{LongRead}
 use Rattle.memory.specs.declared.reads.LongRead.the-variants.{Long, Unmapped as NoLong}
 use Rattle.memory.specs.declared.stores.Stores.{Stores}
-use Rattle.memory.specs.declared.stores.Stores.the-variants.{None}
 use Rattle.memory.specs.Reads.{wordRead, longRead}
 use Rattle.memory.specs.Listed.{listed}
 use Rattle.memory.proofs.Views.{long-done, long-unmapped}
@@ -40,9 +38,8 @@ use Rattle.model.specs.Step as spec
 use Rattle.model.specs.Step.{Plan, stops, changes, change, callLimit, placeOf, kindOf, returnOf, returnBytes, isDecimal}
 use Rattle.model.specs.Step.{operates, calls, returnsTo, planBy}
 use Rattle.model.proofs.Memory.{onDone, come-bind}
-use Rattle.model.proofs.Step.{decimal-first, pulls-first, deep-first}
-use Rattle.machine.specs.declared.plan.Change.{Change as Kept}
-use Rattle.machine.specs.Planned.{changed, inOwnBank}
+use Rattle.model.proofs.Step.{decimal-first, pulls-first}
+use Rattle.machine.specs.Planned.{inOwnBank}
 
 data-done : (o : Outcome Data) (w : DataRead) (d : Data) → w ≡ dataRead o → w ≡ Found d → o ≡ done d
 data-done (done u) w d e e′ = cc
@@ -74,10 +71,13 @@ module _ (c : Core) (i : Instruction) where
   r = c .registers
 
   -- the effect of an operation, with the address that it goes on at
-  pub worked : (short : Bool) (next to place : ℕ) (given : Data) (e : Effect) → next ≡ spec.next c i → short ≡ spec.short c i
-      → viewed e ≡ effectOf (i .entry .mode) (i .entry .accumulator) short (i .operand) next given r (i .entry .operation)
+  pub worked : (short : Bool) (next to place : ℕ) (given : Data) (e : Effect) → next ≡ spec.next c i → short ≡
+      spec.short c i
+      → viewed e ≡ effectOf (i .entry .mode) (i .entry .accumulator) short (i .operand) next given r (i .entry
+      .operation)
       → place ≡ pick (e .taken) to next
-      → changes (change (e .registers) place Keep (listed (e .stores))) ≡ spec.works c i (λ taken. pick taken to next) given
+      → changes (change (e .registers) place Keep (listed (e .stores))) ≡ spec.works c i (λ taken. pick taken to
+      next) given
   worked short next to place given e is-next is-short is-effect goes =
       rw (goes, ← is-next, ← is-short, ← is-effect) refl
 
@@ -90,23 +90,25 @@ module _ (c : Core) (i : Instruction) where
     stops-decimal h = sym (decimal-first m c i goes (is-tested ∙ h))
 
     module _ (short : Bool) (is-short : short ≡ spec.short c i) (w : DataRead) (h : decimal ≡ false)
-        (read : w ≡ dataRead (come m (dataOf access (i .entry .mode) (i .entry .accumulator) r short (i .operand)))) where
-      abbrev asked : Outcome Data
-      asked =
-          come m (dataOf (accessOf (i .entry .operation)) (i .entry .mode) (i .entry .accumulator) r (spec.short c i)
-          (i .operand))
+        (read : w ≡ dataRead (come m (dataOf access (i .entry .mode) (i .entry .accumulator) r short (i .operand))))
+      where
+        abbrev asked : Outcome Data
+        asked =
+            come m (dataOf (accessOf (i .entry .operation)) (i .entry .mode) (i .entry .accumulator) r (spec.short c
+            i)
+            (i .operand))
 
-      again : w ≡ dataRead asked
-      again = rw (← is-access, ← is-short) read
+        again : w ≡ dataRead asked
+        again = rw (← is-access, ← is-short) read
 
-      pub stops-unmapped : w ≡ NoData → stops Unmapped ≡ operates c i m goes
-      unfolding operates
-      stops-unmapped e =
-          rw (is-tested, h, data-unmapped asked w again e) refl
+        pub stops-unmapped : w ≡ NoData → stops Unmapped ≡ operates c i m goes
+        unfolding operates
+        stops-unmapped e =
+            rw (is-tested, h, data-unmapped asked w again e) refl
 
-      pub goes-on : (d : Data) → w ≡ Found d → (p : Plan) → p ≡ spec.works c i goes d → p ≡ operates c i m goes
-      unfolding operates
-      goes-on d e p is-plan = rw (is-tested, h, data-done asked w d again e) is-plan
+        pub goes-on : (d : Data) → w ≡ Found d → (p : Plan) → p ≡ spec.works c i goes d → p ≡ operates c i m goes
+        unfolding operates
+        goes-on d e p is-plan = rw (is-tested, h, data-done asked w d again e) is-plan
 
   -- a call
   pub too-deep : (kind : Kind) → callLimit ≤ c .depth → stops Deep ≡ calls c i kind
@@ -114,7 +116,8 @@ module _ (c : Core) (i : Instruction) where
   too-deep kind h = rw (le-ltb (c .depth) callLimit h) refl
 
   pub called : (kind : Kind) (after : Registers) (place address n : ℕ) (stores : Stores) → c .depth < callLimit
-      → after ≡ withS (pushedAt r (returnBytes kind)) r → place ≡ spec.target c i → address ≡ spec.next c i → n ≡ kindNumber kind
+      → after ≡ withS (pushedAt r (returnBytes kind)) r → place ≡ spec.target c i → address ≡ spec.next c i → n ≡
+      kindNumber kind
       → listed stores ≡ spec.pushesReturn c i kind
       → changes (change after place (Open address n) (listed stores)) ≡ calls c i kind
   unfolding calls
@@ -136,7 +139,8 @@ module _ (c : Core) (i : Instruction) where
       pub other-address : (returnOf opened ≡ address → ⊥) → stops Astray ≡ returnsTo c i opened kind address
       unfolding returnsTo
       other-address h =
-          rw (no-second (ltb 0 (c .depth) && eqb (kindOf opened) (kindNumber kind)) (eqb (returnOf opened) address) (ne-eqb
+          rw (no-second (ltb 0 (c .depth) && eqb (kindOf opened) (kindNumber kind)) (eqb (returnOf opened) address)
+          (ne-eqb
           (returnOf opened) address h)) refl
 
       pub returned : (after : Registers) → 0 < c .depth → kindOf opened ≡ n → returnOf opened ≡ address
@@ -154,7 +158,8 @@ module _ (c : Core) (i : Instruction) where
   module _ (m : Memory) (opened : ℕ) where
     module _ (kind : Kind) (w : LongRead) (read : w ≡ longRead (come m (spec.pullsReturn c i kind))) where
       pub return-unmapped : w ≡ NoLong → stops Unmapped ≡ planBy c i m opened (Return kind)
-      return-unmapped e = sym (pulls-first m c i opened kind (long-unmapped (come m (spec.pullsReturn c i kind)) w read e))
+      return-unmapped e =
+          sym (pulls-first m c i opened kind (long-unmapped (come m (spec.pullsReturn c i kind)) w read e))
 
       pub return-to : (address : ℕ) → w ≡ Long address → (p : Plan) → p ≡ returnsTo c i opened kind address
           → p ≡ planBy c i m opened (Return kind)
@@ -163,7 +168,8 @@ module _ (c : Core) (i : Instruction) where
 
     -- by flow
     module _ (flow : Flow) (p : Plan) where
-      pub as-next : (next : ℕ) → flow ≡ Next → next ≡ spec.next c i → p ≡ operates c i m (λ taken. pick taken next next)
+      pub as-next : (next : ℕ) → flow ≡ Next → next ≡ spec.next c i → p ≡ operates c i m (λ taken. pick taken next
+          next)
           → p ≡ planBy c i m opened flow
       unfolding planBy
       as-next next e is-next is-plan =
@@ -183,7 +189,8 @@ module _ (c : Core) (i : Instruction) where
       unfolding planBy
       as-call kind e is-plan = rw e is-plan
 
-      pub as-return : (kind : Kind) → flow ≡ Return kind → p ≡ planBy c i m opened (Return kind) → p ≡ planBy c i m opened flow
+      pub as-return : (kind : Kind) → flow ≡ Return kind → p ≡ planBy c i m opened (Return kind) → p ≡ planBy c i m
+          opened flow
       as-return kind e is-plan = rw e is-plan
 
       pub as-halt : flow ≡ Halt → p ≡ stops Halted → p ≡ planBy c i m opened flow

@@ -1,22 +1,21 @@
 -- What the functions give makes the definition's step.
 -- Assumes nothing.
-use mathlib.Core.Path.{_≡_, refl, sym, ap, _∙_}
+use mathlib.Core.Path.{_≡_, refl, sym, _∙_}
 use mathlib.Core.List.{List}
 use Prim.Native.Nat.{ℕ, _-_}
 use lib.ListN.{getD}
 use Rattle.model.specs.declared.code.Instruction.{Instruction}
 use Rattle.model.specs.declared.code.Decoded.{Decoded}
 use Rattle.model.specs.declared.code.Decoded.the-variants.{Whole, NotCarried, CutOff}
-use Rattle.model.specs.declared.machine.Answer.{Answer}
 use Rattle.model.specs.declared.machine.Core.{Core}
 use Rattle.model.specs.declared.machine.Stop.{Stop}
 use Rattle.model.specs.declared.machine.Stop.the-variants.{Outside, Uncarried}
 use Rattle.model.specs.declared.machine.Served.{Served}
-use Rattle.model.specs.declared.machine.Served.the-variants.{All, Refused}
+use Rattle.model.specs.declared.machine.Served.the-variants.{Refused}
 use Rattle.memory.specs.Listed.{listed}
-use Rattle.model.specs.Memory.{memory, served, stored}
+use Rattle.model.specs.Memory.{memory, served}
 use Rattle.model.specs.Step as spec
-use Rattle.model.specs.Step.{Stepped, stops, changes, planBy, fetched, step}
+use Rattle.model.specs.Step.{Stepped, changes, planBy, fetched, step}
 use Rattle.model.proofs.Step.{Opens, PlanOpens, opens-below}
 use Rattle.machine.specs.declared.plan.Change.{Change}
 use Rattle.machine.specs.declared.plan.Plan.{Plan}

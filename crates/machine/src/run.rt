@@ -11,9 +11,8 @@ ghost use Rattle.codepages.specs.Packing.{numbers};
 ghost use Rattle.model.specs.Image.{addressLimit, imageLimit};
 ghost use Rattle.model.specs.Memory.{memory};
 ghost use Rattle.model.specs.declared.runs.End.the-variants.{Done};
-ghost use Rattle.model.specs.Run.{stepLimit, isCompleted, isCall, endAfter};
+ghost use Rattle.model.specs.Run.{stepLimit, isCompleted, isCall, endAfter, played};
 ghost use Rattle.model.specs.Status.{bit};
-ghost use Rattle.model.proofs.Run.{played};
 ghost use Rattle.model.specs.Step.{callLimit};
 ghost use Rattle.machine.specs.Turns.{state, leftBy};
 

@@ -42,7 +42,7 @@ use Rattle.model.specs.declared.runs.End.the-variants.{Done, AtStop}
 use Rattle.model.specs.Choice.{pick}
 use Rattle.model.specs.CodeMap.{prefixBytes, entryAt}
 use Rattle.model.specs.Image.{bankSize, addressLimit, isStart, markM, markX, markKind, returnM, returnX, markOf}
-use Rattle.model.specs.Image.{baseFits, markAt}
+use Rattle.model.specs.Image.{markAt}
 use Rattle.model.specs.Decode.{pageOf, decode}
 use Rattle.model.specs.Rules.{nextAddress, mAfter, xAfter, kindNumber, want, markOfRoutine, markOnReturn}
 use Rattle.model.specs.Rules.{markAfter, owedBy, owedAt, returnsBy, returnFits, Met, AllMet, StartRules, Accepts}
@@ -65,7 +65,7 @@ use Rattle.model.proofs.CodeMap.{call-keeps, return-keeps}
 use Rattle.model.proofs.Decode.{decodes, decoded-entry}
 use Rattle.model.proofs.Widths.{m-after-bit, x-after-bit, kind-bits}
 use Rattle.model.proofs.Verdict.{both-true, accepted-rules}
-use Rattle.model.proofs.Image.{right-length}
+use Rattle.model.proofs.Image.{right-length, base-whole}
 use Rattle.model.proofs.Step.{bytes-inside, is-inside}
 use Rattle.model.proofs.Run.{onward, by-first-step, state-passes, all-asked, admitted-ran, refused-ran}
 
@@ -471,14 +471,6 @@ module _ (marks : List ℕ) (base : ℕ) (s : State) (i : Instruction) (st : Sta
   plan-good m Halt call return fits met = omega arith
 
 -- ---- a step
-
-base-whole : (base n : ℕ) → baseFits base n ≡ true → base + n ≤ addressLimit
-unfolding baseFits
-base-whole base n h =
-    let both = both-true (ltb base addressLimit) (leb (base % bankSize + n) bankSize) h in
-    let below = ltb-true base addressLimit (both .0) in
-    let fits = leb-true (base % bankSize + n) bankSize (both .1) in
-    omega arith
 
 -- a call and a return keep the widths
 module _ (bytes : List ℕ) (m x : ℕ) (i : Instruction) (whole : decode bytes m x ≡ Whole i) (kind : Kind) where

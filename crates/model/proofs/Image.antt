@@ -35,6 +35,15 @@ unfolding baseFits
 base-below base n h =
     ltb-true base addressLimit (both-true (ltb base addressLimit) (leb (base % bankSize + n) bankSize) h .0)
 
+-- the image ends within the 24-bit addresses
+pub base-whole : (base n : ℕ) → baseFits base n ≡ true → base + n ≤ addressLimit
+unfolding baseFits
+base-whole base n h =
+    let both = both-true (ltb base addressLimit) (leb (base % bankSize + n) bankSize) h in
+    let below = ltb-true base addressLimit (both .0) in
+    let fits = leb-true (base % bankSize + n) bankSize (both .1) in
+    omega arith
+
 -- what is counted of the marks from i on
 abbrev pub Counted : List ℕ → ℕ → ℕ → Type 0
 Counted marks n i = (i ≤ length marks) × (n ≡ startCount (drop i marks)) × (n + i ≤ length marks)

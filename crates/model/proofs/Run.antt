@@ -31,7 +31,7 @@ use Rattle.model.specs.Choice.{pick}
 use Rattle.model.specs.Status.{bit}
 use Rattle.model.specs.Memory.{Memory, memory, served}
 use Rattle.model.specs.Step.{Change, Plan, stops, changes, answerOf, onServed, finish, plan, fetched, onDecoded}
-use Rattle.model.specs.Step.{Stepped, step}
+use Rattle.model.specs.Step.{step}
 use Rattle.model.specs.Run.{isCompleted, isCall, Event, event, withRam, history, completedSteps}
 use Rattle.model.specs.Run.{endAfter, endOf, endNumber, stateLeft, ramLeft, Ran}
 use Rattle.model.specs.Run.{admission, admittedHistory, runHistory, played, ran, oneStep}

@@ -8,7 +8,6 @@ use lib.ListN.{length}
 use borrow.Author.Tests.{eq-eqb, ne-eqb}
 use Rattle.model.specs.declared.runs.Admission.{Admission}
 use Rattle.model.specs.declared.runs.Admission.the-variants.{Admitted, Refused}
-use Rattle.model.specs.declared.runs.RunRefusal.{RunRefusal}
 use Rattle.model.specs.declared.runs.RunAnswer.the-variants.{NotRun}
 use Rattle.model.specs.Memory.{Memory}
 use Rattle.model.specs.Run.{admissionBy, admission, ran}

@@ -83,6 +83,45 @@ parted-joined size (value ∷ values) small =
       parted-joined size values (λ k. small (suc k)),
     )
 
+-- ---- a state to bytes and back
+
+module _ (s : State) (k : Keeps s) where
+  core-head : coreOf (bytesOf s) ≡ s .core
+  unfolding coreOf bytesOf headOf joined lowBytes
+  core-head = λ j. record {
+    registers =
+        record {
+          a = number-low 2 (s .core .registers .a) (k .a) j;
+          b = number-low 2 (s .core .registers .b) (k .b) j;
+          x = number-low 2 (s .core .registers .x) (k .x) j;
+          y = number-low 2 (s .core .registers .y) (k .y) j;
+          s = number-low 2 (s .core .registers .s) (k .s) j;
+          dpr = number-low 2 (s .core .registers .dpr) (k .dpr) j;
+          dt = number-low 1 (s .core .registers .dt) (k .dt) j;
+          status = same-status j;
+        };
+    pc = number-low 2 (s .core .pc) (k .pc) j;
+    pg = number-low 1 (s .core .pg) (k .pg) j;
+    depth = number-low 2 (s .core .depth) (k .depth) j;
+  }
+    where
+      given : Status
+      given = s .core .registers .status
+
+      same-status : statusOf (number (lowBytes 2 (numberOf given))) ≡ given
+      same-status = ap statusOf (number-low 2 (numberOf given) (status-bound given (k .level))) ∙ number-status given
+
+  entries-behind : drop headSize (bytesOf s) ≡ joined entrySize (s .calls)
+  unfolding bytesOf headOf joined lowBytes
+  entries-behind = refl
+
+  calls-behind : parted entrySize callLimit (drop headSize (bytesOf s)) ≡ s .calls
+  calls-behind = rw (entries-behind, ← k .calls) (parted-joined entrySize (s .calls) (k .entries))
+
+  pub state-bytes : stateOf (bytesOf s) ≡ s
+  unfolding stateOf
+  state-bytes = λ j. record { core = core-head j; calls = calls-behind j }
+
 -- ---- bytes to a state and back
 
 parted-from : (size n at : ℕ) (bytes : List ℕ)
@@ -144,42 +183,3 @@ bytes-state bytes long small =
       ← take-add headSize (entrySize * callLimit) bytes,
     )
     (take-all stateSize bytes (omega arith))
-
--- ---- a state to bytes and back
-
-module _ (s : State) (k : Keeps s) where
-  core-head : coreOf (bytesOf s) ≡ s .core
-  unfolding coreOf bytesOf headOf joined lowBytes
-  core-head = λ j. record {
-    registers =
-        record {
-          a = number-low 2 (s .core .registers .a) (k .a) j;
-          b = number-low 2 (s .core .registers .b) (k .b) j;
-          x = number-low 2 (s .core .registers .x) (k .x) j;
-          y = number-low 2 (s .core .registers .y) (k .y) j;
-          s = number-low 2 (s .core .registers .s) (k .s) j;
-          dpr = number-low 2 (s .core .registers .dpr) (k .dpr) j;
-          dt = number-low 1 (s .core .registers .dt) (k .dt) j;
-          status = same-status j;
-        };
-    pc = number-low 2 (s .core .pc) (k .pc) j;
-    pg = number-low 1 (s .core .pg) (k .pg) j;
-    depth = number-low 2 (s .core .depth) (k .depth) j;
-  }
-    where
-      given : Status
-      given = s .core .registers .status
-
-      same-status : statusOf (number (lowBytes 2 (numberOf given))) ≡ given
-      same-status = ap statusOf (number-low 2 (numberOf given) (status-bound given (k .level))) ∙ number-status given
-
-  entries-behind : drop headSize (bytesOf s) ≡ joined entrySize (s .calls)
-  unfolding bytesOf headOf joined lowBytes
-  entries-behind = refl
-
-  calls-behind : parted entrySize callLimit (drop headSize (bytesOf s)) ≡ s .calls
-  calls-behind = rw (entries-behind, ← k .calls) (parted-joined entrySize (s .calls) (k .entries))
-
-  pub state-bytes : stateOf (bytesOf s) ≡ s
-  unfolding stateOf
-  state-bytes = λ j. record { core = core-head j; calls = calls-behind j }

@@ -1,25 +1,40 @@
-//! trial check|lists [CASES] [SEED]: compares the library with the simulator.
+//! trial check|lists|steps|runs [CASES] [SEED]: compares the library with the
+//! simulator.
 
 use std::env;
 use std::process::ExitCode;
 use trial7700::tally::Tally;
-use trial7700::{check, faults, lists};
+use trial7700::{check, faults, lists, runs, steps};
 
-const CASES: u64 = 1_000_000;
+/// A trial with its name, and its cases if no number is given.
+type Trial = (&'static str, u64, fn(u64, u64) -> Vec<Tally>);
+
+const TRIALS: [Trial; 4] = [
+    ("check", 1_000_000, |cases, seed| {
+        vec![check::trial(cases, seed)]
+    }),
+    ("lists", 1_000_000, |cases, seed| {
+        lists::trial(cases, seed).into()
+    }),
+    ("steps", 1_000_000, |cases, seed| {
+        steps::trial(cases, seed).into()
+    }),
+    ("runs", 500_000, |cases, seed| {
+        runs::trial(cases, seed).into()
+    }),
+];
 const SEED: u64 = 7700;
 
 fn main() -> ExitCode {
     let args: Vec<String> = env::args().skip(1).collect();
-    let Some((name, cases, seed)) = wanted(&args) else {
-        return usage();
+    let Some(((_, usual, trial), cases, seed)) = wanted(&args) else {
+        eprintln!("usage: trial check|lists|steps|runs [CASES] [SEED]");
+        return ExitCode::from(2);
     };
     faults::report();
-    let tallies = match name {
-        "check" => vec![check::trial(cases, seed)],
-        "lists" => lists::trial(cases, seed).into(),
-        _ => return usage(),
-    };
-    let passed = tallies.iter().filter(|tally| passes(tally, cases)).count();
+    let tallies = trial(cases, seed);
+    let whole = cases >= usual;
+    let passed = tallies.iter().filter(|tally| passes(tally, whole)).count();
     if passed == tallies.len() {
         ExitCode::SUCCESS
     } else {
@@ -27,26 +42,24 @@ fn main() -> ExitCode {
     }
 }
 
-fn usage() -> ExitCode {
-    eprintln!("usage: trial check|lists [CASES] [SEED]");
-    ExitCode::from(2)
-}
-
-fn wanted(args: &[String]) -> Option<(&str, u64, u64)> {
-    let number = |at: usize, default| args.get(at).map_or(Some(default), |n| n.parse().ok());
+fn wanted(args: &[String]) -> Option<(Trial, u64, u64)> {
+    let number = |at: usize, usual| args.get(at).map_or(Some(usual), |n| n.parse().ok());
     if args.len() > 3 {
         return None;
     }
-    Some((args.first()?, number(1, CASES)?, number(2, SEED)?))
+    let trial = *TRIALS
+        .iter()
+        .find(|trial| args.first().is_some_and(|name| name == trial.0))?;
+    Some((trial, number(1, trial.1)?, number(2, SEED)?))
 }
 
-/// Prints a tally. A trial of the default size or more has to meet every
-/// number.
-fn passes(tally: &Tally, cases: u64) -> bool {
+/// Prints a tally. A trial of the usual size or more has to meet all that can
+/// occur.
+fn passes(tally: &Tally, whole: bool) -> bool {
     tally.print();
-    let missing = tally.missing();
-    for (number, word) in &missing {
-        println!("never met: {number} {word}");
+    let lacks = tally.lacks();
+    for lack in &lacks {
+        println!("met too seldom: {lack}");
     }
-    tally.differences() == 0 && (cases < CASES || missing.is_empty())
+    tally.differences() == 0 && (!whole || lacks.is_empty())
 }

@@ -1,17 +1,17 @@
-//! bench check|lists: times the library beside the simulator on the same
+//! bench check|lists|runs: times the library beside the simulator on the same
 //! inputs. Every ratio is library time over simulator time.
 
+mod clock;
+mod runs;
+
+use clock::{row, Input};
 use sim7700::generate::{CheckCase, Rng};
 use std::env;
-use std::hint::black_box;
 use std::process::ExitCode;
-use std::time::Instant;
 use trial7700::check::cases::{mixed_code, one_byte_codes};
 use trial7700::library::{m7700_check, m7700_read_list, m7700_write_list};
 use trial7700::lists::cases::{every_start, Marked};
 
-/// Batches of each side; the best counts.
-const BATCHES: usize = 50;
 /// Calls in a batch, long beside the clock's own cost.
 const CALLS: usize = 20;
 const SEED: u64 = 7700;
@@ -23,8 +23,9 @@ fn main() -> ExitCode {
     match args.iter().map(String::as_str).collect::<Vec<_>>()[..] {
         ["check"] => check(),
         ["lists"] => lists(),
+        ["runs"] => runs::timed(),
         _ => {
-            eprintln!("usage: bench check|lists");
+            eprintln!("usage: bench check|lists|runs");
             return ExitCode::from(2);
         }
     }
@@ -71,8 +72,12 @@ fn checked(name: &str, cases: &[CheckCase]) -> f64 {
     }
     let bytes: usize = cases.iter().map(|case| case.image.len()).sum();
     let time = row(
-        [name, "bytes"],
-        bytes,
+        Input {
+            name,
+            unit: "bytes",
+            units: bytes,
+            calls: CALLS,
+        },
         || {
             let answer = |case: &CheckCase| {
                 let (image, marks) = (case.image.as_ptr(), case.marks.as_ptr());
@@ -83,9 +88,8 @@ fn checked(name: &str, cases: &[CheckCase]) -> f64 {
             cases.iter().map(|case| answer(case) as u64).sum()
         },
         || {
-            let answer = |case: &CheckCase| {
-                sim7700::check(&case.image, &case.marks, case.base, case.reset)
-            };
+            let answer =
+                |case: &CheckCase| sim7700::check(&case.image, &case.marks, case.base, case.reset);
             cases.iter().map(|case| answer(case) as u64).sum()
         },
     );
@@ -99,8 +103,12 @@ fn written(marked: &Marked) -> f64 {
     let starts = marks.len();
     let [mut page, mut other] = [0; 2].map(|byte| vec![byte; marked.list().len()]);
     let time = row(
-        ["written", "starts"],
-        starts,
+        Input {
+            name: "written",
+            unit: "starts",
+            units: starts,
+            calls: CALLS,
+        },
         // SAFETY: the pointers are valid for the lengths, and the page is
         // lent to nothing else.
         || unsafe {
@@ -119,8 +127,12 @@ fn read(marked: &Marked) -> f64 {
     let starts = marked.marks.len();
     let [mut marks, mut other] = [0; 2].map(|byte| vec![byte; starts]);
     let time = row(
-        ["read", "starts"],
-        starts,
+        Input {
+            name: "read",
+            unit: "starts",
+            units: starts,
+            calls: CALLS,
+        },
         // SAFETY: the pointers are valid for the lengths, and the marks are
         // lent to nothing else.
         || unsafe { m7700_read_list(text.as_ptr(), text.len(), marks.as_mut_ptr(), starts) },
@@ -128,44 +140,4 @@ fn read(marked: &Marked) -> f64 {
     );
     assert_eq!(marks, marked.marks, "not read");
     time
-}
-
-/// Times and prints one input of so many units; the library's best time of a
-/// call in ns.
-fn row(
-    [name, unit]: [&str; 2],
-    units: usize,
-    mut library: impl FnMut() -> u64,
-    mut simulator: impl FnMut() -> u64,
-) -> f64 {
-    assert_eq!(library(), simulator(), "the answers differ");
-    let (proved, simulated) = best(&mut library, &mut simulator);
-    println!(
-        "{name:<17}{units:>7} {unit:<6}    {:>9.2}  {:>9.2}  {:>5.2}",
-        proved / units as f64,
-        simulated / units as f64,
-        proved / simulated
-    );
-    proved
-}
-
-/// The best times of a call of library and simulator in ns. Both in turn, so
-/// that what else the machine does meets them alike.
-fn best(library: &mut dyn FnMut() -> u64, simulator: &mut dyn FnMut() -> u64) -> (f64, f64) {
-    let mut best = (f64::MAX, f64::MAX);
-    for _ in 0..BATCHES {
-        best.0 = best.0.min(batch(library));
-        best.1 = best.1.min(batch(simulator));
-    }
-    best
-}
-
-/// The time of one call, in ns.
-#[inline(never)]
-fn batch(call: &mut dyn FnMut() -> u64) -> f64 {
-    let begun = Instant::now();
-    for _ in 0..CALLS {
-        black_box(call());
-    }
-    begun.elapsed().as_nanos() as f64 / CALLS as f64
 }

@@ -1,0 +1,3 @@
+-- The theorem over the table.
+pub mod Returning
+pub mod ProvedSet

@@ -1,0 +1,75 @@
+-- A step that completes and leaves state and RAM as they were is followed by itself: by induction a history of n such
+-- steps is its one event n times, and what such a list comes to, again by induction, is the start.
+-- Assumes nothing.
+use mathlib.Core.Path.{_≡_, refl, ap, _∙_}
+use mathlib.Core.List.{_∷_}
+use Prim.Native.Nat.{ℕ, zero, suc, _≤_}
+use native.Mathlib.Omega.{arith}
+use lib.ListN.{replicate}
+use Rattle.model.specs.declared.machine.State.{State}
+use Rattle.model.specs.declared.machine.Answer.the-variants.{Completed}
+use Rattle.model.specs.declared.runs.Admission.the-variants.{Admitted}
+use Rattle.model.specs.declared.runs.End.the-variants.{Done}
+use Rattle.model.specs.declared.runs.RunAnswer.the-variants.{Ended}
+use Rattle.model.specs.Memory.{Memory}
+use Rattle.model.specs.Step.{stepped, step}
+use Rattle.model.specs.Run.{stepLimit, Event, withRam, history, completedSteps, callsAmong, endOf}
+use Rattle.model.specs.Run.{stateLeft, ramLeft, admission, ran}
+use Rattle.model.specs.Guarantee.{Every}
+use Rattle.model.proofs.Run.{goes-on, admitted-ran}
+use Rattle.cases.specs.Rows.{Returns}
+
+module _ (m : Memory) (s : State) where
+  -- the event of such a step
+  abbrev still : Event
+  still = record { ram = m .ram; state = s; result = stepped Completed s (m .ram) }
+
+  begins : (n : ℕ) → Every (λ e. (e .state ≡ s) × (e .ram ≡ m .ram)) (replicate n still)
+  begins zero = tt
+  begins (suc n) = ((refl, refl), begins n)
+
+  ends : (n : ℕ) → endOf (replicate n still) ≡ Done
+  ends zero = refl
+  ends (suc n) = ends n
+
+  completes : (n : ℕ) → completedSteps (replicate n still) ≡ n
+  completes zero = refl
+  completes (suc n) = omega (arith, completes n)
+
+  calls-none : (n : ℕ) → callsAmong (replicate n still) ≡ 0
+  calls-none zero = refl
+  calls-none (suc n) = omega (arith, calls-none n)
+
+  state-back : (n : ℕ) → stateLeft s (replicate n still) ≡ s
+  state-back zero = refl
+  state-back (suc n) = state-back n
+
+  ram-back : (n : ℕ) → ramLeft (m .ram) (replicate n still) ≡ m .ram
+  ram-back zero = refl
+  ram-back (suc n) = ram-back n
+
+  module _ (same : step m s ≡ stepped Completed s (m .ram)) where
+    repeated : (n : ℕ) → history m s n ≡ replicate n still
+    unfolding history
+    repeated zero = refl
+    repeated (suc n) =
+        goes-on m s n (rw same refl)
+        ∙ ap (λ r. record { ram = m .ram; state = s; result = r } ∷ history (withRam (r .ram) m) (r .state) n) same
+        ∙ ap (λ h. still ∷ h) (repeated n)
+
+    -- a run that is not refused
+    run-back : (n : ℕ) → admission m s n ≡ Admitted
+        → ran m s n ≡ record { answer = Ended Done n 0; state = s; ram = m .ram }
+    run-back n a =
+        admitted-ran m s n a .1 ∙ rw (repeated n, ends n, completes n, calls-none n, state-back n, ram-back n) refl
+
+    pub returning : ((n : ℕ) → n ≤ stepLimit → admission m s n ≡ Admitted) → (n : ℕ) → Returns m s n
+    returning admitted n = record {
+      begins = rw (repeated n) (begins n);
+      end = rw (repeated n) (ends n);
+      completed = rw (repeated n) (completes n);
+      calls = rw (repeated n) (calls-none n);
+      state = rw (repeated n) (state-back n);
+      ram = rw (repeated n) (ram-back n);
+      run = λ h. run-back n (admitted n h);
+    }

@@ -1,0 +1,61 @@
+-- The invariant: the fields that are left, put into the bytes as they are, give what is promised.
+-- Assumes nothing.
+use Prim.Native.Nat.{_-_}
+use native.Mathlib.Omega.{arith}
+use borrow.Author.Needs.{needs}
+use lib.ListN.{length}
+use Rattle.statebytes.proofs.Turns.{AllLeft, every-left, field-room, field-less, no-field-left}
+use Rattle.statebytes.proofs.fields.put_fields.Statement.{statement}
+use Rattle.statebytes.proofs.fields.put_fields.Tie as tie
+
+abbrev Inv-loop : tie.InvT-loop
+Inv-loop bytes₀ from size values at₀ i₀ bytes at i = AllLeft bytes₀ from size values bytes at i
+
+abbrev μ-loop : tie.MeasureT-loop
+μ-loop bytes₀ from size values at₀ i₀ bytes at i = length values - i
+
+loop-holds : tie.Need-loop-holds Inv-loop μ-loop
+loop-holds c =
+    let start = c .before .before in
+    every-left (start .args .bytes .now) (start .args .from) (start .args .size) (start .args .values .now)
+
+put-field-requires : tie.Need-put-field-requires Inv-loop μ-loop
+put-field-requires c κs =
+    let start = c .before .before .before .before .before .before in
+    let loop = c .before .before .before .loop in
+    field-room (start .args .bytes .now) (start .args .from) (start .args .size) (start .args .values .now)
+    (loop .bytes) (loop .at) (loop .i) (start .pre) (c .before .before .loop-test .taken) (loop .inv)
+
+add-at : tie.Need-add-at Inv-loop μ-loop
+add-at c =
+    let start = c .before .before .before .before .before .before .before .before .before in
+    let loop = c .before .before .before .before .before .before .loop in
+    omega (
+      arith,
+      field-room (start .args .bytes .now) (start .args .from) (start .args .size) (start .args .values .now)
+          (loop .bytes) (loop .at) (loop .i) (start .pre) (c .before .before .before .before .before .loop-test .taken)
+          (loop .inv),
+    )
+
+loop-again : tie.Need-loop-again Inv-loop μ-loop
+loop-again c =
+    let start = c .before .before .before .before .before .before .before .before .before in
+    let loop = c .before .before .before .before .before .before .loop in
+    field-less (start .args .bytes .now) (start .args .from) (start .args .size) (start .args .values .now)
+    (loop .bytes) (loop .at) (loop .i) (start .pre) (c .before .before .before .before .before .loop-test .taken)
+    (loop .inv) (c .before .before .put-field .last .0) (c .before .before .put-field .ensures)
+
+same-length : tie.Need-same-length Inv-loop μ-loop
+same-length c = c .before .loop .inv .1
+
+returns : tie.Need-returns Inv-loop μ-loop
+returns c =
+    let start = c .before .before .before .before in
+    let loop = c .before .loop in
+    no-field-left (start .args .bytes .now) (start .args .from) (start .args .size) (start .args .values .now)
+    (loop .bytes) (loop .at) (loop .i) (c .loop-test .left) (loop .inv)
+
+pub put-fields-spec : {M : Type 1} → statement M
+put-fields-spec =
+    tie.close (tie.spec Inv-loop μ-loop loop-holds (λ c. search needs) (λ c. search needs) put-field-requires add-at
+    (λ c. search needs) (λ c. search needs) loop-again same-length returns)
