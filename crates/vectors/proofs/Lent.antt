@@ -2,16 +2,18 @@
 -- Assumes nothing.
 use mathlib.Core.Path.{_≡_, refl, sym, ap, _∙_}
 use mathlib.Core.Bool.{Bool, true, false, _&&_}
-use mathlib.Core.List.{List, _++_}
+use mathlib.Core.List.{List, [], _++_, append-nil}
 use Prim.Native.Nat.{ℕ, _+_, _≤_, _<_}
 use native.Mathlib.Numerals.{add-one}
 use native.Mathlib.Omega.{arith}
+use borrow.Author.Tests.{eq-eqb, eqb-true}
 use lib.Dec.{eqb}
 use lib.ListN.{length, getD, take, drop, drop-of-length-le, take-append-drop}
-use lib.Seq.{drop-cons, take-append-seam}
+use lib.Seq.{drop-cons, take-append-seam, take-all}
 use Rattle.model.specs.Digits.{startsWith}
 use Rattle.model.proofs.Digits.{starts-split, starts-append, starts-long}
-use Rattle.vectors.specs.Buffers.{allAre, holds}
+use Rattle.model.proofs.Verdict.{both-true}
+use Rattle.vectors.specs.Buffers.{sameBytes, allAre, holds}
 
 pub one-more-byte : (bytes : List ℕ) (value i : ℕ) → i < length bytes
     → allAre (drop i bytes) value ≡ (eqb (getD bytes i 0) value && allAre (drop (i + 1) bytes) value)
@@ -58,3 +60,22 @@ module _ (buffer front : List ℕ) (before : ℕ) where
     pub same-front : same ≡ true → allAre (drop (length front) buffer) before ≡ holds buffer front before
     unfolding holds
     same-front e = rw (decided, e)
+
+-- two buffers that are the same, and a test that says so
+module _ (one other : List ℕ) where
+  all-same : one ≡ other → sameBytes one other ≡ true
+  unfolding sameBytes
+  all-same e =
+      rw (e, eq-eqb (length other) (length other) refl) (ap (startsWith other) (sym (append-nil other))
+      ∙ starts-append other [])
+
+  same-all : sameBytes one other ≡ true → one ≡ other
+  unfolding sameBytes
+  same-all h =
+      let both = both-true (eqb (length one) (length other)) (startsWith other one) h in
+      let long = eqb-true (length one) (length other) (both .0) in
+      sym (take-all (length other) one (omega arith)) ∙ front-starts one other 0 (both .1)
+
+  pub same-decided : (same : Bool) → (same ≡ true → one ≡ other) → (one ≡ other → same ≡ true)
+      → same ≡ sameBytes one other
+  same-decided same f g = same-test same (sameBytes one other) (λ h. all-same (f h)) (λ h. g (same-all h))

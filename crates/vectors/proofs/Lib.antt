@@ -4,3 +4,4 @@ pub mod Cutting
 pub mod Lent
 pub mod Patching
 pub mod Growing
+pub mod Walk

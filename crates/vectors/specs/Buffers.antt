@@ -7,6 +7,10 @@ use lib.Dec.{eqb}
 use lib.ListN.{length, drop}
 use Rattle.model.specs.Digits.{startsWith}
 
+-- two buffers have the same bytes
+unfoldable pub sameBytes : List ℕ → List ℕ → Bool
+sameBytes one other = eqb (length one) (length other) && startsWith other one
+
 -- every byte has this value
 unfoldable pub allAre : List ℕ → ℕ → Bool
 allAre [] value = true

@@ -7,3 +7,4 @@ pub mod Given
 pub mod Runs
 pub mod Buffers
 pub mod Scores
+pub mod Trials

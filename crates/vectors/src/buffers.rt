@@ -3,6 +3,13 @@ use check::same;
 ghost use mathlib.Core.Path.{_≡_};
 ghost use Rattle.vectors.specs.Buffers as spec;
 
+// Two buffers have the same bytes.
+pub fn same_bytes(one: &[u8], other: &[u8]) -> bool
+    ensures { λ r. ⌜ r ≡ spec.sameBytes (now (one .entry)) (now (other .entry)) ⌝ }
+{
+    same(one, other)
+}
+
 // Every byte has this value.
 fn all_are(bytes: &[u8], value: u8) -> bool
     ensures { λ r. ⌜ r ≡ spec.allAre (now (bytes .entry)) value ⌝ }

@@ -1,6 +1,7 @@
 // The score of a trial: how many records of a file agree, and over all files how many there are of each number.
 ghost use mathlib.Core.Path.{_≡_};
 ghost use Rattle.vectors.specs.Scores.{oneMore, nothingCounted, beforeFile, countedIn, withAgreed, afterFile};
+ghost use Rattle.vectors.specs.Trials.{afterRecord};
 
 // The numbers of the papers end at 27.
 const NUMBERS: usize = 28;
@@ -10,6 +11,17 @@ pub struct Score {
     pub agreed: u64,
     pub whole: bool,
     pub numbers: [u64; NUMBERS],
+}
+
+// What a record shows: whether it agrees, its answer's number, and the place of the next record; or that the file ends
+// before it does.
+pub enum Turn {
+    Tried {
+        agrees: bool,
+        number: usize,
+        next: usize,
+    },
+    Cut,
 }
 
 // One more, up to the last that a counter can hold.
@@ -63,6 +75,17 @@ pub fn with_agreed(score: Score, number: usize) -> Score
         agreed: one_more(score.agreed),
         whole: score.whole,
         numbers,
+    }
+}
+
+// The score after a record.
+pub fn after_record(score: Score, agrees: bool, number: usize) -> Score
+    ensures { λ r. ⌜ r ≡ afterRecord score agrees number ⌝ }
+{
+    if agrees {
+        with_agreed(score, number)
+    } else {
+        score
     }
 }
 
