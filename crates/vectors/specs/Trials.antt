@@ -1,4 +1,5 @@
--- What a trial of a vector file counts: sim/README.md, 'Vector files'. What the record at a place shows is the trial's own.
+-- What a trial of a vector file counts: sim/README.md, 'Vector files'. What the record at a place shows is each trial's
+-- own.
 -- Assumes nothing.
 use Prim.Native.Nat.{ℕ, zero, suc}
 use mathlib.Core.Bool.{Bool}

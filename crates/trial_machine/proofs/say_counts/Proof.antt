@@ -1,0 +1,19 @@
+-- Each number has its turn; nothing is asked of what is written.
+-- Assumes nothing.
+use Prim.Native.Nat.{_-_}
+use borrow.Author.Needs.{needs}
+use Rattle.trial_machine.proofs.say_counts.Statement.{statement}
+use Rattle.trial_machine.proofs.say_counts.Tie as tie
+
+abbrev Inv-loop : tie.InvT-loop
+Inv-loop numbers number₀ number = Unit {0}
+
+abbrev μ-loop : tie.MeasureT-loop
+μ-loop numbers number₀ number = 28 - number
+
+pub say-counts-spec : {M : Type 1} → statement M
+say-counts-spec =
+    tie.close
+    (tie.spec
+    Inv-loop μ-loop (λ c. search needs) (λ c. search needs) (λ c. search needs) (λ c κs. search needs)
+    (λ c. search needs) (λ c. search needs) (λ c. search needs) (λ c. search needs))
