@@ -1,6 +1,5 @@
 -- The buffer that is lent has the record's length.
 -- Assumes nothing.
-use mathlib.Core.Path.{sym}
 use native.Mathlib.Omega.{arith}
 use Rattle.trial_machine.specs.Trial.{isAfter}
 use Rattle.trial_machine.proofs.Lending.{lent-length}
