@@ -9,11 +9,13 @@ use vectors::checks::check_at;
 use vectors::parts::part_of;
 use vectors::parts::u32_at;
 use vectors::score::Score;
+use vectors::score::Turn;
 use vectors::score::after_file;
+use vectors::score::after_record;
 use vectors::score::before_file;
 use vectors::score::nothing_counted;
-use vectors::score::with_agreed;
 ghost use mathlib.Core.Path.{_≡_};
+ghost use Rattle.vectors.specs.Trials as trials;
 ghost use Rattle.trial_check.specs.Trial as spec;
 
 // The check gives a record's answer.
@@ -31,33 +33,40 @@ fn agrees(file: &[u8], case: Case) -> bool
         == case.answer
 }
 
-// The score after a record: an answer has its number in the upper half.
-fn after(file: &[u8], case: Case, score: Score) -> Score
-    ensures { λ r. ⌜ r ≡ spec.after (now (file .entry)) case score ⌝ }
+// The record at a place. An answer has its number in the upper half.
+fn turn_at(file: &[u8], at: usize) -> Turn
+    ensures { λ r. ⌜ r ≡ spec.turnAt (now (file .entry)) at ⌝ }
 {
-    if agrees(file, case) {
-        with_agreed(score, (case.answer / 65_536) as usize)
-    } else {
-        score
+    match check_at(file, at) {
+        Found::Cut => Turn::Cut,
+        Found::Whole(case) => Turn::Tried {
+            agrees: agrees(file, case),
+            number: (case.answer / 65_536) as usize,
+            next: case.next,
+        },
     }
 }
 
 // The score after a file: its count, then so many records, then nothing more.
 fn tried(file: &[u8], before: Score) -> Score
-    ensures { λ r. ⌜ r ≡ spec.tried (now (file .entry)) before ⌝ }
+    ensures { λ r. ⌜ r ≡ trials.tried (spec.turnAt (now (file .entry))) (now (file .entry)) before ⌝ }
 {
     let mut score = before_file(before);
     let mut at: usize = 4;
     let mut left = u32_at(file, 0);
     while 0 < left {
         left -= 1;
-        match check_at(file, at) {
-            Found::Cut => {
+        match turn_at(file, at) {
+            Turn::Cut => {
                 return score;
             }
-            Found::Whole(case) => {
-                at = case.next;
-                score = after(file, case, score);
+            Turn::Tried {
+                agrees,
+                number,
+                next,
+            } => {
+                at = next;
+                score = after_record(score, agrees, number);
             }
         }
     }

@@ -1,27 +1,24 @@
--- What a trial of the mark lists on a vector file counts: sim/README.md, 'Vector files'.
+-- What a trial of the mark lists on a vector file shows: sim/README.md, 'Vector files'.
 -- Assumes nothing.
-use Prim.Native.Nat.{ℕ, zero, suc, _%_}
+use Prim.Native.Nat.{ℕ, _%_}
 use mathlib.Core.Bool.{Bool, _&&_}
 use mathlib.Core.List.{List}
 use lib.Dec.{eqb, leb}
-use lib.ListN.{length, replicate}
-use Rattle.model.specs.Choice.{pick}
+use lib.ListN.{replicate}
 use Rattle.model.specs.MarkList.{readList, marksRead, writeList, pageWritten}
 use Rattle.loader.specs.Packed.{packedRead, packedWritten}
 use Rattle.vectors.specs.declared.reads.Case as read
 use Rattle.vectors.specs.declared.reads.Found as reads
 use Rattle.vectors.specs.declared.writes.Case as write
 use Rattle.vectors.specs.declared.writes.Found as writes
-use Rattle.vectors.specs.declared.score.Score.{Score}
-use Rattle.vectors.specs.Parts.{u32At, partOf}
+use Rattle.vectors.specs.declared.score.Turn.{Turn}
+use Rattle.vectors.specs.declared.score.Turn.the-variants.{Tried, Cut}
+use Rattle.vectors.specs.Parts.{partOf}
 use Rattle.vectors.specs.Reads.{readAt}
 use Rattle.vectors.specs.Writes.{writeAt}
 use Rattle.vectors.specs.Buffers.{holds}
-use Rattle.vectors.specs.Scores.{beforeFile, withAgreed, afterFile}
 use Rattle.trial_lists.specs.declared.trial.Kind.{Kind}
 use Rattle.trial_lists.specs.declared.trial.Kind.the-variants.{Read, Write}
-use Rattle.trial_lists.specs.declared.trial.Turn.{Turn}
-use Rattle.trial_lists.specs.declared.trial.Turn.the-variants.{Tried, Cut}
 
 -- the most bytes that are lent; a record that asks for more does not agree
 abbrev pub space : ℕ
@@ -86,21 +83,3 @@ writeTurn file at = writeShown file (writeAt file at)
 abbrev pub turnAt : Kind → List ℕ → ℕ → Turn
 turnAt Read file at = readTurn file at
 turnAt Write file at = writeTurn file at
-
--- a record that agrees is counted under its number
-abbrev pub after : Score → Bool → ℕ → Score
-after score agrees number = pick agrees (withAgreed score number) score
-
--- where the file ends before a record does, the score stays
-abbrev pub worked : Turn → (ℕ → Score → Score) → Score → Score
-worked Cut go score = score
-worked (Tried agrees number next) go score = go next (after score agrees number)
-
--- 'that many records, one behind another, nothing behind the last', from a place on
-unfoldable pub triedFrom : ℕ → Kind → List ℕ → ℕ → Score → Score
-triedFrom zero kind file at score = afterFile score (eqb at (length file))
-triedFrom (suc left) kind file at score = worked (turnAt kind file at) (triedFrom left kind file) score
-
--- 'A file is a count (u32) and then that many records'
-abbrev pub tried : Kind → List ℕ → Score → Score
-tried kind file score = triedFrom (u32At file 0) kind file 4 (beforeFile score)

@@ -7,12 +7,14 @@ use vectors::parts::part_of;
 use vectors::parts::u32_at;
 use vectors::reads;
 use vectors::score::Score;
+use vectors::score::Turn;
 use vectors::score::after_file;
+use vectors::score::after_record;
 use vectors::score::before_file;
-use vectors::score::with_agreed;
 use vectors::writes;
 ghost use mathlib.Core.Path.{_≡_};
 ghost use Rattle.model.specs.MarkList.{marksRead, pageWritten};
+ghost use Rattle.vectors.specs.Trials as trials;
 ghost use Rattle.trial_lists.specs.Trial as spec;
 
 // The most bytes that are lent; a record that asks for more does not agree.
@@ -27,17 +29,6 @@ const UNWRITTEN: u8 = 0xA5;
 pub enum Kind {
     Read,
     Write,
-}
-
-// What a record shows: whether it agrees, its answer's number, and the place of the next record; or that the file ends
-// before it does.
-enum Turn {
-    Tried {
-        agrees: bool,
-        number: usize,
-        next: usize,
-    },
-    Cut,
 }
 
 // The space with one value in every byte.
@@ -167,20 +158,9 @@ fn turn_at(kind: Kind, file: &[u8], at: usize) -> Turn
     }
 }
 
-// The score after a record.
-fn after(score: Score, agrees: bool, number: usize) -> Score
-    ensures { λ r. ⌜ r ≡ spec.after score agrees number ⌝ }
-{
-    if agrees {
-        with_agreed(score, number)
-    } else {
-        score
-    }
-}
-
 // The score after a file: its count, then so many records, then nothing more.
 pub fn tried(kind: Kind, file: &[u8], before: Score) -> Score
-    ensures { λ r. ⌜ r ≡ spec.tried kind (now (file .entry)) before ⌝ }
+    ensures { λ r. ⌜ r ≡ trials.tried (spec.turnAt kind (now (file .entry))) (now (file .entry)) before ⌝ }
 {
     let mut score = before_file(before);
     let mut at: usize = 4;
@@ -197,7 +177,7 @@ pub fn tried(kind: Kind, file: &[u8], before: Score) -> Score
                 next,
             } => {
                 at = next;
-                score = after(score, agrees, number);
+                score = after_record(score, agrees, number);
             }
         }
     }

@@ -1,16 +1,17 @@
 -- The invariant: the records from here on lead to what the whole file leads to.
 -- Assumes nothing.
 use mathlib.Core.Path.{_≡_, refl}
-use Rattle.vectors.specs.declared.checks.Found.the-variants.{Whole, Cut}
-use Rattle.vectors.specs.Checks.{checkAt}
+use Rattle.vectors.specs.declared.score.Turn.the-variants.{Tried, Cut}
+use Rattle.vectors.specs.Trials.{triedFrom}
+use Rattle.vectors.proofs.Walk.{LeadsTo, one-worked, one-cut, all-worked}
+use Rattle.trial_check.specs.Trial.{turnAt}
 use borrow.Author.Needs.{needs}
-use Rattle.trial_check.specs.Trial.{triedFrom}
-use Rattle.trial_check.proofs.Walk.{LeadsTo, one-worked, one-cut, all-worked}
 use Rattle.trial_check.proofs.tried.Statement.{statement}
 use Rattle.trial_check.proofs.tried.Tie as tie
 
 abbrev Inv-loop : tie.InvT-loop
-Inv-loop file score₀ at₀ left₀ score at left = LeadsTo file (triedFrom left₀ file at₀ score₀) left at score
+Inv-loop file score₀ at₀ left₀ score at left =
+    LeadsTo (turnAt file) file (triedFrom left₀ (turnAt file) file at₀ score₀) left at score
 
 abbrev μ-loop : tie.MeasureT-loop
 μ-loop file score₀ at₀ left₀ score at left = left
@@ -22,33 +23,36 @@ returns : tie.Need-returns Inv-loop μ-loop
 returns c =
     let turn = c .before .before .before .before in
     let begun = turn .before in
-    let file = begun .before .before .before .args .file .now in
-    let found = c .before .before in
-    let cut : checkAt file (turn .loop .at) ≡ Cut = rw (← found .check-at .ensures) (c .enum-told .given .1) in
+    let args = begun .before .before .before .args in
+    let shown = c .before .before in
+    let cut : turnAt (args .file .now) (turn .loop .at) ≡ Cut =
+    rw (← shown .turn-at .ensures) (c .enum-told .given .1) in
     rw (← begun .u32-at .ensures, ← begun .before .before-file .ensures)
-    (one-cut file _ (turn .loop .left) (turn .loop .at) (turn .loop .score) (found .before .loop-test .taken)
-    (turn .loop .inv) cut)
+    (one-cut (turnAt (args .file .now)) (args .file .now) _ (turn .loop .left) (turn .loop .at)
+    (turn .loop .score) (shown .before .loop-test .taken) (turn .loop .inv) cut)
 
 loop-again : tie.Need-loop-again Inv-loop μ-loop
 loop-again c =
     let found = c .before .before in
     let turn = found .before .before .before .before in
-    let file = turn .before .before .before .before .args .file .now in
-    let case = found .case .given .0 .0 in
-    let whole : checkAt file (turn .loop .at) ≡ Whole case =
-    rw (← found .before .before .check-at .ensures) (found .case .given .1) in
-    rw (c .after .ensures)
-    (one-worked file _ (turn .loop .left) (turn .loop .at) (turn .loop .score) case
-    (found .before .before .before .loop-test .taken) (turn .loop .inv) whole)
+    let args = turn .before .before .before .before .args in
+    let agrees = found .agrees .given .0 .0 in
+    let number = found .agrees .given .0 .1 .0 in
+    let next = found .agrees .given .0 .1 .1 .0 in
+    let whole : turnAt (args .file .now) (turn .loop .at) ≡ Tried agrees number next =
+    rw (← found .before .before .turn-at .ensures) (found .agrees .given .1) in
+    rw (c .after-record .ensures)
+    (one-worked (turnAt (args .file .now)) (args .file .now) _ (turn .loop .left) (turn .loop .at)
+    (turn .loop .score) agrees number next (found .before .before .before .loop-test .taken) (turn .loop .inv) whole)
 
 returns-2 : tie.Need-returns-2 Inv-loop μ-loop
 returns-2 c =
     let turn = c .before .before in
     let begun = turn .before in
-    let file = begun .before .before .before .args .file .now in
+    let args = begun .before .before .before .args in
     rw (c .after-file .ensures, ← begun .u32-at .ensures, ← begun .before .before-file .ensures)
-    (all-worked file _ (turn .loop .left) (turn .loop .at) (turn .loop .score) (c .before .loop-test .left)
-    (turn .loop .inv))
+    (all-worked (turnAt (args .file .now)) (args .file .now) _ (turn .loop .left) (turn .loop .at)
+    (turn .loop .score) (c .before .loop-test .left) (turn .loop .inv))
 
 pub tried-spec : {M : Type 1} → statement M
 tried-spec =

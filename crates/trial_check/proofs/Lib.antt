@@ -1,2 +1,0 @@
--- The laws of the walk over a file's records.
-pub mod Walk
