@@ -15,14 +15,15 @@
  * open. The fifth does the same one step after the other, a line each. Options:
  *
  *   --unchecked              runs the image without the check
- *   --poke OFFSET BYTE       puts a byte into the state before
+ *   --poke OFFSET BYTE       puts a byte into the state before the run
  *   --state-length LENGTH    lends a state of another length
- *   --ram ADDRESS COUNT      prints so many bytes of RAM afterwards
- *   --state OFFSET COUNT     prints so many bytes of the state afterwards
+ *   --ram ADDRESS COUNT      prints so many bytes of RAM after it
+ *   --state OFFSET COUNT     prints so many bytes of the state after it
  *
- * Lists, marks and RAM hold dots before. Every number given is hexadecimal, every
- * number of steps, calls or bytes printed is decimal. The exit status is 0 if
- * accepted, written, read or run, 1 if refused, 2 if there was nothing to work on. */
+ * A page, marks that are read and RAM hold dots before. Every number given is
+ * hexadecimal; counts and the check's offset are printed in decimal. The exit status
+ * is 0 if accepted, written, read or run, 1 if refused, 2 if there was nothing to work
+ * on. */
 #include <errno.h>
 #include <stdio.h>
 #include <string.h>
