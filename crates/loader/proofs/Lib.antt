@@ -1,3 +1,3 @@
 -- The laws that the proofs of the exported functions cite.
 pub mod Answers
-pub mod Runs
+pub mod Counts

@@ -75,7 +75,13 @@ pub extern "C" fn m7700_write_list(marks: &[u8], base: u32, reset: u32, page: &m
 
 // A run of the machine: 0 in the low byte and the end, the steps and the calls above it, or the number that refuses it.
 #[no_mangle]
-pub extern "C" fn m7700_run(image: &[u8], base: u32, state: &mut [u8], ram: &mut [u8], steps: u32) -> u64
+pub extern "C" fn m7700_run(
+    image: &[u8],
+    base: u32,
+    state: &mut [u8],
+    ram: &mut [u8],
+    steps: u32,
+) -> u64
     ensures answer { λ r. ⌜
         r ≡ packedRun (ranBytes (memory (now (ram .entry)) (now (image .entry)) base) (now (state .entry)) steps .answer)
         ⌝ }

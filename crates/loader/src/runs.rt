@@ -53,9 +53,7 @@ pub fn pack_run(answer: RunAnswer) -> u64
     match answer {
         RunAnswer::NotRun(why) => refusal_number(why) as u64,
         RunAnswer::Ended { end, steps, calls } => {
-            256 * end_number(end) as u64
-                + 65_536 * steps as u64
-                + 1_099_511_627_776 * calls as u64
+            256 * end_number(end) as u64 + 65_536 * steps as u64 + 1_099_511_627_776 * calls as u64
         }
     }
 }

@@ -5,7 +5,7 @@ use mathlib.Core.Bool.{Bool, true, false, _&&_}
 use mathlib.Core.List.{List}
 use Prim.Native.Nat.{ℕ, _+_, _≤_}
 use native.Mathlib.Omega.{arith}
-use lib.Dec.{eqb, leb}
+use lib.Dec.{eqb, ltb, leb}
 use lib.ListN.{length}
 use borrow.Author.Tests.{leb-true, eqb-true}
 use Rattle.model.specs.declared.machine.Core.{Core}
@@ -18,7 +18,7 @@ use Rattle.model.specs.Choice.{pick}
 use Rattle.model.specs.Image.{addressLimit, imageLimit, lengthFits, baseFits}
 use Rattle.model.specs.Memory.{Memory}
 use Rattle.model.specs.Step.{callLimit}
-use Rattle.model.specs.Run.{stepLimit, ramFits, callsFit, stateFits, admissionBy, Ran, played}
+use Rattle.model.specs.Run.{stepLimit, ramFits, levelLimit, callsFit, stateFits, admissionBy, Ran, played}
 use Rattle.model.specs.RunBytes.{bytesFit, asBytes, ranBytes}
 use Rattle.model.specs.StateBytes.{stateSize, stateOf}
 use Rattle.model.proofs.Image.{right-length, base-whole}
@@ -42,7 +42,8 @@ admitted m fits asked =
   where
     by : (a b c d e : Bool) → lengthFits (length (m .image)) (length (m .image)) ≡ a
         → baseFits (m .base) (length (m .image)) ≡ b → fits ≡ d → leb asked stepLimit ≡ e
-        → pick a (pick b (pick c (pick d (pick e Admitted (Refused ManySteps)) (Refused WrongState)) (Refused WrongRam))
+        → pick a (pick b (pick c (pick d (pick e Admitted (Refused ManySteps)) (Refused WrongState)) (Refused
+        WrongRam))
         (Refused WrongBase)) (Refused WrongLength) ≡ Admitted
         → Bounds m fits asked
     by false b c d e p q r s h = absurd (refused-admits WrongLength h)
@@ -58,16 +59,18 @@ admitted m fits asked =
     }
 
 -- a state that a run takes
-module _ (bytes : ℕ) (c : Core) (calls : List ℕ) (taken : (eqb bytes stateSize && stateFits (state c calls)) ≡ true) where
-  pub long : bytes ≡ stateSize
-  long = eqb-true bytes stateSize (both-true (eqb bytes stateSize) (stateFits (state c calls)) taken .0)
+module _ (bytes : ℕ) (c : Core) (calls : List ℕ) (taken : (eqb bytes stateSize && stateFits (state c calls)) ≡ true)
+  where
+    pub long : bytes ≡ stateSize
+    long = eqb-true bytes stateSize (both-true (eqb bytes stateSize) (stateFits (state c calls)) taken .0)
 
-  pub shallow : c .depth ≤ callLimit
-  unfolding stateFits
-  shallow =
-      let fits = both-true (eqb bytes stateSize) (stateFits (state c calls)) taken .1 in
-      let most = both-true _ (callsFit calls (c .depth)) fits .0 in
-      leb-true (c .depth) callLimit (both-true _ (leb (c .depth) callLimit) most .1)
+    pub shallow : c .depth ≤ callLimit
+    unfolding stateFits
+    shallow =
+        let fits = both-true (eqb bytes stateSize) (stateFits (state c calls)) taken .1 in
+        let level = ltb (c .registers .status .level) levelLimit in
+        let most = both-true (level && leb (c .depth) callLimit) (callsFit calls (c .depth)) fits .0 in
+        leb-true (c .depth) callLimit (both-true level (leb (c .depth) callLimit) most .1)
 
 module _ (m : Memory) (bytes : List ℕ) (asked : ℕ) (c : Core) (calls : List ℕ) (is-core : c ≡ stateOf bytes .core)
     (is-calls : calls ≡ stateOf bytes .calls) (taken : Bool)

@@ -3,3 +3,4 @@ pub mod Fetching
 pub mod Plans
 pub mod Turning
 pub mod Courses
+pub mod Admitted

@@ -1,5 +1,7 @@
 -- A plan as the code has it, its stores by value, as the definition's.
 -- Assumes nothing.
+use Rattle.machine.specs.declared.plan.Change.{Change as Kept}
+use Rattle.machine.specs.declared.plan.Plan.{Plan as KeptPlan}
 use Rattle.machine.specs.declared.plan.Plan.the-variants.{Stops, Changes}
 use Rattle.memory.specs.Listed.{listed}
 use Rattle.memory.specs.declared.reads.WordRead.{WordRead}

@@ -8,6 +8,7 @@ use model::machine::Core;
 use model::runs::Admission;
 use model::runs::RunAnswer;
 use model::runs::RunRefusal;
+use statebytes::STATE_SIZE;
 use statebytes::calls_of;
 use statebytes::core_of;
 use statebytes::put_state;
@@ -22,9 +23,7 @@ ghost use Rattle.model.specs.RunBytes.{ranBytes};
 ghost use Rattle.model.specs.StateBytes.{stateSize};
 ghost use Rattle.machine.specs.Turns.{state};
 
-// The bytes of a state, as model/specs/StateBytes.antt counts them, and the limit of the asked steps.
-const STATE_SIZE: usize = 532;
-
+// The limit of model/specs/Run.antt.
 const STEP_LIMIT: u32 = 1_000_000;
 
 // Number 12: so many bytes are a state, and a run takes it.
@@ -83,7 +82,7 @@ pub fn run(image: &[u8], base: u32, bytes: &mut [u8], ram: &mut [u8], asked: u32
     let course = run_in(&pages(), image, base, core, &mut calls, ram, asked);
     let end = course.end;
     let after = course.core;
-    put_state(bytes, after, calls);
+    put_state(bytes, after, &calls);
     RunAnswer::Ended {
         end,
         steps: course.steps,

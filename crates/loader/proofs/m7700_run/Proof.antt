@@ -1,0 +1,26 @@
+-- The run's answer fits its packing.
+-- Assumes nothing.
+use mathlib.Core.Path.{_∙_, ap}
+use Rattle.model.specs.RunBytes.{packedRun}
+use Rattle.model.specs.Memory.{memory}
+use Rattle.loader.proofs.Counts.{run-fits}
+use borrow.Author.Needs.{needs}
+use Rattle.loader.proofs.m7700_run.Statement.{statement}
+use Rattle.loader.proofs.m7700_run.Tie as tie
+
+pack-run-requires : tie.Need-pack-run-requires
+pack-run-requires c κs =
+    let start = c .before .before .before .before .before .before .before .before .before .before in
+    rw (c .before .before .before .before .run .ensures .0) (run-fits (memory (start .args .ram .now) (start .args
+    .image .now) (start .args .base)) (start .args .state .now) (start .args .steps))
+
+returns : tie.Need-returns
+returns c = (
+  c .pack-run .ensures ∙ ap packedRun (c .before .before .before .before .before .run .ensures .0),
+  c .before
+      .before .before .before .before .run .ensures .1,
+)
+
+pub m7700-run-spec : {M : Type 1} → statement M
+m7700-run-spec =
+    tie.close (tie.spec (λ c κs. search needs) pack-run-requires (λ c. search needs) (λ c. search needs) returns)
