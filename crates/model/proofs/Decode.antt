@@ -103,7 +103,7 @@ AllBytes l = (k : ℕ) → getD l k 0 < 256
 pub bytes-drop : (n : ℕ) (l : List ℕ) → AllBytes l → AllBytes (drop n l)
 bytes-drop n l small k = rw getD-drop (small (n + k))
 
-bytes-take : (n : ℕ) (l : List ℕ) → AllBytes l → AllBytes (take n l)
+pub bytes-take : (n : ℕ) (l : List ℕ) → AllBytes l → AllBytes (take n l)
 bytes-take zero l small k = omega arith
 bytes-take (suc n) [] small k = omega arith
 bytes-take (suc n) (b ∷ bs) small zero = small 0
