@@ -1,13 +1,29 @@
 /* loader IMAGE MARKS BASE RESET
  * loader write-list MARKS BASE RESET LENGTH LIST
  * loader read-list LIST LENGTH MARKS
+ * loader run IMAGE MARKS BASE RESET START S RAM STEPS [OPTION]..
+ * loader trace IMAGE MARKS BASE RESET START S RAM STEPS [OPTION]..
  *
  * The first form reads an image and its mark bytes from two files, checks them,
  * and prints one line. The second writes the list of a file's marks into a page
  * of LENGTH bytes and the whole page into the file LIST; the third reads the file
- * LIST into LENGTH marks and writes them into the file MARKS. Both buffers hold
- * dots before. BASE, RESET and LENGTH are hexadecimal. The exit status is 0 if
- * accepted, written or read, 1 if refused, 2 if there was nothing to work on. */
+ * LIST into LENGTH marks and writes them into the file MARKS.
+ *
+ * The fourth checks an image and, if it is accepted, runs it for STEPS steps in
+ * RAM bytes of RAM, and prints one line. It begins with PG and PC at the 24-bit
+ * address START and with S; all else of the state is 0, so m=0, x=0 and no call is
+ * open. The fifth does the same one step after the other, a line each. Options:
+ *
+ *   --unchecked              runs the image without the check
+ *   --poke OFFSET BYTE       puts a byte into the state before the run
+ *   --state-length LENGTH    lends a state of another length
+ *   --ram ADDRESS COUNT      prints so many bytes of RAM after it
+ *   --state OFFSET COUNT     prints so many bytes of the state after it
+ *
+ * A page, marks that are read and RAM hold dots before. Every number given is
+ * hexadecimal; counts and the check's offset are printed in decimal. The exit status
+ * is 0 if accepted, written, read or run, 1 if refused, 2 if there was nothing to work
+ * on. */
 #include <errno.h>
 #include <stdio.h>
 #include <string.h>
@@ -25,38 +41,47 @@ struct bytes {
     size_t length;
 };
 
-static struct bytes image, marks, list;
+static struct bytes image, marks, list, state, ram;
+
+/* What a run is asked for, beside the buffers. */
+struct plan {
+    uint32_t base, reset, steps;
+    int unchecked;
+    uint32_t ram_from, ram_count, state_from, state_count;
+};
+
+static const char *const words[] = {
+    [M7700_DONE] = "done",
+    [M7700_LENGTH] = "length",
+    [M7700_BASE] = "base",
+    [M7700_RESET] = "reset",
+    [M7700_MARK] = "mark",
+    [M7700_CODE] = "code",
+    [M7700_CUT_OFF] = "cut off",
+    [M7700_OVERLAP] = "overlap",
+    [M7700_FLOW] = "flow",
+    [M7700_WIDTHS] = "widths",
+    [M7700_RETURN] = "return",
+    [M7700_RAM] = "RAM",
+    [M7700_STATE] = "state",
+    [M7700_STEPS] = "steps",
+    [M7700_LIST] = "list",
+    [M7700_PAGE] = "page",
+    [M7700_OUTSIDE] = "outside",
+    [M7700_UNCARRIED] = "uncarried",
+    [M7700_HALT] = "halt",
+    [M7700_UNMAPPED] = "unmapped",
+    [M7700_ASTRAY] = "astray",
+    [M7700_DEEP] = "deep",
+    [M7700_IMAGE_STORE] = "image store",
+    [M7700_DECIMAL] = "decimal",
+};
 
 static const char *word(uint32_t number)
 {
-    switch (number) {
-    case M7700_LENGTH:
-        return "length";
-    case M7700_BASE:
-        return "base";
-    case M7700_RESET:
-        return "reset";
-    case M7700_MARK:
-        return "mark";
-    case M7700_CODE:
-        return "code";
-    case M7700_CUT_OFF:
-        return "cut off";
-    case M7700_OVERLAP:
-        return "overlap";
-    case M7700_FLOW:
-        return "flow";
-    case M7700_WIDTHS:
-        return "widths";
-    case M7700_RETURN:
-        return "return";
-    case M7700_LIST:
-        return "list";
-    case M7700_PAGE:
-        return "page";
-    default:
-        return "unknown";
-    }
+    int known = number < sizeof words / sizeof words[0] && words[number] != NULL;
+
+    return known ? words[number] : "unknown";
 }
 
 /* Reads a file's first LIMIT bytes; 0 if it can't. */
@@ -77,11 +102,17 @@ static int read_file(const char *name, struct bytes *into)
     return !failed;
 }
 
-/* Reads one to eight hexadecimal digits and nothing else; 0 if it can't. */
+/* Reads one to eight hexadecimal digits and nothing else; 0 if it can't. An argument
+ * that is missing is NULL. */
 static int read_hex(const char *text, uint32_t *into)
 {
-    size_t length = strlen(text);
+    size_t length;
 
+    if (text == NULL) {
+        fprintf(stderr, "loader: a number is missing\n");
+        return 0;
+    }
+    length = strlen(text);
     if (length == 0 || length > 8 || strspn(text, "0123456789abcdefABCDEF") != length) {
         fprintf(stderr, "loader: '%s' is not a number of 1 to 8 hexadecimal digits\n", text);
         return 0;
@@ -91,6 +122,16 @@ static int read_hex(const char *text, uint32_t *into)
         *into = *into << 4 | digit;
     }
     return 1;
+}
+
+/* Reads a number that is no more than a limit; 0 if it can't. */
+static int read_up_to(uint32_t limit, const char *text, uint32_t *into)
+{
+    if (!read_hex(text, into))
+        return 0;
+    if (*into > limit)
+        fprintf(stderr, "loader: %s is over %X\n", text, (unsigned)limit);
+    return *into <= limit;
 }
 
 /* Writes a file; 0 if it can't. */
@@ -111,12 +152,8 @@ static int lend(const char *length, struct bytes *buffer)
 {
     uint32_t count;
 
-    if (!read_hex(length, &count))
+    if (!read_up_to(LIMIT, length, &count))
         return 0;
-    if (count > LIMIT) {
-        fprintf(stderr, "loader: no buffer of %u bytes\n", (unsigned)count);
-        return 0;
-    }
     buffer->length = count;
     memset(buffer->at, '.', count);
     return 1;
@@ -161,30 +198,207 @@ static int read_list(char **arguments)
     return ACCEPTED;
 }
 
+/* Checks the image against its marks; prints why it is refused. */
+static int is_accepted(uint32_t base, uint32_t reset)
+{
+    uint32_t result = m7700_check(image.at, image.length, marks.at, marks.length, base, reset);
+
+    if (result != M7700_ACCEPTED)
+        printf("refused: %u %s, offset %u\n", (unsigned)M7700_NUMBER(result),
+               word(M7700_NUMBER(result)), (unsigned)M7700_OFFSET(result));
+    return result == M7700_ACCEPTED;
+}
+
+static int check(char **arguments)
+{
+    uint32_t base, reset;
+
+    if (!read_file(arguments[0], &image) || !read_file(arguments[1], &marks) ||
+        !read_hex(arguments[2], &base) || !read_hex(arguments[3], &reset))
+        return UNREAD;
+    if (!is_accepted(base, reset))
+        return REFUSED;
+    puts("accepted");
+    return ACCEPTED;
+}
+
+/* A word of the state, low byte first. */
+static void put_word(size_t at, uint32_t value)
+{
+    state.at[at] = (uint8_t)value;
+    state.at[at + 1] = (uint8_t)(value >> 8);
+}
+
+static unsigned get_word(size_t at)
+{
+    return state.at[at] | (unsigned)state.at[at + 1] << 8;
+}
+
+/* Makes the state that a run begins with. */
+static void make_state(uint32_t start, uint32_t s)
+{
+    state.length = M7700_STATE_BYTES;
+    memset(state.at, 0, M7700_STATE_BYTES);
+    put_word(M7700_STATE_S, s);
+    put_word(M7700_STATE_PC, start);
+    state.at[M7700_STATE_PG] = (uint8_t)(start >> 16);
+}
+
+/* Puts a byte into the state; 0 if it can't. */
+static int poke(char **values)
+{
+    uint32_t offset, byte;
+
+    if (!read_up_to(LIMIT - 1, values[0], &offset) || !read_up_to(0xFF, values[1], &byte))
+        return 0;
+    state.at[offset] = (uint8_t)byte;
+    return 1;
+}
+
+static int set_state_length(char **values)
+{
+    uint32_t length;
+
+    if (!read_up_to(LIMIT, values[0], &length))
+        return 0;
+    state.length = length;
+    return 1;
+}
+
+/* Reads which bytes of a buffer are printed; 0 if it hasn't so many. */
+static int read_range(const struct bytes *buffer, char **values, uint32_t *from, uint32_t *count)
+{
+    uint32_t length = (uint32_t)buffer->length;
+
+    return read_up_to(length, values[0], from) && read_up_to(length - *from, values[1], count);
+}
+
+/* Takes one option; the number of its words, 0 if it can't be read. */
+static int take_option(char **option, struct plan *plan)
+{
+    char **values = option + 1;
+
+    if (strcmp(option[0], "--unchecked") == 0) {
+        plan->unchecked = 1;
+        return 1;
+    }
+    if (strcmp(option[0], "--poke") == 0)
+        return poke(values) ? 3 : 0;
+    if (strcmp(option[0], "--state-length") == 0)
+        return set_state_length(values) ? 2 : 0;
+    if (strcmp(option[0], "--ram") == 0)
+        return read_range(&ram, values, &plan->ram_from, &plan->ram_count) ? 3 : 0;
+    if (strcmp(option[0], "--state") == 0)
+        return read_range(&state, values, &plan->state_from, &plan->state_count) ? 3 : 0;
+    fprintf(stderr, "loader: no option '%s'\n", option[0]);
+    return 0;
+}
+
+/* Reads what a run is asked for, and makes its state and RAM; 0 if it can't. */
+static int read_plan(char **arguments, struct plan *plan)
+{
+    char **option = arguments + 8;
+    uint32_t start, s;
+    int taken;
+
+    if (!read_file(arguments[0], &image) || !read_file(arguments[1], &marks) ||
+        !read_hex(arguments[2], &plan->base) || !read_hex(arguments[3], &plan->reset) ||
+        !read_up_to(0xFFFFFF, arguments[4], &start) || !read_up_to(0xFFFF, arguments[5], &s) ||
+        !lend(arguments[6], &ram) || !read_hex(arguments[7], &plan->steps))
+        return 0;
+    make_state(start, s);
+    for (; *option != NULL; option += taken) {
+        taken = take_option(option, plan);
+        if (taken == 0)
+            return 0;
+    }
+    return 1;
+}
+
+/* Prints what a run answered and the registers that it left. */
+static void print_run(uint64_t result)
+{
+    uint32_t refusal = M7700_RUN_REFUSAL(result);
+    uint32_t number = refusal != 0 ? refusal : M7700_RUN_END(result);
+
+    printf("%s: %u %s, steps %u, calls %u", refusal != 0 ? "refused" : "ended", (unsigned)number,
+           word(number), (unsigned)M7700_RUN_STEPS(result), (unsigned)M7700_RUN_CALLS(result));
+    printf(", A=%04X B=%04X X=%04X Y=%04X", get_word(M7700_STATE_A), get_word(M7700_STATE_B),
+           get_word(M7700_STATE_X), get_word(M7700_STATE_Y));
+    printf(" S=%04X PC=%04X PG=%02X DT=%02X", get_word(M7700_STATE_S), get_word(M7700_STATE_PC),
+           (unsigned)state.at[M7700_STATE_PG], (unsigned)state.at[M7700_STATE_DT]);
+    printf(" DPR=%04X PS=%04X\n", get_word(M7700_STATE_DPR), get_word(M7700_STATE_PS));
+}
+
+/* Prints so many bytes of a buffer, if there are any to print. */
+static void print_bytes(const char *name, const struct bytes *from, uint32_t at, uint32_t count)
+{
+    uint32_t i;
+
+    if (count == 0)
+        return;
+    printf("%s %04X:", name, (unsigned)at);
+    for (i = 0; i < count; i++)
+        printf(" %02X", (unsigned)from->at[at + i]);
+    putchar('\n');
+}
+
+/* All steps in one run. */
+static uint64_t run(const struct plan *plan)
+{
+    uint64_t result = m7700_run(image.at, image.length, plan->base, state.at, state.length,
+                                ram.at, ram.length, plan->steps);
+
+    print_run(result);
+    return result;
+}
+
+/* One step after the other, until one is refused or stops. */
+static uint64_t trace(const struct plan *plan)
+{
+    uint64_t result = 0;
+    uint32_t left = plan->steps;
+
+    while (left-- > 0 && M7700_RUN_REFUSAL(result) == 0 && M7700_RUN_END(result) == M7700_DONE) {
+        result = m7700_step(image.at, image.length, plan->base, state.at, state.length,
+                            ram.at, ram.length);
+        print_run(result);
+    }
+    return result;
+}
+
+/* Checks an image and lets the machine go. */
+static int execute(char **arguments, uint64_t (*machine)(const struct plan *))
+{
+    struct plan plan = {0};
+    uint64_t result;
+
+    if (!read_plan(arguments, &plan))
+        return UNREAD;
+    if (!plan.unchecked && !is_accepted(plan.base, plan.reset))
+        return REFUSED;
+    result = machine(&plan);
+    print_bytes("RAM", &ram, plan.ram_from, plan.ram_count);
+    print_bytes("state", &state, plan.state_from, plan.state_count);
+    return M7700_RUN_REFUSAL(result) != 0 ? REFUSED : ACCEPTED;
+}
+
 int main(int argc, char **argv)
 {
-    uint32_t base, reset, result;
-
     if (argc == 7 && strcmp(argv[1], "write-list") == 0)
         return write_list(argv + 2);
     if (argc == 5 && strcmp(argv[1], "read-list") == 0)
         return read_list(argv + 2);
-    if (argc != 5) {
-        fprintf(stderr, "usage: loader IMAGE MARKS BASE RESET\n"
-                        "       loader write-list MARKS BASE RESET LENGTH LIST\n"
-                        "       loader read-list LIST LENGTH MARKS\n");
-        return UNREAD;
-    }
-    if (!read_file(argv[1], &image) || !read_file(argv[2], &marks) ||
-        !read_hex(argv[3], &base) || !read_hex(argv[4], &reset))
-        return UNREAD;
-
-    result = m7700_check(image.at, image.length, marks.at, marks.length, base, reset);
-    if (result == M7700_ACCEPTED) {
-        puts("accepted");
-        return ACCEPTED;
-    }
-    printf("refused: %u %s, offset %u\n", (unsigned)M7700_NUMBER(result),
-           word(M7700_NUMBER(result)), (unsigned)M7700_OFFSET(result));
-    return REFUSED;
+    if (argc >= 10 && strcmp(argv[1], "run") == 0)
+        return execute(argv + 2, run);
+    if (argc >= 10 && strcmp(argv[1], "trace") == 0)
+        return execute(argv + 2, trace);
+    if (argc == 5)
+        return check(argv + 1);
+    fprintf(stderr, "usage: loader IMAGE MARKS BASE RESET\n"
+                    "       loader write-list MARKS BASE RESET LENGTH LIST\n"
+                    "       loader read-list LIST LENGTH MARKS\n"
+                    "       loader run IMAGE MARKS BASE RESET START S RAM STEPS [OPTION]..\n"
+                    "       loader trace IMAGE MARKS BASE RESET START S RAM STEPS [OPTION]..\n");
+    return UNREAD;
 }

@@ -132,6 +132,102 @@ uint64_t m7700_write_list(const uint8_t *marks, size_t marks_len,
                           uint32_t base, uint32_t reset,
                           uint8_t *page, size_t page_len);
 
+/* The stepping machine runs an image in lent RAM from a lent state.
+ *
+ * RAM is 1 to 4,096 bytes from address 000000 on, and no more bytes than the base's
+ * number (as many are allowed), so that the image lies above it. Image bytes may be
+ * read as data. Nothing else is mapped.
+ *
+ * The most bytes of RAM, steps of a run, and open calls. */
+#define M7700_RAM_BYTES 4096
+#define M7700_STEPS_LIMIT 1000000
+#define M7700_CALLS 64
+
+/* The state is so many bytes: the registers, the number of open calls and an entry
+ * for each call that can be open. Numbers go low byte first. */
+#define M7700_STATE_BYTES (20 + 8 * M7700_CALLS)
+
+/* Where each of them begins. */
+#define M7700_STATE_A 0      /* two bytes each */
+#define M7700_STATE_B 2
+#define M7700_STATE_X 4
+#define M7700_STATE_Y 6
+#define M7700_STATE_S 8
+#define M7700_STATE_PC 10
+#define M7700_STATE_DPR 12
+#define M7700_STATE_PS 14    /* bit 4 is x, bit 5 is m; bits 11 to 15 are 0 */
+#define M7700_STATE_PG 16    /* a byte each */
+#define M7700_STATE_DT 17
+#define M7700_STATE_DEPTH 18 /* the number of open calls, two bytes */
+
+/* The entry of an open call, from 0 on, the first opened first: its return address in
+ * four bytes, its kind in one (1 of JSR, closed by RTS; 2 of JSR long, closed by RTL)
+ * and three reserved bytes. An entry's bytes change only when a call is opened there,
+ * the reserved ones then to 0; closing it leaves them. Reserved bytes and the entries
+ * behind the open calls are not looked at. */
+#define M7700_STATE_ENTRY(call) (20 + 8 * (call))
+
+/* The numbers that refuse a run, beside 1 and 2. */
+#define M7700_RAM 11         /* RAM: empty, over 4,096 bytes, or more than the base's number */
+#define M7700_STATE 12       /* state: a buffer of another length, PS bits 11 to 15 set, over 64
+                                open calls, or among them a kind other than 1 or 2 or an
+                                address above FFFFFF */
+#define M7700_STEPS 13       /* steps: over 1,000,000 */
+
+/* The ends of a run: its steps are done, or one of them met a stop. */
+#define M7700_DONE 0
+#define M7700_OUTSIDE 20     /* outside: instruction byte not in the image */
+#define M7700_UNCARRIED 21   /* uncarried: code not carried */
+#define M7700_HALT 22        /* halt: STP or WIT */
+#define M7700_UNMAPPED 23    /* unmapped: data or stack byte not mapped */
+#define M7700_ASTRAY 24      /* astray: RTS or RTL with no open call, with one of the other
+                                kind, or the pulled address is not the open call's */
+#define M7700_DEEP 25        /* deep: call with 64 open */
+#define M7700_IMAGE_STORE 26 /* image store: store into the image */
+#define M7700_DECIMAL 27     /* decimal: ADC or SBC with D=1 */
+
+/* The parts of the results of the two functions below. */
+#define M7700_RUN_REFUSAL(result) ((uint32_t)((uint64_t)(result) & 0xFFu))
+#define M7700_RUN_END(result) ((uint32_t)((uint64_t)(result) >> 8 & 0xFFu))
+#define M7700_RUN_STEPS(result) ((uint32_t)((uint64_t)(result) >> 16 & 0xFFFFFFu))
+#define M7700_RUN_CALLS(result) ((uint32_t)((uint64_t)(result) >> 40))
+
+/* Runs an image for 0 to 1,000,000 steps, or until one stops.
+ *
+ * Bits 0 to 7 of the result are the number that refuses the run, or 0. The tests go in
+ * the order 1 (image empty or over 16,384), 2, 11, 12, 13, and the first that fails
+ * decides; the other bits are then 0, and state and RAM are as given.
+ *
+ * If the run is not refused, bits 8 to 15 are its end, bits 16 to 39 the number of
+ * completed steps, and bits 40 to 63 the number of calls (JSR, long or not) among them.
+ * State and RAM are as the last completed step left them, or as given if there is none:
+ * a stop undoes its whole step, so PG and PC still name the instruction that met it. A
+ * step tests its code bytes for 20, then for 21, its operand bytes for 20, then for 22
+ * and 27, its reads for 23, then for 24 or 25, and its stores for 23 or 26. A word's
+ * low byte goes first, a push as it is pushed; the first byte that can't be served
+ * decides.
+ *
+ * A run takes no marks and asks for no check. But let m7700_check have accepted the
+ * image with its marks and base, and let a run begin with PG and PC at a marked start,
+ * m and x in PS as marked there, and no open call, whatever the other registers and RAM
+ * hold. Then this run, and each further one from the state and RAM that the last one
+ * left, ends only with its steps done or by 22 to 27, never by 20 or 21, unless it is
+ * refused: each of its steps begins at a marked start with the marked widths.
+ *
+ * Every length, base and number of steps and every byte of image, state and RAM is
+ * answered. The function reads only image, state and RAM, writes only state and RAM,
+ * and keeps no pointer. */
+uint64_t m7700_run(const uint8_t *image, size_t image_len, uint32_t base,
+                   uint8_t *state, size_t state_len,
+                   uint8_t *ram, size_t ram_len,
+                   uint32_t steps);
+
+/* Does one step: in its result and in what it leaves the same as m7700_run with 1 for
+ * the number of steps. */
+uint64_t m7700_step(const uint8_t *image, size_t image_len, uint32_t base,
+                    uint8_t *state, size_t state_len,
+                    uint8_t *ram, size_t ram_len);
+
 #ifdef __cplusplus
 }
 #endif

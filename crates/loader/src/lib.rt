@@ -1,15 +1,15 @@
 // The interface for loaders written in C (include/m7700.h): numbers and byte slices, each as a pointer and a length.
-pub mod runs;
+pub mod packing;
 
-use crate::runs::pack_run;
+use crate::packing::pack_run;
 use checker::check;
-use machine::bytes::run;
 use marklist::reader::read_list;
 use marklist::refusal_number;
 use marklist::writer::write_list;
 use model::lists::ListRead;
 use model::lists::ListWritten;
 use model::rules::Verdict;
+use runs::bytes::run;
 ghost use mathlib.Core.Path.{_≡_};
 ghost use Rattle.model.specs.Memory.{memory};
 ghost use Rattle.model.specs.RunBytes.{ranBytes, packedRun};

@@ -2,5 +2,3 @@
 pub mod Fetching
 pub mod Plans
 pub mod Turning
-pub mod Courses
-pub mod Admitted

@@ -3,16 +3,13 @@
 use Prim.Native.Nat.{ℕ, _≤_, _<_}
 use mathlib.Core.List.{List}
 use Rattle.machine.specs.declared.step.Turn.{Turn}
-use Rattle.machine.specs.declared.run.Course.{Course}
 use Rattle.model.specs.declared.code.Decoded.{Decoded}
 use Rattle.model.specs.declared.code.Decoded.the-variants.{Whole, NotCarried, CutOff}
 use Rattle.model.specs.declared.machine.Core.{Core}
 use Rattle.model.specs.declared.machine.State.{State}
 use Rattle.model.specs.declared.machine.Stop.{Stop}
 use Rattle.model.specs.declared.machine.Answer.the-variants.{Stopped}
-use Rattle.model.specs.declared.runs.RunAnswer.the-variants.{Ended}
 use Rattle.model.specs.Decode.{operandLimit}
-use Rattle.model.specs.Run.{Ran}
 use Rattle.model.specs.Step.{Stepped, stepped}
 
 abbrev pub state : Core → List ℕ → State
@@ -29,8 +26,3 @@ abbrev pub Bounded : Decoded → Type 0
 Bounded (Whole i) = (i .length ≤ 6) × (i .operand < operandLimit)
 Bounded NotCarried = Unit {0}
 Bounded CutOff = Unit {0}
-
--- what a run leaves
-abbrev pub leftBy : Course → List ℕ → List ℕ → Ran
-leftBy t calls ram =
-    record { answer = Ended (t .end) (t .steps) (t .calls); state = state (t .core) calls; ram = ram }

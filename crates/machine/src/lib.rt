@@ -1,6 +1,4 @@
 // The stepping machine: what a step fetches, what it plans to change, and the step itself.
-pub mod bytes;
 pub mod fetch;
 pub mod plan;
-pub mod run;
 pub mod step;

@@ -8,7 +8,7 @@ use mathlib.Core.List.{List, [], _∷_}
 use Prim.Native.Nat.{ℕ, zero, suc, _+_, _-_, _^_, _≤_, _<_}
 use native.Mathlib.Nat.{pow-suc}
 use native.Mathlib.Omega.{arith}
-use borrow.Author.Tests.{leb-true, lt-leb, le-leb, lt-ltb, le-ltb}
+use borrow.Author.Tests.{leb-true}
 use lib.Dec.{eqb, ltb, leb}
 use lib.ListN.{length, getD, take, drop, length-take, length-drop}
 use lib.Seq.{getD-drop, take-all}
@@ -103,7 +103,7 @@ AllBytes l = (k : ℕ) → getD l k 0 < 256
 pub bytes-drop : (n : ℕ) (l : List ℕ) → AllBytes l → AllBytes (drop n l)
 bytes-drop n l small k = rw getD-drop (small (n + k))
 
-bytes-take : (n : ℕ) (l : List ℕ) → AllBytes l → AllBytes (take n l)
+pub bytes-take : (n : ℕ) (l : List ℕ) → AllBytes l → AllBytes (take n l)
 bytes-take zero l small k = omega arith
 bytes-take (suc n) [] small k = omega arith
 bytes-take (suc n) (b ∷ bs) small zero = small 0
@@ -132,24 +132,6 @@ operand-bound bytes m x i small h =
     let below = number-bound part (bytes-take (n - k) (drop k bytes) (bytes-drop k bytes small)) in
     rw (p .operand) (rw (part-length n k bytes (p .inside)) at below)
 
--- The definition's cases, a law each, for the code that walks them.
-module _ (bytes : List ℕ) (prefix : ℕ) (e : Entry) (n : ℕ) where
-  pub judged-not-carried : e .carried ≡ false → NotCarried ≡ judged bytes prefix e n
-  unfolding judged
-  judged-not-carried h = rw h
-
-  pub judged-cut-off : e .carried ≡ true → length bytes < n → CutOff ≡ judged bytes prefix e n
-  unfolding judged
-  judged-cut-off h short = rw (h, lt-leb n (length bytes) short)
-
-  pub judged-whole : (long value : ℕ) → e .carried ≡ true → long ≡ n → long ≤ length bytes → value ≡ operandOf bytes
-      prefix long
-      → Whole (record { entry = e; length = long; operand = value }) ≡ judged bytes prefix e n
-  unfolding judged
-  judged-whole long value h same inside e-value =
-      let inside′ : n ≤ length bytes = rw same at inside in
-      rw (h, le-leb n (length bytes) inside′, e-value, same)
-
 pub page-below : (first : ℕ) → pageOf first < 3
 page-below first = below (eqb first 0x42) (eqb first 0x89)
   where
@@ -158,27 +140,10 @@ page-below first = below (eqb first 0x42) (eqb first 0x89)
     below false true = omega arith
     below false false = omega arith
 
-module _ (bytes : List ℕ) (m x : ℕ) where
-  pub decode-cut-off : length bytes ≤ prefixBytes (pageOf (getD bytes 0 0)) → CutOff ≡ decode bytes m x
-  unfolding decode decodeOn
-  decode-cut-off short = rw (le-ltb (prefixBytes (pageOf (getD bytes 0 0))) (length bytes) short)
-
-  pub decode-judged : (page prefix : ℕ) (e : Entry) → page ≡ pageOf (getD bytes 0 0) → prefix ≡ prefixBytes page
-      → prefix < length bytes → e ≡ entryAt page (getD bytes prefix 0) → judged bytes prefix e (lengthAt e m x) ≡
-      decode bytes m x
-  unfolding decode decodeOn
-  decode-judged page prefix e at-page at-prefix long at-code =
-      let long′ : prefixBytes (pageOf (getD bytes 0 0)) < length bytes = rw (at-prefix, at-page) at long in
-      rw (at-code, at-prefix, at-page, lt-ltb (prefixBytes (pageOf (getD bytes 0 0))) (length bytes) long′)
-
 pub decode-nothing : (bytes : List ℕ) (m x : ℕ) → length bytes ≡ 0 → CutOff ≡ decode bytes m x
 unfolding decode decodeOn
 decode-nothing [] m x h = refl
 decode-nothing (b ∷ bs) m x h = absurd (omega arith)
-
--- past the end stands nothing
-pub decode-past : (image : List ℕ) (at m x : ℕ) → length image ≤ at → CutOff ≡ decode (drop at image) m x
-decode-past image at m x h = decode-nothing (drop at image) m x (rw length-drop (omega arith))
 
 -- the rest of a list, as a part that ends where the list does
 pub rest-whole : (l : List ℕ) (at : ℕ) → take (length l - at) (drop at l) ≡ drop at l

@@ -136,19 +136,19 @@ return-of-entry address kind h = omega arith
 -- ---- the open calls
 
 module _ (marks : List ℕ) (base : ℕ) where
-  abbrev there : ℕ → ℕ
+  abbrev pub there : ℕ → ℕ
   there address = markAt marks base address
 
   -- What a mark has of the call opened last: its kind is that call's, and its return widths are those marked at the
   -- call's address, a marked start.
-  record Answers (mark entry : ℕ) : Type 0 where
+  pub record Answers (mark entry : ℕ) : Type 0 where
     same-kind : markKind mark ≡ kindOf entry
     start : isStart (there (returnOf entry)) ≡ true
     same-m : markM (there (returnOf entry)) ≡ returnM mark
     same-x : markX (there (returnOf entry)) ≡ returnX mark
 
   -- The chain of open calls, from the one opened last down; an entry past the list's end matches no return.
-  abbrev Chain : List ℕ → ℕ → ℕ → Type 0
+  abbrev pub Chain : List ℕ → ℕ → ℕ → Type 0
   Chain opened zero mark = Unit {0}
   Chain opened (suc n) mark =
       n < length opened → (Answers mark (getD opened n 0) × Chain opened n (there (returnOf (getD opened n 0))))
@@ -218,11 +218,11 @@ module _ (marks : List ℕ) (base : ℕ) where
   -- ---- where the machine stands
 
   -- at a marked start, with its widths, and its open calls in a chain
-  record Stands (s : State) : Type 0 where
-    start : isStart (there (placeOf (s .core))) ≡ true
-    m-marked : bit (s .core .registers .status .m) ≡ markM (there (placeOf (s .core)))
-    x-marked : bit (s .core .registers .status .x) ≡ markX (there (placeOf (s .core)))
-    chain : Chain (s .calls) (s .core .depth) (there (placeOf (s .core)))
+  pub record Stands (s : State) : Type 0 where
+    pub start : isStart (there (placeOf (s .core))) ≡ true
+    pub m-marked : bit (s .core .registers .status .m) ≡ markM (there (placeOf (s .core)))
+    pub x-marked : bit (s .core .registers .status .x) ≡ markX (there (placeOf (s .core)))
+    pub chain : Chain (s .calls) (s .core .depth) (there (placeOf (s .core)))
 
   -- what a change must bring for the machine to stand so after it
   record Arrives (s : State) (i : Instruction) (place : ℕ) (change : CallChange) : Type 0 where
@@ -609,11 +609,11 @@ module _ (image marks : List ℕ) (base reset : ℕ) (rules : Accepts image mark
 
 -- ---- a history
 
-every-append : {A : Type 0} (P : A → Type 0) (xs ys : List A) → Every P xs → Every P ys → Every P (xs ++ ys)
+pub every-append : {A : Type 0} (P : A → Type 0) (xs ys : List A) → Every P xs → Every P ys → Every P (xs ++ ys)
 every-append P [] ys h k = k
 every-append P (x ∷ xs) ys h k = (h .0, every-append P xs ys (h .1) k)
 
-every-map : {A : Type 0} (P Q : A → Type 0) → ((x : A) → P x → Q x) → (xs : List A) → Every P xs → Every Q xs
+pub every-map : {A : Type 0} (P Q : A → Type 0) → ((x : A) → P x → Q x) → (xs : List A) → Every P xs → Every Q xs
 every-map P Q f [] h = tt
 every-map P Q f (x ∷ xs) h = (f x (h .0), every-map P Q f xs (h .1))
 
@@ -627,8 +627,8 @@ end-late Called end a e = e
 end-late (Stopped stop) end a e = a
 
 module _ (image marks : List ℕ) (base reset : ℕ) (rules : Accepts image marks base reset) where
-  record Sound (e : Event) : Type 0 where
-    safe : Safe image marks base e
+  pub record Sound (e : Event) : Type 0 where
+    pub safe : Safe image marks base e
     own : OwnKind image base e
 
   -- what a history shows that begins where the machine stands at its marks
@@ -668,12 +668,12 @@ module _ (image marks : List ℕ) (base reset : ℕ) (rules : Accepts image mark
       by (AtStop stop) e l = EndsWell.stopped stop e (l .0) (l .1)
 
   -- what a run shows, refused or not
-  record Runs (m : Memory) (s : State) (asked : ℕ) : Type 0 where
-    every : Every Sound (runHistory m s asked)
-    stands : Stands marks base (ran m s asked .state)
-    accounted : Accounted m s asked
+  pub record Runs (m : Memory) (s : State) (asked : ℕ) : Type 0 where
+    pub every : Every Sound (runHistory m s asked)
+    pub stands : Stands marks base (ran m s asked .state)
+    pub accounted : Accounted m s asked
 
-  runs : (asked : ℕ) (ram : List ℕ) (s : State) → Stands marks base s → Runs (memory ram image base) s asked
+  pub runs : (asked : ℕ) (ram : List ℕ) (s : State) → Stands marks base s → Runs (memory ram image base) s asked
   runs asked ram s st = by (admission m′ s asked) refl
     where
       m′ : Memory
@@ -730,7 +730,7 @@ module _ (image marks : List ℕ) (base reset : ℕ) (rules : Accepts image mark
 
 -- ---- the guarantee
 
-begun : (image marks : List ℕ) (base : ℕ) (ram : List ℕ) (s : State) → Begins marks (memory ram image base) s
+pub begun : (image marks : List ℕ) (base : ℕ) (ram : List ℕ) (s : State) → Begins marks (memory ram image base) s
     → Stands marks base s
 begun image marks base ram s b = record {
   start = b .marked .is-start;

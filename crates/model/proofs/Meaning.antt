@@ -201,30 +201,37 @@ module _ (image marks : List ℕ) (base reset : ℕ) where
           (eqb (startNumber image marks base k) 0) (f .2 k high))))) e
       by true true true true true el eb ef er es e = let z : _≡_ {A = ℕ} 0 1 = cc in absurd (omega arith)
 
--- ---- a refusal's number and offset are small
+-- ---- the range of a refusal's number and offset
 
-start-number-small : (image marks : List ℕ) (base at n : ℕ) → StartBreaks image marks base at n → n ≤ 10
-start-number-small image marks base at n (StartBreaks.code e) = omega arith
-start-number-small image marks base at n (StartBreaks.cut-off e) = omega arith
-start-number-small image marks base at n (StartBreaks.overlap i e k low high s) = omega arith
-start-number-small image marks base at n (StartBreaks.return i e c f) = omega arith
-start-number-small image marks base at n (StartBreaks.flow i e c f w a s) = omega arith
-start-number-small image marks base at n (StartBreaks.widths i e c f all w a s) = omega arith
+start-number-range : (image marks : List ℕ) (base at n : ℕ) → StartBreaks image marks base at n → (0 < n) × (n ≤ 10)
+start-number-range image marks base at n (StartBreaks.code e) = (omega arith, omega arith)
+start-number-range image marks base at n (StartBreaks.cut-off e) = (omega arith, omega arith)
+start-number-range image marks base at n (StartBreaks.overlap i e k low high s) = (omega arith, omega arith)
+start-number-range image marks base at n (StartBreaks.return i e c f) = (omega arith, omega arith)
+start-number-range image marks base at n (StartBreaks.flow i e c f w a s) = (omega arith, omega arith)
+start-number-range image marks base at n (StartBreaks.widths i e c f all w a s) = (omega arith, omega arith)
 
 few-marks : (image marks : List ℕ) → lengthFits (length image) (length marks) ≡ true → length marks ≤ 16_384
 few-marks image marks h = let r = right-length (length image) (length marks) h in omega (arith, r .few, r .same)
 
-breaks-small : (image marks : List ℕ) (base reset n at : ℕ) → Breaks image marks base reset n at → (n ≤ 10) × (at <
-    65_536)
-breaks-small image marks base reset n at (Breaks.wrong-length l) = (omega arith, omega arith)
-breaks-small image marks base reset n at (Breaks.wrong-base l b) = (omega arith, omega arith)
-breaks-small image marks base reset n at (Breaks.wrong-mark l b at′ inside f below) =
-    (omega arith, omega (arith, few-marks image marks l))
-breaks-small image marks base reset n at (Breaks.wrong-reset l b f r) = (omega arith, omega arith)
-breaks-small image marks base reset n at (Breaks.wrong-start l b f r at′ n′ inside s breaks below) =
-    (start-number-small image marks base at n breaks, omega (arith, few-marks image marks l))
+breaks-range : (image marks : List ℕ) (base reset n at : ℕ) → Breaks image marks base reset n at
+    → (0 < n) × (n ≤ 10) × (at < 65_536)
+breaks-range image marks base reset n at (Breaks.wrong-length l) = (omega arith, omega arith, omega arith)
+breaks-range image marks base reset n at (Breaks.wrong-base l b) = (omega arith, omega arith, omega arith)
+breaks-range image marks base reset n at (Breaks.wrong-mark l b at′ inside f below) =
+    (omega arith, omega arith, omega (arith, few-marks image marks l))
+breaks-range image marks base reset n at (Breaks.wrong-reset l b f r) = (omega arith, omega arith, omega arith)
+breaks-range image marks base reset n at (Breaks.wrong-start l b f r at′ n′ inside s breaks below) =
+    let r = start-number-range image marks base at n breaks in
+    (r .0, r .1, omega (arith, few-marks image marks l))
 
 pub refused-small : (image marks : List ℕ) (base reset n at : ℕ) → verdict image marks base reset ≡ Refused n at
     → (n ≤ 10) × (at < 65_536)
 refused-small image marks base reset n at h =
-    breaks-small image marks base reset n at (refused-means image marks base reset n at h)
+    let r = breaks-range image marks base reset n at (refused-means image marks base reset n at h) in
+    (r .1, r .2)
+
+-- no refusal's number is 0
+pub refused-some : (image marks : List ℕ) (base reset n at : ℕ) → verdict image marks base reset ≡ Refused n at → 0 < n
+refused-some image marks base reset n at h =
+    breaks-range image marks base reset n at (refused-means image marks base reset n at h) .0

@@ -85,6 +85,16 @@ parted-joined size (value ∷ values) small =
 
 -- ---- a state to bytes and back
 
+entries-behind : (s : State) → drop headSize (bytesOf s) ≡ joined entrySize (s .calls)
+unfolding bytesOf headOf joined lowBytes
+entries-behind s = refl
+
+-- the open calls come back, whatever the registers
+pub calls-back : (s : State) → length (s .calls) ≡ callLimit → ((k : ℕ) → getD (s .calls) k 0 < 256 ^ entrySize)
+    → stateOf (bytesOf s) .calls ≡ s .calls
+unfolding stateOf
+calls-back s long small = rw (entries-behind s, ← long) (parted-joined entrySize (s .calls) small)
+
 module _ (s : State) (k : Keeps s) where
   core-head : coreOf (bytesOf s) ≡ s .core
   unfolding coreOf bytesOf headOf joined lowBytes
@@ -111,16 +121,9 @@ module _ (s : State) (k : Keeps s) where
       same-status : statusOf (number (lowBytes 2 (numberOf given))) ≡ given
       same-status = ap statusOf (number-low 2 (numberOf given) (status-bound given (k .level))) ∙ number-status given
 
-  entries-behind : drop headSize (bytesOf s) ≡ joined entrySize (s .calls)
-  unfolding bytesOf headOf joined lowBytes
-  entries-behind = refl
-
-  calls-behind : parted entrySize callLimit (drop headSize (bytesOf s)) ≡ s .calls
-  calls-behind = rw (entries-behind, ← k .calls) (parted-joined entrySize (s .calls) (k .entries))
-
   pub state-bytes : stateOf (bytesOf s) ≡ s
   unfolding stateOf
-  state-bytes = λ j. record { core = core-head j; calls = calls-behind j }
+  state-bytes = λ j. record { core = core-head j; calls = calls-back s (k .calls) (k .entries) j }
 
 -- ---- bytes to a state and back
 

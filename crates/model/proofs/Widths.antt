@@ -34,12 +34,6 @@ pub kind-bits : (k : Kind) → kindNumber k ≤ 3
 kind-bits ByRts = omega arith
 kind-bits ByRtl = omega arith
 
--- a length of at most six that is none of 3 to 6 leaves the whole operand
-pub whole-operand : (operand n : ℕ) → n ≤ 6 → (n ≡ 3 → ⊥) → (n ≡ 4 → ⊥) → (n ≡ 5 → ⊥) → (n ≡ 6 → ⊥) → operand ≡ lastByte operand n
-whole-operand operand n h h3 h4 h5 h6 =
-    let none : n - 2 ≡ 0 = omega arith in
-    rw none (omega arith)
-
 pub last-byte-at-most : (operand n : ℕ) → lastByte operand n ≤ operand
 last-byte-at-most operand n = div-le-self operand (256 ^ (n - 2))
 

@@ -5,8 +5,8 @@ use native.Mathlib.Omega.{arith}
 use borrow.Author.Tests.{not-true, not-false, lt-leb, le-leb}
 use mathlib.Core.Path.{refl}
 use borrow.Author.Needs.{needs}
-use Rattle.machine.proofs.bytes.admission_by.Statement.{statement}
-use Rattle.machine.proofs.bytes.admission_by.Tie as tie
+use Rattle.runs.proofs.bytes.admission_by.Statement.{statement}
+use Rattle.runs.proofs.bytes.admission_by.Tie as tie
 
 returns : tie.Need-returns
 unfolding admissionBy

@@ -2,8 +2,8 @@
 -- Assumes nothing.
 use mathlib.Core.Path.{refl}
 use borrow.Author.Needs.{needs}
-use Rattle.machine.proofs.run.end_at.Statement.{statement}
-use Rattle.machine.proofs.run.end_at.Tie as tie
+use Rattle.runs.proofs.course.end_at.Statement.{statement}
+use Rattle.runs.proofs.course.end_at.Tie as tie
 
 returns-3 : tie.Need-returns-3
 returns-3 c = rw (c .before .answer .given .1) refl

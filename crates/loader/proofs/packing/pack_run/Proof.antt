@@ -3,8 +3,8 @@
 use native.Mathlib.Omega.{arith}
 use mathlib.Core.Path.{refl}
 use borrow.Author.Needs.{needs}
-use Rattle.loader.proofs.runs.pack_run.Statement.{statement}
-use Rattle.loader.proofs.runs.pack_run.Tie as tie
+use Rattle.loader.proofs.packing.pack_run.Statement.{statement}
+use Rattle.loader.proofs.packing.pack_run.Tie as tie
 
 mul-result-3 : tie.Need-mul-result-3
 mul-result-3 c =

@@ -3,8 +3,8 @@
 use borrow.Author.Tests.{eq-eqb, ne-eqb}
 use mathlib.Core.Path.{refl}
 use borrow.Author.Needs.{needs}
-use Rattle.machine.proofs.bytes.fits.Statement.{statement}
-use Rattle.machine.proofs.bytes.fits.Tie as tie
+use Rattle.runs.proofs.bytes.fits.Statement.{statement}
+use Rattle.runs.proofs.bytes.fits.Tie as tie
 
 returns : tie.Need-returns
 returns c = rw (ne-eqb _ _ (c .if1 .taken)) refl

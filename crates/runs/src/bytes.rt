@@ -1,5 +1,5 @@
 // A run of a state that is given as bytes: any bytes are answered.
-use crate::run::run_in;
+use crate::course::run_in;
 use codepages::pages;
 use image::base_fits;
 use image::length_fits;

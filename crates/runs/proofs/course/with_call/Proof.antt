@@ -3,8 +3,8 @@
 use native.Mathlib.Omega.{arith}
 use mathlib.Core.Path.{refl}
 use borrow.Author.Needs.{needs}
-use Rattle.machine.proofs.run.with_call.Statement.{statement}
-use Rattle.machine.proofs.run.with_call.Tie as tie
+use Rattle.runs.proofs.course.with_call.Statement.{statement}
+use Rattle.runs.proofs.course.with_call.Tie as tie
 
 returns : tie.Need-returns
 returns c = rw (c .enum-told .given .1) (omega arith)

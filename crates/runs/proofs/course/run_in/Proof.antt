@@ -2,12 +2,12 @@
 -- Assumes nothing.
 use borrow.Author.Tests.{not-true, not-false}
 use mathlib.Core.Path.{sym, _∙_}
-use Rattle.machine.proofs.Courses.{Going, begins, ends, goes-on, stops-so}
+use Rattle.runs.proofs.Going.{Going, begins, ends, goes-on, stops-so}
 use Prim.Native.Nat.{_-_}
 use native.Mathlib.Omega.{arith}
 use borrow.Author.Needs.{needs}
-use Rattle.machine.proofs.run.run_in.Statement.{statement}
-use Rattle.machine.proofs.run.run_in.Tie as tie
+use Rattle.runs.proofs.course.run_in.Statement.{statement}
+use Rattle.runs.proofs.course.run_in.Tie as tie
 
 abbrev Inv-loop : tie.InvT-loop
 Inv-loop codes image base calls₀ ram₀ asked core₀ steps₀ made₀ calls ram core steps made =

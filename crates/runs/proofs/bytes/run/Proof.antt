@@ -1,12 +1,12 @@
 -- A refused run changes nothing; one that is taken up keeps the bounds that the steps need, and its state is written back.
 -- Assumes nothing.
-use Rattle.machine.proofs.Admitted.{admitted, long, shallow, run-refused, run-taken}
+use Rattle.runs.proofs.Admitted.{admitted, long, shallow, run-refused, run-taken}
 use Rattle.model.specs.Memory.{memory}
 use lib.ListN.{length}
 use mathlib.Core.Path.{sym, ap, _∙_}
 use borrow.Author.Needs.{needs}
-use Rattle.machine.proofs.bytes.run.Statement.{statement}
-use Rattle.machine.proofs.bytes.run.Tie as tie
+use Rattle.runs.proofs.bytes.run.Statement.{statement}
+use Rattle.runs.proofs.bytes.run.Tie as tie
 
 returns : tie.Need-returns
 returns c =

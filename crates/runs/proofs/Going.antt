@@ -20,8 +20,9 @@ use Rattle.model.specs.Run.{isCompleted, isCall, endAfter, Ran, played}
 use Rattle.model.proofs.Run.{further, ended, completed-stops, stopped-leaves}
 use Rattle.model.proofs.Run.{run-begins, run-goes-on, run-stops, run-ends}
 use Rattle.model.proofs.Step.{depth-kept}
 use Rattle.machine.specs.declared.step.Turn.{Turn}
-use Rattle.machine.specs.Turns.{state, left, leftBy}
+use Rattle.machine.specs.Turns.{state, left}
+use Rattle.runs.specs.Courses.{leftBy}
 
 module _ (m : Memory) (s : State) where
   -- the run ends so

@@ -1,5 +1,5 @@
 // Steps one after another, until the asked number is done or one stops.
-use crate::step::step_in;
+use machine::step::step_in;
 use model::machine::Answer;
 use model::machine::CALL_LIMIT;
 use model::machine::Core;
@@ -14,7 +14,8 @@ ghost use Rattle.model.specs.declared.runs.End.the-variants.{Done};
 ghost use Rattle.model.specs.Run.{stepLimit, isCompleted, isCall, endAfter, played};
 ghost use Rattle.model.specs.Status.{bit};
 ghost use Rattle.model.specs.Step.{callLimit};
-ghost use Rattle.machine.specs.Turns.{state, leftBy};
+ghost use Rattle.machine.specs.Turns.{state};
+ghost use Rattle.runs.specs.Courses.{leftBy};
 
 // How a run ended, the steps completed, the calls among them, and the registers after it.
 pub struct Course {

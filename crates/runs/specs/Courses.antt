@@ -1,0 +1,12 @@
+-- A run's end as the code has it, beside what is lent to it, as the definition's.
+-- Assumes nothing.
+use Prim.Native.Nat.{ℕ}
+use mathlib.Core.List.{List}
+use Rattle.runs.specs.declared.course.Course.{Course}
+use Rattle.model.specs.declared.runs.RunAnswer.the-variants.{Ended}
+use Rattle.model.specs.Run.{Ran}
+use Rattle.machine.specs.Turns.{state}
+
+abbrev pub leftBy : Course → List ℕ → List ℕ → Ran
+leftBy t calls ram =
+    record { answer = Ended (t .end) (t .steps) (t .calls); state = state (t .core) calls; ram = ram }
