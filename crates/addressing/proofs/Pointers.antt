@@ -1,44 +1,69 @@
 -- Addresses that memory holds, by what the reads of their bytes gave.
 -- Assumes nothing.
 use mathlib.Core.Path.{_≡_, refl, sym, ap, _∙_}
-use mathlib.Core.Bool.{Bool}
-use Prim.Native.Nat.{ℕ, _+_}
+use mathlib.Core.Bool.{Bool, true, false}
+use mathlib.Core.List.{[], _∷_}
+use mathlib.Core.Logic.{⊎-elim}
+use Prim.Native.Nat.{ℕ, _≤_, _<_}
+use native.Mathlib.Omega.{arith}
+use denote.Enum.Declared.{tagOf}
+use types.Run.{OneOf}
 use Rattle.addressing.specs.declared.reach.AddressRead.{AddressRead}
 use Rattle.addressing.specs.declared.reach.AddressRead.the-variants.{At, Unmapped as NoAddress}
 use Rattle.addressing.specs.declared.reach.DataRead.{DataRead}
 use Rattle.addressing.specs.declared.reach.DataRead.the-variants.{Found, Unmapped as NoData}
-use Rattle.addressing.specs.Found.{addressRead, dataRead, aloneAt, aloneOf}
+use Rattle.addressing.specs.Found.{addressRead, dataRead, aloneOf, isAddress, residenceBy, reachedBy, foundAt}
 use Rattle.memory.specs.declared.reads.WordRead.{WordRead}
 use Rattle.memory.specs.declared.reads.WordRead.the-variants.{Word, Unmapped as NoWord}
 use Rattle.memory.specs.declared.reads.LongRead.{LongRead}
 use Rattle.memory.specs.declared.reads.LongRead.the-variants.{Long, Unmapped as NoLong}
 use Rattle.memory.specs.Reads.{wordRead, longRead}
 use Rattle.memory.proofs.Views.{word-done, word-unmapped, long-done, long-unmapped}
+use Rattle.model.specs.declared.code.Accumulator.{Accumulator as Named}
+use Rattle.model.specs.declared.code.Mode.{Mode}
+use Rattle.model.specs.declared.machine.Access.{Access}
+use Rattle.model.specs.declared.machine.Access.the-variants.{Operand, Addend, Address, Pull, DirectWord}
 use Rattle.model.specs.declared.machine.Registers.{Registers}
+use Rattle.model.specs.declared.machine.Residence.{Residence}
+use Rattle.model.specs.declared.machine.Residence.the-variants.{Memory as InMemory, Instruction, Register}
 use Rattle.model.specs.Memory.{Memory, Act, ret, _>>=_, Outcome, done, unmapped, come}
 use Rattle.model.specs.Memory.{readWord, readLong, readData}
-use Rattle.model.specs.Addressing.{dataAt}
+use Rattle.model.specs.Addressing.{size, low, dataAt, addressOf, residenceOf, operandBy, dataOf}
 use Rattle.model.specs.declared.machine.Data.{Data}
+use Rattle.model.proofs.machine.Access.{the-type}
 use Rattle.model.proofs.Memory.{onDone, come-bind, after-done, after-unmapped}
+
+most : (short : Bool) → size short ≤ 65_536
+most true = omega arith
+most false = omega arith
+
+-- an index: what a width holds of a register
+pub indexed : (short wanted : Bool) (v x r : ℕ) → short ≡ wanted → v ≡ x → (r ≡ low short v) × (r < size short)
+    → (r ≡ low wanted x) × (r ≤ 65_535)
+indexed short wanted v x r e e′ h = (rw (← e, ← e′) (h .0), omega (arith, most short))
 
 module _ (m : Memory) (at : ℕ) (f : ℕ → ℕ) where
   module _ (w : WordRead) (e : w ≡ wordRead (come m (readWord at))) where
     pub word-found : (v : ℕ) → w ≡ Word v → At (f v) ≡ addressRead (come m (readWord at >>= (λ p. ret (f p))))
     word-found v e′ =
-        ap addressRead (sym (after-done m (readWord at) (λ p. ret (f p)) v (word-done (come m (readWord at)) w v e e′)))
+        ap addressRead (sym (after-done m (readWord at) (λ p. ret (f p)) v (word-done (come m (readWord at)) w v
+        e e′)))
 
     pub word-missing : w ≡ NoWord → NoAddress ≡ addressRead (come m (readWord at >>= (λ p. ret (f p))))
     word-missing e′ =
-        ap addressRead (sym (after-unmapped m (readWord at) (λ p. ret (f p)) (word-unmapped (come m (readWord at)) w e e′)))
+        ap addressRead (sym (after-unmapped m (readWord at) (λ p. ret (f p)) (word-unmapped (come m (readWord
+        at)) w e e′)))
 
   module _ (w : LongRead) (e : w ≡ longRead (come m (readLong at))) where
     pub long-found : (v : ℕ) → w ≡ Long v → At (f v) ≡ addressRead (come m (readLong at >>= (λ p. ret (f p))))
     long-found v e′ =
-        ap addressRead (sym (after-done m (readLong at) (λ p. ret (f p)) v (long-done (come m (readLong at)) w v e e′)))
+        ap addressRead (sym (after-done m (readLong at) (λ p. ret (f p)) v (long-done (come m (readLong at)) w v
+        e e′)))
 
     pub long-missing : w ≡ NoLong → NoAddress ≡ addressRead (come m (readLong at >>= (λ p. ret (f p))))
     long-missing e′ =
-        ap addressRead (sym (after-unmapped m (readLong at) (λ p. ret (f p)) (long-unmapped (come m (readLong at)) w e e′)))
+        ap addressRead (sym (after-unmapped m (readLong at) (λ p. ret (f p)) (long-unmapped (come m (readLong
+        at)) w e e′)))
 
 module _ (m : Memory) (at : ℕ) (w : LongRead) (e : w ≡ longRead (come m (readLong at))) where
   pub long-itself : (v : ℕ) → w ≡ Long v → At v ≡ addressRead (come m (readLong at))
@@ -57,35 +82,85 @@ address-unmapped unmapped a e e′ = cc
 
 -- data at an address that an action comes to
 module _ (m : Memory) (act : Act ℕ) (short : Bool) (a : AddressRead) (e : a ≡ addressRead (come m act)) where
+  abbrev itself : ℕ → Act Data
+  itself at = ret (dataAt at 0)
+
   abbrev then : ℕ → Act Data
   then at = readData short at >>= (λ v. ret (dataAt at v))
 
-  pub data-nowhere : a ≡ NoAddress → NoData ≡ dataRead (come m (act >>= then))
-  data-nowhere e′ = ap dataRead (sym (after-unmapped m act then (address-unmapped (come m act) a e e′)))
+  alone-nowhere : a ≡ NoAddress → NoData ≡ dataRead (come m (act >>= itself))
+  alone-nowhere e′ = ap dataRead (sym (after-unmapped m act itself (address-unmapped (come m act) a e e′)))
+
+  alone-found : (at : ℕ) → a ≡ At at → Found (dataAt at 0) ≡ dataRead (come m (act >>= itself))
+  alone-found at e′ = ap dataRead (sym (after-done m act itself at (address-done (come m act) a at e e′)))
+
+  there-nowhere : a ≡ NoAddress → NoData ≡ dataRead (come m (act >>= then))
+  there-nowhere e′ = ap dataRead (sym (after-unmapped m act then (address-unmapped (come m act) a e e′)))
 
   module _ (at : ℕ) (e′ : a ≡ At at) (w : WordRead) (read : w ≡ wordRead (come m (readData short at))) where
     reached : come m (act >>= then) ≡ come m (then at)
     reached = after-done m act then at (address-done (come m act) a at e e′)
 
-    pub data-found : (v : ℕ) → w ≡ Word v → Found (dataAt at v) ≡ dataRead (come m (act >>= then))
-    data-found v e″ =
-        ap dataRead (sym (reached ∙ after-done m (readData short at) (λ u. ret (dataAt at u)) v (word-done (come m (readData
-        short at)) w v read e″)))
+    there-found : (v : ℕ) → w ≡ Word v → Found (dataAt at v) ≡ dataRead (come m (act >>= then))
+    there-found v e″ =
+        ap dataRead (sym (reached ∙ after-done m (readData short at) (λ u. ret (dataAt at u)) v
+        (word-done (come m (readData short at)) w v read e″)))
 
-    pub data-missing : w ≡ NoWord → NoData ≡ dataRead (come m (act >>= then))
-    data-missing e″ =
-        ap dataRead (sym (reached ∙ after-unmapped m (readData short at) (λ u. ret (dataAt at u)) (word-unmapped (come m
-        (readData short at)) w read e″)))
+    there-missing : w ≡ NoWord → NoData ≡ dataRead (come m (act >>= then))
+    there-missing e″ =
+        ap dataRead (sym (reached ∙ after-unmapped m (readData short at) (λ u. ret (dataAt at u))
+        (word-unmapped (come m (readData short at)) w read e″)))
 
--- an address alone, and data alone, as their actions come to them
-pub address-only : (m : Memory) (act : Act ℕ)
-    → aloneAt (addressRead (come m act)) ≡ dataRead (come m (act >>= (λ at. ret (dataAt at 0))))
-address-only m act = by (come m act) ∙ ap dataRead (sym (come-bind m act (λ at. ret (dataAt at 0))))
-  where
-    by : (o : Outcome ℕ) → aloneAt (addressRead o) ≡ dataRead (onDone o (λ at. done (dataAt at 0)))
-    by (done at) = refl
-    by unmapped = refl
+-- the same at the address of a mode, which may be asked alone
+module _ (m : Memory) (mode : Mode) (r : Registers) (short : Bool) (operand : ℕ) where
+  abbrev act : Act ℕ
+  act = addressOf mode r operand
 
+  module _ (a : AddressRead) (e : a ≡ addressRead (come m act)) where
+    pub data-nowhere : (alone : Bool) → a ≡ NoAddress
+        → NoData ≡ dataRead (come m (reachedBy alone mode r short operand))
+    data-nowhere true e′ = alone-nowhere m act short a e e′
+    data-nowhere false e′ = there-nowhere m act short a e e′
+
+    pub address-found : (alone : Bool) → alone ≡ true → (at : ℕ) → a ≡ At at
+        → Found (dataAt at 0) ≡ dataRead (come m (reachedBy alone mode r short operand))
+    address-found true t at e′ = alone-found m act short a e at e′
+    address-found false t at e′ = cc
+
+    module _ (at : ℕ) (e′ : a ≡ At at) (w : WordRead) (read : w ≡ wordRead (come m (readData short at))) where
+      pub data-found : (alone : Bool) → alone ≡ false → (v : ℕ) → w ≡ Word v
+          → Found (dataAt at v) ≡ dataRead (come m (reachedBy alone mode r short operand))
+      data-found true t v e″ = cc
+      data-found false t v e″ = there-found m act short a e at e′ w read v e″
+
+      pub data-missing : (alone : Bool) → alone ≡ false → w ≡ NoWord
+          → NoData ≡ dataRead (come m (reachedBy alone mode r short operand))
+      data-missing true t e″ = cc
+      data-missing false t e″ = there-missing m act short a e at e′ w read e″
+
+past-keys : (tag : ℕ) → 2 < tag → OneOf (0 ∷ 1 ∷ 2 ∷ []) tag → ⊥
+past-keys tag past h = ⊎-elim (λ e. omega arith) (λ h′. ⊎-elim (λ e. omega arith) (λ e. omega arith) h′) h
+
+-- what is asked of the mode's data, where the code looks for it
+module _ (mode : Mode) (register : Named) (r : Registers) (short : Bool) (operand : ℕ) where
+  operand-found : (place : Residence)
+      → operandBy place mode register r short operand ≡ foundAt place false mode register r short operand
+  unfolding operandBy
+  operand-found InMemory = refl
+  operand-found Instruction = refl
+  operand-found Register = refl
+
+  pub asked : (access : Access) → OneOf (0 ∷ 1 ∷ 2 ∷ []) (tagOf the-type access)
+      → dataOf access mode register r short operand
+      ≡ foundAt (residenceBy (isAddress access) mode) (isAddress access) mode register r short operand
+  unfolding dataOf
+  asked Operand h = operand-found (residenceOf mode)
+  asked Addend h = operand-found (residenceOf mode)
+  asked Address h = refl
+  asked Pull h = absurd (past-keys 3 (omega arith) h)
+  asked DirectWord h = absurd (past-keys 4 (omega arith) h)
+
+-- data alone, as its action comes to it
 pub value-only : (m : Memory) (act : Act ℕ)
     → aloneOf (wordRead (come m act)) ≡ dataRead (come m (act >>= (λ v. ret (dataAt 0 v))))
 value-only m act = by (come m act) ∙ ap dataRead (sym (come-bind m act (λ v. ret (dataAt 0 v))))

@@ -1,8 +1,17 @@
 // The address of an instruction's data by its mode, and the data there.
 use cpu::data::low;
+use cpu::data::wide;
 use cpu::effects::pulled_at;
 use cpu::effects::residence_of;
-use cpu::registers::accumulator_of;
+use cpu::file::DPR;
+use cpu::file::DT;
+use cpu::file::FILE_SIZE;
+use cpu::file::PS;
+use cpu::file::S;
+use cpu::file::X;
+use cpu::file::Y;
+use cpu::file::accumulator_in;
+use cpu::flags::is_set;
 use memory::reads::LongRead;
 use memory::reads::WordRead;
 use memory::reads::data_from;
@@ -12,14 +21,15 @@ use model::code::Accumulator;
 use model::code::Mode;
 use model::machine::Access;
 use model::machine::Data;
-use model::machine::Registers;
 use model::machine::Residence;
+use model::machine::Status;
 ghost use mathlib.Core.Path.{_≡_};
-ghost use Prim.Native.Nat.{_+_, _≤_, _<_};
+ghost use Prim.Native.Nat.{_≤_, _<_};
+ghost use Rattle.cpu.specs.File.{registersOf};
 ghost use Rattle.model.specs.Addressing as spec;
 ghost use Rattle.model.specs.Image.{addressLimit};
 ghost use Rattle.model.specs.Memory.{memory, come, readLong};
-ghost use Rattle.addressing.specs.Found.{addressRead, dataRead, aloneAt, aloneOf};
+ghost use Rattle.addressing.specs.Found.{addressRead, dataRead, aloneOf, isAddress, residenceBy, reachedBy, foundAt};
 
 // The address of data.
 pub enum AddressRead {
@@ -33,36 +43,41 @@ pub enum DataRead {
     Unmapped,
 }
 
-fn index_x(registers: Registers) -> u32
-    ensures { λ r. ⌜ (r ≡ spec.indexX registers) × (r ≤ 65_535) ⌝ }
+// A register where an address is wanted.
+fn word(v: u16) -> u32
+    ensures { λ r. ⌜ (r ≡ v) × (r ≤ 65_535) ⌝ }
 {
-    let status = registers.status;
-    low(status.x, registers.x as u64) as u32
+    v as u32
 }
 
-fn index_y(registers: Registers) -> u32
-    ensures { λ r. ⌜ (r ≡ spec.indexY registers) × (r ≤ 65_535) ⌝ }
+fn index_x(registers: &[u16; FILE_SIZE]) -> u32
+    ensures { λ r. ⌜ (r ≡ spec.indexX (registersOf (now (registers .entry)))) × (r ≤ 65_535) ⌝ }
 {
-    let status = registers.status;
-    low(status.x, registers.y as u64) as u32
+    low(is_set(Status::X, registers[PS]), wide(registers[X])) as u32
 }
 
-fn direct(registers: Registers, operand: u64) -> u32
-    ensures { λ r. ⌜ (r ≡ spec.direct registers operand) × (r ≤ 65_790) ⌝ }
+fn index_y(registers: &[u16; FILE_SIZE]) -> u32
+    ensures { λ r. ⌜ (r ≡ spec.indexY (registersOf (now (registers .entry)))) × (r ≤ 65_535) ⌝ }
 {
-    registers.dpr as u32 + (operand % 256) as u32
+    low(is_set(Status::X, registers[PS]), wide(registers[Y])) as u32
 }
 
-fn absolute(registers: Registers, operand: u64) -> u32
-    ensures { λ r. ⌜ (r ≡ spec.absolute registers operand) × (r < addressLimit) ⌝ }
+fn direct(registers: &[u16; FILE_SIZE], operand: u64) -> u32
+    ensures { λ r. ⌜ (r ≡ spec.direct (registersOf (now (registers .entry))) operand) × (r ≤ 65_790) ⌝ }
 {
-    registers.dt as u32 * 65_536 + (operand % 65_536) as u32
+    word(registers[DPR]) + (operand % 256) as u32
 }
 
-fn stack_relative(registers: Registers, operand: u64) -> u32
-    ensures { λ r. ⌜ (r ≡ spec.stackRelative registers operand) × (r ≤ 65_790) ⌝ }
+fn absolute(registers: &[u16; FILE_SIZE], operand: u64) -> u32
+    ensures { λ r. ⌜ (r ≡ spec.absolute (registersOf (now (registers .entry))) operand) × (r < addressLimit) ⌝ }
 {
-    registers.s as u32 + (operand % 256) as u32
+    (registers[DT] % 256) as u32 * 65_536 + (operand % 65_536) as u32
+}
+
+fn stack_relative(registers: &[u16; FILE_SIZE], operand: u64) -> u32
+    ensures { λ r. ⌜ (r ≡ spec.stackRelative (registersOf (now (registers .entry))) operand) × (r ≤ 65_790) ⌝ }
+{
+    word(registers[S]) + (operand % 256) as u32
 }
 
 fn long(operand: u64) -> u32
@@ -72,24 +87,38 @@ fn long(operand: u64) -> u32
 }
 
 // The address in the data bank that the word at a place holds.
-fn by_word(ram: &[u8], image: &[u8], base: u32, registers: Registers, at: u32) -> AddressRead
-    ensures { λ r. ⌜ r ≡ addressRead (come (memory (now (ram .entry)) (now (image .entry)) base) (spec.byWord registers at)) ⌝ }
+fn by_word(
+    ram: &[u8],
+    image: &[u8],
+    base: u32,
+    registers: &[u16; FILE_SIZE],
+    at: u32,
+) -> AddressRead
+    ensures { λ r. ⌜ r ≡ addressRead (come (memory (now (ram .entry)) (now (image .entry)) base) (spec.byWord (registersOf (now (registers .entry))) at)) ⌝ }
 {
     let read = word_from(ram, image, base, at as u64, at as u64 + 1);
     match read {
-        WordRead::Word(pointer) => AddressRead::At(registers.dt as u32 * 65_536 + pointer as u32),
+        WordRead::Word(pointer) => AddressRead::At(
+            (registers[DT] % 256) as u32 * 65_536 + pointer as u32,
+        ),
         WordRead::Unmapped => AddressRead::Unmapped,
     }
 }
 
 // The same, with Y added.
-fn by_word_y(ram: &[u8], image: &[u8], base: u32, registers: Registers, at: u32) -> AddressRead
-    ensures { λ r. ⌜ r ≡ addressRead (come (memory (now (ram .entry)) (now (image .entry)) base) (spec.byWordY registers at)) ⌝ }
+fn by_word_y(
+    ram: &[u8],
+    image: &[u8],
+    base: u32,
+    registers: &[u16; FILE_SIZE],
+    at: u32,
+) -> AddressRead
+    ensures { λ r. ⌜ r ≡ addressRead (come (memory (now (ram .entry)) (now (image .entry)) base) (spec.byWordY (registersOf (now (registers .entry))) at)) ⌝ }
 {
     let read = word_from(ram, image, base, at as u64, at as u64 + 1);
     match read {
         WordRead::Word(pointer) => AddressRead::At(
-            registers.dt as u32 * 65_536 + pointer as u32 + index_y(registers),
+            (registers[DT] % 256) as u32 * 65_536 + pointer as u32 + index_y(registers),
         ),
         WordRead::Unmapped => AddressRead::Unmapped,
     }
@@ -107,8 +136,14 @@ fn by_long(ram: &[u8], image: &[u8], base: u32, at: u32) -> AddressRead
 }
 
 // The same, with Y added.
-fn by_long_y(ram: &[u8], image: &[u8], base: u32, registers: Registers, at: u32) -> AddressRead
-    ensures { λ r. ⌜ r ≡ addressRead (come (memory (now (ram .entry)) (now (image .entry)) base) (spec.byLongY registers at)) ⌝ }
+fn by_long_y(
+    ram: &[u8],
+    image: &[u8],
+    base: u32,
+    registers: &[u16; FILE_SIZE],
+    at: u32,
+) -> AddressRead
+    ensures { λ r. ⌜ r ≡ addressRead (come (memory (now (ram .entry)) (now (image .entry)) base) (spec.byLongY (registersOf (now (registers .entry))) at)) ⌝ }
 {
     let read = long_from(ram, image, base, at as u64, at as u64 + 1, at as u64 + 2);
     match read {
@@ -123,10 +158,10 @@ pub fn address_of(
     image: &[u8],
     base: u32,
     mode: Mode,
-    registers: Registers,
+    registers: &[u16; FILE_SIZE],
     operand: u64,
 ) -> AddressRead
-    ensures { λ r. ⌜ r ≡ addressRead (come (memory (now (ram .entry)) (now (image .entry)) base) (spec.addressOf mode registers operand)) ⌝ }
+    ensures { λ r. ⌜ r ≡ addressRead (come (memory (now (ram .entry)) (now (image .entry)) base) (spec.addressOf mode (registersOf (now (registers .entry))) operand)) ⌝ }
 {
     match mode {
         Mode::Implied => AddressRead::At(0),
@@ -188,22 +223,26 @@ pub fn address_of(
     }
 }
 
-// The data in memory that a mode names.
+// What a mode names in memory: the address alone, or the data there.
 fn in_memory(
     ram: &[u8],
     image: &[u8],
     base: u32,
+    alone: bool,
     mode: Mode,
-    registers: Registers,
+    registers: &[u16; FILE_SIZE],
     short: bool,
     operand: u64,
 ) -> DataRead
-    ensures { λ r. ⌜ r ≡ dataRead (come (memory (now (ram .entry)) (now (image .entry)) base) (spec.inMemory mode registers short operand)) ⌝ }
+    ensures { λ r. ⌜ r ≡ dataRead (come (memory (now (ram .entry)) (now (image .entry)) base) (reachedBy alone mode (registersOf (now (registers .entry))) short operand)) ⌝ }
 {
     let reached = address_of(ram, image, base, mode, registers, operand);
     let AddressRead::At(address) = reached else {
         return DataRead::Unmapped;
     };
+    if alone {
+        return DataRead::Found(Data { address, value: 0 });
+    }
     let read = data_from(ram, image, base, short, address as u64, address as u64 + 1);
     match read {
         WordRead::Word(value) => DataRead::Found(Data { address, value }),
@@ -211,40 +250,41 @@ fn in_memory(
     }
 }
 
-// The data that a mode names.
+// Where the data of a mode lies, in memory where its address alone is asked.
+fn residence_by(alone: bool, mode: Mode) -> Residence
+    ensures { λ r. ⌜ r ≡ residenceBy alone mode ⌝ }
+{
+    if alone {
+        return Residence::Memory;
+    }
+    residence_of(mode)
+}
+
+// What a mode names: the address alone, or the data.
 fn operand_by(
     ram: &[u8],
     image: &[u8],
     base: u32,
+    alone: bool,
     mode: Mode,
     named: Accumulator,
-    registers: Registers,
+    registers: &[u16; FILE_SIZE],
     short: bool,
     operand: u64,
 ) -> DataRead
-    ensures { λ r. ⌜ r ≡ dataRead (come (memory (now (ram .entry)) (now (image .entry)) base) (spec.operandOf mode named registers short operand)) ⌝ }
+    ensures { λ r. ⌜ r ≡ dataRead (come (memory (now (ram .entry)) (now (image .entry)) base) (foundAt (residenceBy alone mode) alone mode named (registersOf (now (registers .entry))) short operand)) ⌝ }
 {
-    let residence = residence_of(mode);
+    let residence = residence_by(alone, mode);
     match residence {
-        Residence::Memory => in_memory(ram, image, base, mode, registers, short, operand),
+        Residence::Memory => in_memory(ram, image, base, alone, mode, registers, short, operand),
         Residence::Instruction => DataRead::Found(Data {
             address: 0,
             value: low(short, operand),
         }),
         Residence::Register => DataRead::Found(Data {
             address: 0,
-            value: low(short, accumulator_of(named, registers) as u64),
+            value: low(short, accumulator_in(named, registers) as u64),
         }),
-    }
-}
-
-// An address that is not read.
-fn address_alone(reached: AddressRead) -> DataRead
-    ensures { λ r. ⌜ r ≡ aloneAt reached ⌝ }
-{
-    match reached {
-        AddressRead::At(address) => DataRead::Found(Data { address, value: 0 }),
-        AddressRead::Unmapped => DataRead::Unmapped,
     }
 }
 
@@ -258,6 +298,19 @@ fn value_alone(read: WordRead) -> DataRead
     }
 }
 
+// Whether the address alone is asked.
+fn is_address(access: Access) -> bool
+    ensures { λ r. ⌜ r ≡ isAddress access ⌝ }
+{
+    match access {
+        Access::Operand => false,
+        Access::Addend => false,
+        Access::Address => true,
+        Access::Pull => false,
+        Access::DirectWord => false,
+    }
+}
+
 // What is read before an operation works.
 pub fn data_of(
     ram: &[u8],
@@ -266,20 +319,35 @@ pub fn data_of(
     access: Access,
     mode: Mode,
     named: Accumulator,
-    registers: Registers,
+    registers: &[u16; FILE_SIZE],
     short: bool,
     operand: u64,
 ) -> DataRead
-    ensures { λ r. ⌜ r ≡ dataRead (come (memory (now (ram .entry)) (now (image .entry)) base) (spec.dataOf access mode named registers short operand)) ⌝ }
+    ensures { λ r. ⌜ r ≡ dataRead (come (memory (now (ram .entry)) (now (image .entry)) base) (spec.dataOf access mode named (registersOf (now (registers .entry))) short operand)) ⌝ }
 {
-    let first = pulled_at(registers, 1) as u64;
-    let second = pulled_at(registers, 2) as u64;
-    let page = direct(registers, operand) as u64;
     match access {
-        Access::Operand => operand_by(ram, image, base, mode, named, registers, short, operand),
-        Access::Addend => operand_by(ram, image, base, mode, named, registers, short, operand),
-        Access::Address => address_alone(address_of(ram, image, base, mode, registers, operand)),
-        Access::Pull => value_alone(data_from(ram, image, base, short, first, second)),
-        Access::DirectWord => value_alone(word_from(ram, image, base, page, page + 1)),
+        Access::Operand | Access::Addend | Access::Address => operand_by(
+            ram,
+            image,
+            base,
+            is_address(access),
+            mode,
+            named,
+            registers,
+            short,
+            operand,
+        ),
+        Access::Pull => value_alone(data_from(
+            ram,
+            image,
+            base,
+            short,
+            pulled_at(registers[S], 1) as u64,
+            pulled_at(registers[S], 2) as u64,
+        )),
+        Access::DirectWord => {
+            let page = direct(registers, operand) as u64;
+            value_alone(word_from(ram, image, base, page, page + 1))
+        }
     }
 }

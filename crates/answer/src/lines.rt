@@ -4,10 +4,8 @@ use marklist::header::decimal_digits;
 use marklist::header::put_field;
 use marklist::lines::LINE_END;
 use marklist::lines::TAB;
-ghost use mathlib.Core.Path.{_≡_};
-ghost use mathlib.Core.List.{_++_};
 ghost use Prim.Native.Nat.{_≤_};
-ghost use lib.ListN.{length, take, drop};
+ghost use lib.ListN.{length};
 ghost use Rattle.answer.specs.AnswerLine as spec;
 
 // Writes a number and the byte that closes it at the front of a page, and returns their length.

@@ -7,7 +7,6 @@ use entries::target_form_of;
 use image::mark_at;
 use model::code::Flow;
 use model::code::Kind;
-use model::code::Target;
 use model::code::WidthEffect;
 use model::rules::Owed;
 use model::rules::Want;

@@ -1,8 +1,32 @@
--- An effect as the code has it, its stores by value, as the definition's.
+-- An effect as the code has it, two registers and the status by their numbers and its stores by value, as the definition's.
 -- Assumes nothing.
+use Prim.Native.Nat.{ℕ, _<_}
+use mathlib.Core.Bool.{Bool}
 use Rattle.cpu.specs.declared.effects.Effect.{Effect as Kept}
+use Rattle.cpu.specs.File.{put, fileSize}
 use Rattle.memory.specs.Listed.{listed}
+use Rattle.memory.specs.declared.stores.Stores.{Stores}
+use Rattle.model.specs.declared.machine.Registers.{Registers}
 use Rattle.model.specs.Effects.{Effect, effect}
+use Rattle.model.specs.Arithmetic.{withStatus}
+use Rattle.model.specs.Status.{statusOf}
 
-abbrev pub viewed : Kept → Effect
-viewed e = effect (e .registers) (listed (e .stores)) (e .taken)
+abbrev pub kept : ℕ → ℕ → ℕ → ℕ → ℕ → Stores → Bool → Kept
+kept first value second other status stores taken = record {
+  first = first;
+  value = value;
+  second = second;
+  other = other;
+  status = status;
+  stores = stores;
+  taken = taken;
+}
+
+-- its registers are places of the file
+abbrev pub Placed : Kept → Type 0
+Placed e = (e .first < fileSize) × (e .second < fileSize)
+
+abbrev pub viewed : Kept → Registers → Effect
+viewed e r =
+    effect (withStatus (statusOf (e .status)) (put (e .second) (e .other) (put (e .first) (e .value) r)))
+    (listed (e .stores)) (e .taken)

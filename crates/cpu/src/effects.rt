@@ -1,26 +1,34 @@
-// What operations do with their data: the registers after them, what they store, and whether they branch.
+// What an operation leaves: registers of the file, the status, bytes to be stored, and whether it branches.
 use crate::data::low;
-use crate::flags::with_carry;
-use crate::registers::flagged;
-use crate::registers::loads;
-use crate::registers::with_s;
-use crate::registers::with_status;
+use crate::data::wide;
+use crate::file::FILE_SIZE;
+use crate::file::PS;
+use crate::file::S;
 use memory::stores::Stores;
-use model::code::Accumulator;
 use model::code::Mode;
-use model::machine::Registers;
 use model::machine::Residence;
 use model::machine::Store;
 use std::num::wrapping_add_u16;
 use std::num::wrapping_sub_u16;
 ghost use mathlib.Core.Path.{_≡_};
+ghost use mathlib.Core.Bool.{false};
+ghost use Prim.Native.Nat.{_+_, _-_, _%_};
+ghost use Rattle.memory.specs.Listed.{listed};
+ghost use Rattle.memory.specs.declared.stores.Stores.the-variants.{None};
 ghost use Rattle.model.specs.Addressing as addressing;
 ghost use Rattle.model.specs.Effects as spec;
-ghost use Rattle.memory.specs.Listed.{listed};
-ghost use Rattle.cpu.specs.View.{viewed};
+ghost use Rattle.model.specs.Image.{bankSize};
+ghost use Rattle.cpu.specs.File.{registersOf};
+ghost use Rattle.cpu.specs.View.{kept, viewed, Placed};
 
+// Two registers at most get a value, and then the status gets its own: a register that is not to change is named by the
+// status' place.
 pub struct Effect {
-    pub registers: Registers,
+    pub first: usize,
+    pub value: u16,
+    pub second: usize,
+    pub other: u16,
+    pub status: u16,
     pub stores: Stores,
     pub taken: bool,
 }
@@ -46,83 +54,110 @@ fn stores_of(short: bool, address: u32, v: u64) -> Stores
 }
 
 // Where a byte goes after n were pushed.
-pub fn pushed_at(registers: Registers, n: u16) -> u16
-    ensures { λ r. ⌜ r ≡ spec.pushedAt registers n ⌝ }
+pub fn pushed_at(s: u16, n: u16) -> u16
+    ensures { λ r. ⌜ r ≡ (s + (bankSize - n)) % bankSize ⌝ }
 {
-    wrapping_sub_u16(registers.s, n)
+    wrapping_sub_u16(s, n)
 }
 
 // S after n bytes were pulled.
-pub fn pulled_at(registers: Registers, n: u16) -> u16
-    ensures { λ r. ⌜ r ≡ addressing.pulledAt registers n ⌝ }
+pub fn pulled_at(s: u16, n: u16) -> u16
+    ensures { λ r. ⌜ r ≡ (s + n) % bankSize ⌝ }
 {
-    wrapping_add_u16(registers.s, n)
+    wrapping_add_u16(s, n)
 }
 
 // Data onto the stack, the high byte first.
-fn push_of(short: bool, v: u64, registers: Registers) -> Stores
-    ensures { λ r. ⌜ listed r ≡ spec.pushOf short v registers ⌝ }
+fn push_of(short: bool, v: u64, registers: &[u16; FILE_SIZE]) -> Stores
+    ensures { λ r. ⌜ listed r ≡ spec.pushOf short v (registersOf (now (registers .entry))) ⌝ }
 {
-    let first = registers.s as u64;
+    let s = registers[S];
     if short {
-        return Stores::One(store(first, v));
+        return Stores::One(store(wide(s), v));
     }
-    let second = pushed_at(registers, 1) as u64;
-    Stores::Two(store(first, v / 256), store(second, v))
+    let second = pushed_at(s, 1) as u64;
+    Stores::Two(store(wide(s), v / 256), store(second, v))
 }
 
 // How many bytes data has.
-fn bytes(short: bool) -> u16
+pub fn bytes(short: bool) -> u16
     ensures { λ r. ⌜ r ≡ spec.bytes short ⌝ }
 {
     if short { 1 } else { 2 }
 }
 
-pub fn only(registers: Registers) -> Effect
-    ensures { λ r. ⌜ viewed r ≡ spec.only registers ⌝ }
+// Two registers and the status.
+pub fn puts_both(first: usize, value: u16, second: usize, other: u16, status: u16) -> Effect
+    ensures { λ r. ⌜ r ≡ kept first value second other status None false ⌝ }
 {
     Effect {
-        registers,
+        first,
+        value,
+        second,
+        other,
+        status,
         stores: Stores::None,
         taken: false,
     }
 }
 
-pub fn branches_if(taken: bool, registers: Registers) -> Effect
-    ensures { λ r. ⌜ viewed r ≡ spec.branchesIf taken registers ⌝ }
+// A register and the status.
+pub fn puts(place: usize, value: u16, status: u16) -> Effect
+    ensures { λ r. ⌜ r ≡ kept place value 7 0 status None false ⌝ }
+{
+    puts_both(place, value, PS, 0, status)
+}
+
+// The status alone.
+pub fn leaves(status: u16) -> Effect
+    ensures { λ r. ⌜ r ≡ kept 7 0 7 0 status None false ⌝ }
+{
+    puts(PS, 0, status)
+}
+
+pub fn branches_if(taken: bool, status: u16) -> Effect
+    ensures { λ r. ⌜ r ≡ kept 7 0 7 0 status None taken ⌝ }
 {
     Effect {
-        registers,
+        first: PS,
+        value: 0,
+        second: PS,
+        other: 0,
+        status,
         stores: Stores::None,
         taken,
     }
 }
 
-pub fn stores_to(short: bool, address: u32, v: u64, registers: Registers) -> Effect
-    ensures { λ r. ⌜ viewed r ≡ spec.storesTo short address v registers ⌝ }
+pub fn stores_to(short: bool, address: u32, v: u64, status: u16) -> Effect
+    ensures { λ r. ⌜ (r ≡ kept 7 0 7 0 status (r .stores) false) × (listed (r .stores) ≡ spec.storesOf short address v) ⌝ }
 {
     Effect {
-        registers,
+        first: PS,
+        value: 0,
+        second: PS,
+        other: 0,
+        status,
         stores: stores_of(short, address, v),
         taken: false,
     }
 }
 
-pub fn pushes(short: bool, v: u64, registers: Registers) -> Effect
-    ensures { λ r. ⌜ viewed r ≡ spec.pushes short v registers ⌝ }
+pub fn pushes(short: bool, v: u64, registers: &[u16; FILE_SIZE]) -> Effect
+    ensures { λ r. ⌜
+        (viewed r (registersOf (now (registers .entry))) ≡ spec.pushes short v (registersOf (now (registers .entry))))
+        × Placed r
+        ⌝ }
 {
     Effect {
-        registers: with_s(pushed_at(registers, bytes(short)), registers),
+        first: S,
+        value: pushed_at(registers[S], bytes(short)),
+        second: PS,
+        other: 0,
+        status: registers[PS],
         stores: push_of(short, v, registers),
         taken: false,
     }
-}
-
-// The registers once data is off the stack.
-pub fn popped(short: bool, registers: Registers) -> Registers
-    ensures { λ r. ⌜ r ≡ spec.popped short registers ⌝ }
-{
-    with_s(pulled_at(registers, bytes(short)), registers)
 }
 
 // Where the data of a mode lies.
@@ -158,32 +193,6 @@ pub fn residence_of(mode: Mode) -> Residence
         Mode::StackPointerRelative => Residence::Memory,
         Mode::StackPointerRelativeIndirectIndexedY => Residence::Memory,
         Mode::BlockTransfer => Residence::Register,
-    }
-}
-
-// A result goes where the data came from.
-pub fn modifies_by(
-    residence: Residence,
-    named: Accumulator,
-    short: bool,
-    address: u32,
-    carry: bool,
-    v: u64,
-    registers: Registers,
-) -> Effect
-    ensures { λ r. ⌜ viewed r ≡ spec.modifiesBy residence named short address carry v registers ⌝ }
-{
-    let status = registers.status;
-    let carried = with_status(with_carry(carry, status), registers);
-    match residence {
-        Residence::Memory => stores_to(
-            short,
-            address,
-            low(short, v) as u64,
-            flagged(short, v, carried),
-        ),
-        Residence::Instruction => only(loads(named, short, v, carried)),
-        Residence::Register => only(loads(named, short, v, carried)),
     }
 }
 

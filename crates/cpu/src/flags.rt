@@ -1,63 +1,66 @@
-// The status register with some of its flags changed.
+// The flags of the status register's number, and the number with some of them changed.
+use crate::data::bit_of;
 use crate::data::half;
 use crate::data::low;
 use model::machine::Status;
 ghost use mathlib.Core.Path.{_≡_};
-ghost use Prim.Native.Nat.{_<_};
+ghost use Prim.Native.Nat.{_≤_, _<_};
 ghost use mathlib.Core.Bool.{not, _&&_, _||_};
+ghost use lib.Dec.{eqb};
 ghost use Rattle.model.specs.Arithmetic as spec;
-ghost use Rattle.model.specs.Status.{isSet};
+ghost use Rattle.model.specs.Status.{isSet, bit, statusOf};
 
-pub fn with_carry(flag: bool, status: Status) -> Status
-    ensures { λ r. ⌜ r ≡ spec.withCarry flag status ⌝ }
+pub fn is_set(mask: u16, status: u16) -> bool
+    requires { ⌜ 0 < mask ⌝ }
+    ensures { λ r. ⌜ r ≡ isSet mask status ⌝ }
 {
-    let mut changed = status;
-    changed.carry = flag;
-    changed
+    status / mask % 2 == 1
 }
 
-pub fn with_disable(flag: bool, status: Status) -> Status
-    ensures { λ r. ⌜ r ≡ spec.withDisable flag status ⌝ }
+// A flag as a number.
+pub fn bit_at(mask: u16, status: u16) -> u8
+    requires { ⌜ 0 < mask ⌝ }
+    ensures { λ r. ⌜ (r ≡ bit (isSet mask status)) × (r ≤ 1) ⌝ }
 {
-    let mut changed = status;
-    changed.disable = flag;
-    changed
+    (status / mask % 2) as u8
 }
 
-pub fn with_overflow(flag: bool, status: Status) -> Status
-    ensures { λ r. ⌜ r ≡ spec.withOverflow flag status ⌝ }
+pub fn with_carry(flag: bool, status: u16) -> u16
+    ensures { λ r. ⌜ statusOf r ≡ spec.withCarry flag (statusOf status) ⌝ }
 {
-    let mut changed = status;
-    changed.overflow = flag;
-    changed
+    status - status / Status::C % 2 * Status::C + Status::C * bit_of(flag) as u16
 }
 
-pub fn with_widths(m: bool, x: bool, status: Status) -> Status
-    ensures { λ r. ⌜ r ≡ spec.withWidths m x status ⌝ }
+pub fn with_disable(flag: bool, status: u16) -> u16
+    ensures { λ r. ⌜ statusOf r ≡ spec.withDisable flag (statusOf status) ⌝ }
 {
-    let mut changed = status;
-    changed.m = m;
-    changed.x = x;
-    changed
+    status - status / Status::I % 2 * Status::I + Status::I * bit_of(flag) as u16
+}
+
+pub fn with_overflow(flag: bool, status: u16) -> u16
+    ensures { λ r. ⌜ statusOf r ≡ spec.withOverflow flag (statusOf status) ⌝ }
+{
+    status - status / Status::V % 2 * Status::V + Status::V * bit_of(flag) as u16
+}
+
+// The widths as numbers, as an instruction's width effect gives them.
+pub fn with_widths(m: u8, x: u8, status: u16) -> u16
+    requires { ⌜ (m ≤ 1) × (x ≤ 1) ⌝ }
+    ensures { λ r. ⌜ statusOf r ≡ spec.withWidths (eqb m 1) (eqb x 1) (statusOf status) ⌝ }
+{
+    status - status / Status::X % 4 * Status::X + Status::M * m as u16 + Status::X * x as u16
 }
 
 // N and Z of a result.
-pub fn with_result(short: bool, v: u64, status: Status) -> Status
-    ensures { λ r. ⌜ r ≡ spec.withResult short v status ⌝ }
+pub fn with_result(short: bool, v: u64, status: u16) -> u16
+    ensures { λ r. ⌜ statusOf r ≡ spec.withResult short v (statusOf status) ⌝ }
 {
     let result = low(short, v);
-    let mut changed = status;
-    changed.zero = result == 0;
-    changed.negative = half(short) <= result as u64;
-    changed
-}
-
-// Whether a mask names a flag.
-fn names(mask: u16, flag: u16) -> bool
-    requires { ⌜ 0 < flag ⌝ }
-    ensures { λ r. ⌜ r ≡ isSet flag mask ⌝ }
-{
-    mask / flag % 2 == 1
+    let zero = Status::Z * bit_of(result == 0) as u16;
+    let negative = Status::N * bit_of(half(short) <= result as u64) as u16;
+    status - (status / Status::Z % 2 * Status::Z + status / Status::N % 2 * Status::N)
+        + zero
+        + negative
 }
 
 fn either(a: bool, b: bool) -> bool
@@ -79,29 +82,29 @@ fn without(a: bool, b: bool) -> bool
 }
 
 // SEP: the flags that a mask names are set.
-pub fn with_flags_set(mask: u16, status: Status) -> Status
-    ensures { λ r. ⌜ r ≡ spec.withFlagsSet mask status ⌝ }
+pub fn with_flags_set(mask: u16, status: u16) -> u16
+    ensures { λ r. ⌜ statusOf r ≡ spec.withFlagsSet mask (statusOf status) ⌝ }
 {
-    let mut changed = status;
-    changed.carry = either(names(mask, Status::C), status.carry);
-    changed.zero = either(names(mask, Status::Z), status.zero);
-    changed.disable = either(names(mask, Status::I), status.disable);
-    changed.decimal = either(names(mask, Status::D), status.decimal);
-    changed.overflow = either(names(mask, Status::V), status.overflow);
-    changed.negative = either(names(mask, Status::N), status.negative);
-    changed
+    let mut changed = Status::from_number(status);
+    changed.carry = either(is_set(Status::C, mask), changed.carry);
+    changed.zero = either(is_set(Status::Z, mask), changed.zero);
+    changed.disable = either(is_set(Status::I, mask), changed.disable);
+    changed.decimal = either(is_set(Status::D, mask), changed.decimal);
+    changed.overflow = either(is_set(Status::V, mask), changed.overflow);
+    changed.negative = either(is_set(Status::N, mask), changed.negative);
+    changed.number()
 }
 
 // CLP: the flags that a mask names are cleared.
-pub fn with_flags_cleared(mask: u16, status: Status) -> Status
-    ensures { λ r. ⌜ r ≡ spec.withFlagsCleared mask status ⌝ }
+pub fn with_flags_cleared(mask: u16, status: u16) -> u16
+    ensures { λ r. ⌜ statusOf r ≡ spec.withFlagsCleared mask (statusOf status) ⌝ }
 {
-    let mut changed = status;
-    changed.carry = without(names(mask, Status::C), status.carry);
-    changed.zero = without(names(mask, Status::Z), status.zero);
-    changed.disable = without(names(mask, Status::I), status.disable);
-    changed.decimal = without(names(mask, Status::D), status.decimal);
-    changed.overflow = without(names(mask, Status::V), status.overflow);
-    changed.negative = without(names(mask, Status::N), status.negative);
-    changed
+    let mut changed = Status::from_number(status);
+    changed.carry = without(is_set(Status::C, mask), changed.carry);
+    changed.zero = without(is_set(Status::Z, mask), changed.zero);
+    changed.disable = without(is_set(Status::I, mask), changed.disable);
+    changed.decimal = without(is_set(Status::D, mask), changed.decimal);
+    changed.overflow = without(is_set(Status::V, mask), changed.overflow);
+    changed.negative = without(is_set(Status::N, mask), changed.negative);
+    changed.number()
 }

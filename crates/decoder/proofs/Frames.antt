@@ -1,13 +1,13 @@
 -- A frame decides what is decoded, and keeps the bounds of the code map's rule. Both go by the tests of the
 -- definition, which are the tests of the decoder; the number of a page keeps the entry of the definition.
 -- Assumes nothing.
-use mathlib.Core.Path.{_≡_, refl}
+use mathlib.Core.Path.{_≡_, refl, sym, _∙_}
 use mathlib.Core.Bool.{Bool, true, false}
 use mathlib.Core.List.{List, [], _∷_}
 use Prim.Native.Nat.{ℕ, _+_, _-_, _≤_, _<_}
 use native.Mathlib.Nat.{add-zero}
 use native.Mathlib.Omega.{arith}
-use borrow.Author.Tests.{leb-true, lt-ltb, le-ltb}
+use borrow.Author.Tests.{leb-true, lt-ltb, le-ltb, eqb-true, ne-eqb}
 use lib.Dec.{eqb, ltb, leb}
 use lib.ListN.{length, getD, drop, length-drop}
 use lib.Seq.{getD-drop}
@@ -15,6 +15,7 @@ use Rattle.model.specs.declared.code.Instruction.{Instruction}
 use Rattle.model.specs.declared.code.Decoded.the-variants.{Whole, NotCarried, CutOff}
 use Rattle.model.specs.Choice.{pick}
 use Rattle.model.specs.CodeMap.{prefixBytes, lengthAt}
+use Rattle.model.specs.CodePages.{plain}
 use Rattle.model.specs.Decode.{pageOf, judged, decodeOn, decode}
 use Rattle.model.proofs.Choice.{one-of}
 use Rattle.model.proofs.CodeMap.{carried-length}
@@ -23,7 +24,10 @@ use Rattle.codepages.proofs.Unpacked.{unpacked-at}
 use Rattle.decoder.specs.declared.Frame.{Frame}
 use Rattle.decoder.specs.declared.Framed.{Framed}
 use Rattle.decoder.specs.declared.Framed.the-variants.{Fits, Uncarried, Short}
-use Rattle.decoder.specs.Frame.{fitted, framedOn, framed, instructionOf, decodedOf, Fitting, FittingIn}
+use Rattle.decoder.specs.declared.Looked.{Looked}
+use Rattle.decoder.specs.declared.Looked.the-variants.{Code, Uncarried as NoCode, Short as Missing}
+use Rattle.decoder.specs.Frame.{fitted, framedOn, framed, codeOn, coded, framedBy, instructionOf, decodedOf}
+use Rattle.decoder.specs.Frame.{Fitting, FittingIn}
 
 chosen : (bytes : List ℕ) (f : Frame) (a b c : Bool)
     → pick a (pick b (pick c (Whole (instructionOf bytes f)) CutOff) NotCarried) CutOff
@@ -101,25 +105,82 @@ module _ (image : List ℕ) (at m x : ℕ) (framed-here : Framed) (is-framed : f
     pub decoded-short : framed-here ≡ Short → CutOff ≡ decode (drop at image) m x
     decoded-short e = rw (decoded-framed (drop at image) m x, ← is-framed, e)
 
+-- a frame goes by its code
+framed-by : (left n prefix m x : ℕ) (a b : Bool)
+    → pick a (pick b (framedBy left (Code n prefix) m x) Uncarried) Short
+    ≡ framedBy left (pick a (pick b (Code n prefix) NoCode) Missing) m x
+framed-by left n prefix m x true true = refl
+framed-by left n prefix m x true false = refl
+framed-by left n prefix m x false b = refl
+
+framed-coded : (bytes : List ℕ) (m x : ℕ) → framed bytes m x ≡ framedBy (length bytes) (coded bytes) m x
+unfolding framed framedOn fitted coded codeOn
+framed-coded bytes m x =
+    let page = pageOf (getD bytes 0 0) in
+    let n = numberAt numbers page (getD bytes (prefixBytes page) 0) in
+    framed-by (length bytes) n (prefixBytes page) m x (ltb (prefixBytes page) (length bytes)) (unpacked n .carried)
+
+differ : false ≡ true → ⊥
+differ e = let z : _≡_ {A = ℕ} 0 1 = cc in absurd (omega arith)
+
+-- no prefix is a carried code of the first page
+plain-page : (first : ℕ) → unpacked (numberAt numbers 0 first) .carried ≡ true → pageOf first ≡ 0
+unfolding unpacked numbers plain
+plain-page first carried = by (eqb first 0x42) (eqb first 0x89) refl refl
+  where
+    by : (a b : Bool) → eqb first 0x42 ≡ a → eqb first 0x89 ≡ b → _≡_ {A = ℕ} (pick a 1 (pick b 2 0)) 0
+    by true b e e′ = let same = eqb-true first 0x42 e in absurd (differ (rw same at carried))
+    by false true e e′ = let same = eqb-true first 0x89 e′ in absurd (differ (rw same at carried))
+    by false false e e′ = refl
+
+-- a page behind a prefix has one prefix byte
+pub one-prefix : (page : ℕ) → (page ≡ 0 → ⊥) → 1 ≡ prefixBytes page
+one-prefix page h = rw (ne-eqb page 0 h)
+
 -- The definition's cases, a law each, for the code that walks them.
-module _ (image : List ℕ) (at m x : ℕ) where
-  pub framed-past : length image ≤ at → Short ≡ framed (drop at image) m x
-  framed-past h = framed-nothing (drop at image) m x (rw length-drop (omega arith))
+module _ (image : List ℕ) (at : ℕ) where
+  pub framed-past : (m x : ℕ) → length image ≤ at → Short ≡ framed (drop at image) m x
+  framed-past m x h = framed-nothing (drop at image) m x (rw length-drop (omega arith))
 
-  module _ (page prefix left : ℕ) (at-page : page ≡ pageOf (getD image at 0)) (at-prefix : prefix ≡ prefixBytes page)
-      (at-left : left ≡ length image - at) where
-    same-page : pageOf (getD (drop at image) 0 0) ≡ page
-    same-page = rw (getD-drop, add-zero, at-page)
+  pub framed-at : (looked : Looked) (m x : ℕ) (here : Framed) → looked ≡ coded (drop at image)
+      → here ≡ framedBy (length image - at) looked m x → here ≡ framed (drop at image) m x
+  framed-at looked m x here at-code e = rw (framed-coded (drop at image) m x, ← at-code, length-drop) e
 
-    same-left : length (drop at image) ≡ left
-    same-left = rw (length-drop, at-left)
+  abbrev first : ℕ
+  first = getD image at 0
 
-    pub framed-short : left ≤ prefix → Short ≡ framed (drop at image) m x
-    unfolding framed framedOn
-    framed-short few = rw (same-page, same-left, ← at-prefix, le-ltb prefix left few)
+  coded-on : (page : ℕ) (here : Looked) → pageOf first ≡ page → here ≡ codeOn page (drop at image)
+      → here ≡ coded (drop at image)
+  unfolding coded
+  coded-on page here at-page e =
+      let same : pageOf (getD (drop at image) 0 0) ≡ page = rw (getD-drop, add-zero, at-page) in
+      rw same e
 
-    pub framed-fitted : (n : ℕ) → prefix < left → n ≡ numberAt numbers page (getD image (at + prefix) 0)
-        → fitted left prefix n (lengthAt (unpacked n) m x) ≡ framed (drop at image) m x
-    unfolding framed framedOn
-    framed-fitted n some at-code =
-        rw (same-page, same-left, ← at-prefix, lt-ltb prefix left some, getD-drop, ← at-code)
+  module _ (page prefix : ℕ) (at-prefix : prefix ≡ prefixBytes page) (at-page : pageOf first ≡ page) where
+    pub coded-short : length image - at ≤ prefix → Missing ≡ coded (drop at image)
+    unfolding codeOn
+    coded-short few =
+        coded-on page Missing at-page (rw (length-drop, ← at-prefix, le-ltb prefix (length image - at) few) refl)
+
+    module _ (n : ℕ) (some : prefix < length image - at) (at-code : n ≡ numberAt numbers page (getD image (at + prefix) 0))
+      where
+        by-carried : (b : Bool) → unpacked n .carried ≡ b → pick b (Code n prefix) NoCode ≡ codeOn page (drop at image)
+        unfolding codeOn
+        by-carried b e =
+            rw (length-drop, ← at-prefix, lt-ltb prefix (length image - at) some, getD-drop, ← at-code, e) refl
+
+        pub coded-carried : unpacked n .carried ≡ true → Code n prefix ≡ coded (drop at image)
+        coded-carried e = coded-on page (Code n prefix) at-page (by-carried true e)
+
+        pub coded-uncarried : unpacked n .carried ≡ false → NoCode ≡ coded (drop at image)
+        coded-uncarried e = coded-on page NoCode at-page (by-carried false e)
+
+  pub coded-plain : (n : ℕ) → at < length image → n ≡ numberAt numbers 0 first → unpacked n .carried ≡ true
+      → Code n 0 ≡ coded (drop at image)
+  coded-plain n inside at-code e =
+      coded-carried 0 0 refl (plain-page first (rw (← at-code) e)) n (omega arith) (rw add-zero at-code) e
+
+  pub coded-nothing : (page : ℕ) → page ≡ pageOf first → page ≡ 0 → at < length image
+      → unpacked (numberAt numbers 0 first) .carried ≡ false → NoCode ≡ coded (drop at image)
+  coded-nothing page is-page zero inside e =
+      coded-uncarried 0 0 refl (sym is-page ∙ zero) (numberAt numbers 0 first) (omega arith) (rw add-zero refl) e

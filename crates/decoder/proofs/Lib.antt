@@ -1,4 +1,5 @@
 -- The laws that the proofs of the functions share.
 pub mod Frames
+pub mod Lengths
 pub mod Reading
 pub mod Words

@@ -15,6 +15,8 @@ use Rattle.codepages.specs.Packing.{unpacked, numbers, numberAt}
 use Rattle.decoder.specs.declared.Frame.{Frame}
 use Rattle.decoder.specs.declared.Framed.{Framed}
 use Rattle.decoder.specs.declared.Framed.the-variants.{Fits, Uncarried, Short}
+use Rattle.decoder.specs.declared.Looked.{Looked}
+use Rattle.decoder.specs.declared.Looked.the-variants.{Code, Uncarried as NoCode, Short as Missing}
 
 -- the code is there, behind the prefix; so many bytes are left
 unfoldable pub fitted : ℕ → ℕ → ℕ → ℕ → Framed
@@ -34,6 +36,25 @@ framedOn page bytes m x =
 -- what the bytes begin with, at the widths m and x
 unfoldable pub framed : List ℕ → ℕ → ℕ → Framed
 framed bytes m x = framedOn (pageOf (getD bytes 0 0)) bytes m x
+
+-- the code that the bytes begin with, behind the prefix bytes of a page, before the widths enter
+unfoldable pub codeOn : ℕ → List ℕ → Looked
+codeOn page bytes =
+    pick (ltb (prefixBytes page) (length bytes))
+    (pick (unpacked (numberAt numbers page (getD bytes (prefixBytes page) 0)) .carried)
+    (Code (numberAt numbers page (getD bytes (prefixBytes page) 0)) (prefixBytes page)) NoCode)
+    Missing
+
+unfoldable pub coded : List ℕ → Looked
+coded bytes = codeOn (pageOf (getD bytes 0 0)) bytes
+
+-- the frame of a code, among so many bytes
+abbrev pub framedBy : ℕ → Looked → ℕ → ℕ → Framed
+framedBy left (Code n prefix) m x =
+    pick (leb (lengthAt (unpacked n) m x) left)
+    (Fits (record { number = n; prefix = prefix; length = lengthAt (unpacked n) m x })) Short
+framedBy left NoCode m x = Uncarried
+framedBy left Missing m x = Short
 
 -- the instruction of a frame
 abbrev pub instructionOf : List ℕ → Frame → Instruction

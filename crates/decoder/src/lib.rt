@@ -2,21 +2,22 @@
 use codepages::number_at;
 use entries::bytes_of;
 use entries::is_carried;
-use entries::rule_of;
 use entries::unpack;
 use model::code::Decoded;
 use model::code::Entry;
 use model::code::Instruction;
 use model::code::LengthRule;
 ghost use mathlib.Core.Path.{_≡_};
+ghost use mathlib.Core.Bool.{false};
 ghost use Prim.Native.Nat.{_+_, _-_, _%_, _^_, _≤_, _<_};
-ghost use lib.ListN.{length, take, drop};
+ghost use lib.ListN.{length, getD, take, drop};
 ghost use lib.Dec.{eqb};
 ghost use Rattle.model.specs.Choice.{pick};
-ghost use Rattle.model.specs.CodeMap.{prefixBytes, entryAt, moreBytes, lengthAt};
+ghost use Rattle.model.specs.CodeMap.{entryAt, moreBytes, lengthAt};
 ghost use Rattle.model.specs.Decode as spec;
-ghost use Rattle.codepages.specs.Packing.{numbers, unpacked};
-ghost use Rattle.decoder.specs.Frame.{fitted, framed, instructionOf, Fitting};
+ghost use Rattle.codepages.specs.Packing.{numbers, numberAt, unpacked};
+ghost use Rattle.decoder.specs.declared.Looked.the-variants.{Code};
+ghost use Rattle.decoder.specs.Frame.{framed, coded, framedBy, instructionOf, Fitting};
 
 // What a code and the widths decide of an instruction, before its operand is read: the number of its entry, how many
 // prefix bytes it has, its length.
@@ -29,6 +30,14 @@ pub struct Frame {
 // A frame that fits into the bytes that are left; a code that is not carried; or too few bytes.
 pub enum Framed {
     Fits(Frame),
+    Uncarried,
+    Short,
+}
+
+// The code at a place, before the widths enter: the number of its entry and how many prefix bytes stand before it; a code that
+// is not carried; or too few bytes.
+pub enum Looked {
+    Code(u32, u8),
     Uncarried,
     Short,
 }
@@ -80,26 +89,6 @@ pub fn low_bytes(value: u64, n: u8) -> u64
     value - (value >> bits << bits)
 }
 
-// The page that a first byte leads to.
-fn page_of(first: u8) -> usize
-    ensures { λ r. ⌜ r ≡ spec.pageOf first ⌝ }
-{
-    if first == 0x42 {
-        return 1;
-    }
-    if first == 0x89 {
-        return 2;
-    }
-    0
-}
-
-// How many prefix bytes stand before the codes of a page.
-fn prefix_bytes(page: usize) -> u8
-    ensures { λ r. ⌜ r ≡ prefixBytes page ⌝ }
-{
-    if page == 0 { 0 } else { 1 }
-}
-
 // The entry of a code of a page.
 pub fn entry_at(codes: &[[[u32; 16]; 16]; 3], page: usize, code: u8) -> Entry
     requires { ⌜ (now codes ≡ numbers) × (page < 3) ⌝ }
@@ -135,20 +124,18 @@ pub fn length_at(entry: Entry, m: u8, x: u8) -> u8
     entry.bytes + more_bytes(rule, m, x)
 }
 
-// The length of the code that a number keeps.
+// The length of the code that a number keeps. Two bits stand for the rules that add a byte; its own rule takes one.
 fn length_of(number: u32, m: u8, x: u8) -> u8
     ensures { λ r. ⌜ r ≡ lengthAt (unpacked number) m x ⌝ }
 {
-    bytes_of(number) + more_bytes(rule_of(number), m, x)
+    let more = 2 * at_zero(m) as u32 + 4 * at_zero(x) as u32;
+    bytes_of(number) + ((more >> (number / 134_217_728 % 4)) % 2) as u8
 }
 
-// The frame of a number whose code stands behind the prefix, where so many bytes are left.
+// The frame of a carried code, where so many bytes are left.
 fn fit(left: usize, prefix: u8, number: u32, m: u8, x: u8) -> Framed
-    ensures { λ r. ⌜ r ≡ fitted left prefix number (lengthAt (unpacked number) m x) ⌝ }
+    ensures { λ r. ⌜ r ≡ framedBy left (Code number prefix) m x ⌝ }
 {
-    if !is_carried(number) {
-        return Framed::Uncarried;
-    }
     let length = length_of(number, m, x);
     if left < length as usize {
         return Framed::Short;
@@ -160,6 +147,53 @@ fn fit(left: usize, prefix: u8, number: u32, m: u8, x: u8) -> Framed
     })
 }
 
+// The page that a first byte leads to.
+fn page_of(first: u8) -> usize
+    ensures { λ r. ⌜ (r ≡ spec.pageOf first) × (r < 3) ⌝ }
+{
+    if first == 0x42 {
+        return 1;
+    }
+    if first == 0x89 {
+        return 2;
+    }
+    0
+}
+
+// The code at a place whose first byte is no carried code of the first page.
+fn look_behind(codes: &[[[u32; 16]; 16]; 3], image: &[u8], at: usize) -> Looked
+    requires { ⌜
+        (now codes ≡ numbers) × (at < length (now image))
+        × (unpacked (numberAt numbers 0 (getD (now image) at 0)) .carried ≡ false)
+        ⌝ }
+    ensures { λ r. ⌜ r ≡ coded (drop at (now (image .entry))) ⌝ }
+{
+    let page = page_of(image[at]);
+    if page == 0 {
+        return Looked::Uncarried;
+    }
+    if image.len() - at <= 1 {
+        return Looked::Short;
+    }
+    let number = number_at(codes, page, image[at + 1]);
+    if !is_carried(number) {
+        return Looked::Uncarried;
+    }
+    Looked::Code(number, 1)
+}
+
+// The code at a place. Most stand on the first page, where no prefix is a carried code.
+fn look(codes: &[[[u32; 16]; 16]; 3], image: &[u8], at: usize) -> Looked
+    requires { ⌜ (now codes ≡ numbers) × (at < length (now image)) ⌝ }
+    ensures { λ r. ⌜ r ≡ coded (drop at (now (image .entry))) ⌝ }
+{
+    let number = number_at(codes, 0, image[at]);
+    if is_carried(number) {
+        return Looked::Code(number, 0);
+    }
+    look_behind(codes, image, at)
+}
+
 // The frame of what stands at a place of an image, at the widths m and x.
 pub fn frame_at(codes: &[[[u32; 16]; 16]; 3], image: &[u8], at: usize, m: u8, x: u8) -> Framed
     requires { ⌜ now codes ≡ numbers ⌝ }
@@ -168,14 +202,11 @@ pub fn frame_at(codes: &[[[u32; 16]; 16]; 3], image: &[u8], at: usize, m: u8, x:
     if image.len() <= at {
         return Framed::Short;
     }
-    let left = image.len() - at;
-    let page = page_of(image[at]);
-    let prefix = prefix_bytes(page);
-    if left <= prefix as usize {
-        return Framed::Short;
+    match look(codes, image, at) {
+        Looked::Code(number, prefix) => fit(image.len() - at, prefix, number, m, x),
+        Looked::Uncarried => Framed::Uncarried,
+        Looked::Short => Framed::Short,
     }
-    let code = image[at + prefix as usize];
-    fit(left, prefix, number_at(codes, page, code), m, x)
 }
 
 // The operand of a frame at a place of an image: the bytes behind the code as one number.

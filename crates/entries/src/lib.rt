@@ -252,6 +252,18 @@ fn width_at(n: u32) -> DataWidth
 }
 
 // Single fields of the entry that a number keeps, for those who need not have all of it.
+pub fn mode_of(n: u32) -> Mode
+    ensures { λ r. ⌜ r ≡ unpacked n .mode ⌝ }
+{
+    mode_at(n / 128 % 32)
+}
+
+pub fn accumulator_of(n: u32) -> Accumulator
+    ensures { λ r. ⌜ r ≡ unpacked n .accumulator ⌝ }
+{
+    accumulator_at(n / 4_096 % 4)
+}
+
 pub fn is_carried(n: u32) -> bool
     ensures { λ r. ⌜ r ≡ unpacked n .carried ⌝ }
 {
@@ -288,20 +300,26 @@ pub fn rule_of(n: u32) -> LengthRule
     rule_at(n / 134_217_728 % 4)
 }
 
+pub fn width_of(n: u32) -> DataWidth
+    ensures { λ r. ⌜ r ≡ unpacked n .width ⌝ }
+{
+    width_at(n / 536_870_912)
+}
+
 // The entry that a number keeps.
 pub fn unpack(n: u32) -> Entry
     ensures { λ r. ⌜ r ≡ unpacked n ⌝ }
 {
     Entry {
         operation: operation_at(n % 128),
-        mode: mode_at(n / 128 % 32),
-        accumulator: accumulator_at(n / 4_096 % 4),
+        mode: mode_of(n),
+        accumulator: accumulator_of(n),
         carried: is_carried(n),
         flow: flow_of(n),
         target: target_form_of(n),
         effect: effect_of(n),
         bytes: bytes_of(n),
         rule: rule_of(n),
-        width: width_at(n / 536_870_912),
+        width: width_of(n),
     }
 }

@@ -1,24 +1,24 @@
--- What is decoded keeps the bounds of the code map and of its bytes.
+-- From the base on, what is fetched at a place and a status is what the image's bytes from there decode to.
 -- Assumes nothing.
-use mathlib.Core.Path.{_≡_, sym}
+use mathlib.Core.Path.{_≡_, sym, ap, _∙_}
 use mathlib.Core.List.{List}
-use Prim.Native.Nat.{ℕ, _+_, _-_, _≤_, _^_}
-use native.Mathlib.Nat.{pow-le-pow-right}
+use Prim.Native.Nat.{ℕ, _+_, _-_, _≤_}
 use native.Mathlib.Omega.{arith}
-use lib.ListN.{getD}
+use lib.ListN.{length, drop}
 use Rattle.model.specs.declared.code.Decoded.{Decoded}
-use Rattle.model.specs.declared.code.Decoded.the-variants.{Whole, NotCarried, CutOff}
-use Rattle.model.specs.CodeMap.{prefixBytes}
-use Rattle.model.specs.Decode.{decode, pageOf}
-use Rattle.model.proofs.Decode.{AllBytes, decodes, operand-bound}
-use Rattle.machine.specs.Turns.{Bounded}
+use Rattle.model.specs.declared.machine.Core.{Core}
+use Rattle.model.specs.Decode.{decode}
+use Rattle.model.specs.Image.{addressLimit, imageLimit}
+use Rattle.model.specs.Memory.{memory}
+use Rattle.model.specs.Status.{maskM, maskX, isSet, bit, statusOf}
+use Rattle.model.specs.Step.{placeOf, fetched}
+use Rattle.model.proofs.Step.{fetched-from}
 
-pub bounded : (bytes : List ℕ) (m x : ℕ) (d : Decoded) → AllBytes bytes → d ≡ decode bytes m x → Bounded d
-bounded bytes m x (Whole i) small e =
-    let long = decodes bytes m x i (sym e) .at-most in
-    let behind = i .length - (prefixBytes (pageOf (getD bytes 0 0)) + 1) in
-    let few : behind ≤ 5 = omega (arith, long) in
-    let most : 256 ^ behind ≤ 256 ^ 5 = pow-le-pow-right (omega arith) few in
-    (long, omega (arith, most, operand-bound bytes m x i small (sym e)))
-bounded bytes m x NotCarried small e = tt
-bounded bytes m x CutOff small e = tt
+pub fetched-at : (image : List ℕ) (base place status : ℕ) → base + length image ≤ addressLimit
+    → length image ≤ imageLimit → base ≤ place → (m x : ℕ) → m ≡ bit (isSet maskM status)
+    → x ≡ bit (isSet maskX status) → (d : Decoded) → d ≡ decode (drop (place - base) image) m x
+    → (ram : List ℕ) (c : Core) → place ≡ placeOf c → c .registers .status ≡ statusOf status
+    → d ≡ fetched (memory ram image base) c
+fetched-at image base place status whole small h m x is-m is-x d e ram c there same =
+    fetched-from ram image base c place there whole (omega arith) h d m x (is-m ∙ sym (ap (λ s. bit (s .m)) same))
+    (is-x ∙ sym (ap (λ s. bit (s .x)) same)) e

@@ -1,4 +1,7 @@
--- The laws that the proofs of the functions share.
+-- What the proofs of this crate share.
+pub mod Calling
+pub mod Committed
 pub mod Fetching
-pub mod Plans
+pub mod Operating
+pub mod Stepping
 pub mod Turning

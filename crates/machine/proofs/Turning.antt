@@ -1,71 +1,54 @@
--- What the functions give makes the definition's step.
+-- What the functions leave makes the definition's step.
 -- Assumes nothing.
-use mathlib.Core.Path.{_≡_, refl, sym, _∙_}
+use mathlib.Core.Path.{_≡_, refl, ap, ap₂}
 use mathlib.Core.List.{List}
-use Prim.Native.Nat.{ℕ, _-_}
-use lib.ListN.{getD}
-use Rattle.model.specs.declared.code.Instruction.{Instruction}
-use Rattle.model.specs.declared.code.Decoded.{Decoded}
-use Rattle.model.specs.declared.code.Decoded.the-variants.{Whole, NotCarried, CutOff}
-use Rattle.model.specs.declared.machine.Core.{Core}
+use Prim.Native.Nat.{ℕ, _/_, _%_, _<_}
+use native.Mathlib.Omega.{arith}
+use Rattle.cpu.specs.File.{registersOf}
+use Rattle.model.specs.declared.machine.Answer.the-variants.{Stopped}
+use Rattle.model.specs.declared.machine.CallChange.{CallChange}
+use Rattle.model.specs.declared.machine.Registers.{Registers}
+use Rattle.model.specs.declared.machine.Served.the-variants.{All, Refused}
 use Rattle.model.specs.declared.machine.Stop.{Stop}
-use Rattle.model.specs.declared.machine.Stop.the-variants.{Outside, Uncarried}
-use Rattle.model.specs.declared.machine.Served.{Served}
-use Rattle.model.specs.declared.machine.Served.the-variants.{Refused}
-use Rattle.memory.specs.Listed.{listed}
-use Rattle.model.specs.Memory.{memory, served}
-use Rattle.model.specs.Step as spec
-use Rattle.model.specs.Step.{Stepped, changes, planBy, fetched, step}
-use Rattle.model.proofs.Step.{Opens, PlanOpens, opens-below}
-use Rattle.machine.specs.declared.plan.Change.{Change}
-use Rattle.machine.specs.declared.plan.Plan.{Plan}
-use Rattle.machine.specs.declared.plan.Plan.the-variants.{Stops, Changes}
-use Rattle.machine.specs.declared.step.Turn.{Turn}
-use Rattle.machine.specs.Planned.{changed, planned}
-use Rattle.machine.specs.Turns.{state, left, stoppedAt}
+use Rattle.model.specs.declared.machine.Store.{Store}
+use Rattle.model.specs.Image.{addressLimit, bankSize}
+use Rattle.model.specs.Memory.{Memory, served, stored}
+use Rattle.model.specs.Step.{Plan, stops, changes, change, placeOf, answerOf, depthAfter, callsAfter, widthsAfter, stepped}
+use Rattle.machine.specs.declared.commit.Turn.{Turn}
+use Rattle.machine.specs.declared.fetch.Fetched.{Fetched}
+use Rattle.machine.specs.Fetches.{instruction}
+use Rattle.machine.specs.Turns.{state, coreOf, turn, left, finished}
 
-module _ (image : List ℕ) (base : ℕ) (c : Core) (calls ram : List ℕ) where
-  module _ (i : Instruction) (d : Change) (s : Served)
-      (tested : s ≡ served (memory ram image base) (listed (d .stores))) where
-    pub finish-refused : (stop : Stop) (t : Turn) → s ≡ Refused stop → t ≡ stoppedAt stop c
-        → left t calls ram ≡ spec.finish (changes (changed d)) i (memory ram image base) (state c calls)
-    finish-refused stop t e e′ = rw (e′, ← tested, e) refl
+-- the place of a core is the number that it is made of, as far as addresses go
+pub place-kept : (place depth : ℕ) (file : List ℕ) → place < addressLimit → placeOf (coreOf place depth file) ≡ place
+place-kept place depth file h = omega arith
 
-  module _ (i : Instruction) (opened : ℕ) (is-opened : opened ≡ getD calls (c .depth - 1) 0) (p : Plan)
-      (is-plan : planned p ≡ planBy c i (memory ram image base) opened (i .entry .flow)) where
-    by-plan : spec.onDecoded (Whole i) (memory ram image base) (state c calls)
-        ≡ spec.finish (planned p) i (memory ram image base) (state c calls)
-    by-plan = rw (← is-opened, ← is-plan) refl
+pub core-kept : (place depth : ℕ) (file : List ℕ) → coreOf (place % addressLimit) depth file ≡ coreOf place depth file
+core-kept place depth file =
+    ap₂ (λ pc pg. record { registers = registersOf file; pc = pc; pg = pg; depth = depth }) (omega arith) (omega arith)
 
-    -- a call is opened only below the limit
-    pub opens : (d : Change) → p ≡ Changes d → Opens (d .calls) (c .depth)
-    opens d e =
-        let kept : PlanOpens (planned p) (c .depth) =
-        rw is-plan (opens-below c i (memory ram image base) opened (i .entry .flow)) in
-        rw e at kept
+module _ (i : Fetched) (m : Memory) (place depth : ℕ) (file calls : List ℕ) where
+  -- a plan that stops leaves all as it was
+  pub stops-so : (stop : Stop) (p : Plan) (t : Turn) → t ≡ turn (Stopped stop) place depth → stops stop ≡ p
+      → left t file calls (m .ram) ≡ finished p i m place depth file calls
+  stops-so stop p t e e′ = rw (e, ← e′) refl
 
-    pub perform-stops : (stop : Stop) (t : Turn) → p ≡ Stops stop → t ≡ stoppedAt stop c
-        → left t calls ram ≡ spec.onDecoded (Whole i) (memory ram image base) (state c calls)
-    perform-stops stop t e e′ = sym (by-plan ∙ rw (e, e′) refl)
+  module _ (after : Registers) (to : ℕ) (opens : CallChange) (stores : List Store) where
+    pub stops-at-stores : (stop : Stop) (t : Turn) → t ≡ turn (Stopped stop) place depth → served m stores ≡ Refused stop
+        → left t file calls (m .ram) ≡ finished (changes (change after to opens stores)) i m place depth file calls
+    stops-at-stores stop t e e′ = rw (e, e′) refl
 
-    pub perform-changes : (d : Change) (after : Stepped) → p ≡ Changes d
-        → after ≡ spec.finish (changes (changed d)) i (memory ram image base) (state c calls)
-        → after ≡ spec.onDecoded (Whole i) (memory ram image base) (state c calls)
-    perform-changes d after e is-after = rw is-after (sym (by-plan ∙ rw e refl))
-
-  module _ (d : Decoded) (is-fetched : d ≡ fetched (memory ram image base) c) where
-    pub step-outside : (t : Turn) → d ≡ CutOff → t ≡ stoppedAt Outside c
-        → left t calls ram ≡ step (memory ram image base) (state c calls)
-    unfolding step
-    step-outside t e e′ = rw (e′, ← is-fetched, e) refl
-
-    pub step-uncarried : (t : Turn) → d ≡ NotCarried → t ≡ stoppedAt Uncarried c
-        → left t calls ram ≡ step (memory ram image base) (state c calls)
-    unfolding step
-    step-uncarried t e e′ = rw (e′, ← is-fetched, e) refl
-
-    pub step-whole : (i : Instruction) (after : Stepped) → d ≡ Whole i
-        → after ≡ spec.onDecoded (Whole i) (memory ram image base) (state c calls)
-        → after ≡ step (memory ram image base) (state c calls)
-    unfolding step
-    step-whole i after e is-after = rw (← is-fetched, e) is-after
+    -- all parts of a change carried out
+    pub completes : (file′ calls′ ram′ : List ℕ) → served m stores ≡ All
+        → registersOf file′ ≡ widthsAfter (instruction i) (registersOf file) after → calls′ ≡ callsAfter opens depth calls
+        → ram′ ≡ stored stores (m .ram)
+        → left (turn (answerOf opens) to (depthAfter opens depth)) file′ calls′ ram′
+        ≡ finished (changes (change after to opens stores)) i m place depth file calls
+    completes file′ calls′ ram′ all same e e′ =
+        rw (all, e, e′)
+        (ap (λ r. stepped (answerOf opens) (state (record {
+          registers = r;
+          pc = to % bankSize;
+          pg = to / bankSize % 256;
+          depth = depthAfter opens depth;
+        }) (callsAfter opens depth calls)) (stored stores (m .ram))) same)

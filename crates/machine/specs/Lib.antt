@@ -1,2 +1,2 @@
-pub mod Planned
+pub mod Fetches
 pub mod Turns

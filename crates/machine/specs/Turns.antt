@@ -1,28 +1,54 @@
 -- A step's end as the code has it, beside what is lent to it, as the definition's.
 -- Assumes nothing.
-use Prim.Native.Nat.{ℕ, _≤_, _<_}
+use Prim.Native.Nat.{ℕ, _/_, _%_}
+use mathlib.Core.Bool.{Bool}
 use mathlib.Core.List.{List}
-use Rattle.machine.specs.declared.step.Turn.{Turn}
-use Rattle.model.specs.declared.code.Decoded.{Decoded}
-use Rattle.model.specs.declared.code.Decoded.the-variants.{Whole, NotCarried, CutOff}
+use Rattle.cpu.specs.File.{registersOf}
+use Rattle.machine.specs.declared.commit.Turn.{Turn}
+use Rattle.machine.specs.declared.fetch.Fetched.{Fetched}
+use Rattle.machine.specs.Fetches.{instruction}
+use Rattle.memory.specs.declared.reads.WordRead.{WordRead}
+use Rattle.memory.specs.declared.reads.WordRead.the-variants.{Word, Unmapped as NoWord}
+use Rattle.memory.specs.declared.reads.LongRead.{LongRead}
+use Rattle.memory.specs.declared.reads.LongRead.the-variants.{Long, Unmapped as NoLong}
+use Rattle.model.specs.declared.machine.Answer.{Answer}
 use Rattle.model.specs.declared.machine.Core.{Core}
 use Rattle.model.specs.declared.machine.State.{State}
-use Rattle.model.specs.declared.machine.Stop.{Stop}
-use Rattle.model.specs.declared.machine.Answer.the-variants.{Stopped}
-use Rattle.model.specs.Decode.{operandLimit}
-use Rattle.model.specs.Step.{Stepped, stepped}
+use Rattle.model.specs.Choice.{pick}
+use Rattle.model.specs.Image.{bankSize, inBankOf}
+use Rattle.model.specs.Rules.{nextAddress, targetAddress}
+use Rattle.model.specs.Memory.{Memory}
+use Rattle.model.specs.Step.{Plan, Stepped, stepped, finish}
 
 abbrev pub state : Core → List ℕ → State
 state c calls = record { core = c; calls = calls }
 
-abbrev pub left : Turn → List ℕ → List ℕ → Stepped
-left t calls ram = stepped (t .answer) (state (t .core) calls) ram
+-- a core out of the place of execution, the number of open calls and the register file
+abbrev pub coreOf : ℕ → ℕ → List ℕ → Core
+coreOf place depth file = record {
+  registers = registersOf file;
+  pc = place % bankSize;
+  pg = place / bankSize % 256;
+  depth = depth;
+}
 
-abbrev pub stoppedAt : Stop → Core → Turn
-stoppedAt stop c = record { answer = Stopped stop; core = c }
+abbrev pub turn : Answer → ℕ → ℕ → Turn
+turn answer place depth = record { answer = answer; place = place; depth = depth }
 
--- the bounds that every instruction keeps
-abbrev pub Bounded : Decoded → Type 0
-Bounded (Whole i) = (i .length ≤ 6) × (i .operand < operandLimit)
-Bounded NotCarried = Unit {0}
-Bounded CutOff = Unit {0}
+abbrev pub left : Turn → List ℕ → List ℕ → List ℕ → Stepped
+left t file calls ram = stepped (t .answer) (state (coreOf (t .place) (t .depth) file) calls) ram
+
+-- what a plan for an instruction comes to
+abbrev pub finished : Plan → Fetched → Memory → ℕ → ℕ → List ℕ → List ℕ → Stepped
+finished p i m place depth file calls = finish p (instruction i) m (state (coreOf place depth file) calls)
+
+-- where an operation goes on
+abbrev pub goesBy : Bool → Fetched → ℕ → Bool → ℕ
+goesBy branches i place taken =
+    pick branches (pick taken (targetAddress (instruction i) place) (nextAddress place (i .length)))
+    (nextAddress place (i .length))
+
+-- a word that was read, as an address of the bank of execution
+abbrev pub inOwnBank : ℕ → WordRead → LongRead
+inOwnBank place (Word address) = Long (inBankOf place address)
+inOwnBank place NoWord = NoLong

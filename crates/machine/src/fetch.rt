@@ -1,40 +1,63 @@
 // The instruction at the place of execution.
-use decoder::decode_at;
-use image::choose;
-use model::code::Decoded;
-use model::machine::Core;
+use cpu::flags::bit_at;
+use decoder::Framed;
+use decoder::frame_at;
+use decoder::operand_at;
+use model::machine::Status;
 ghost use mathlib.Core.Path.{_≡_};
 ghost use mathlib.Core.List.{List};
-ghost use Prim.Native.Nat.{ℕ, _+_, _≤_, _<_};
+ghost use Prim.Native.Nat.{ℕ, _+_, _≤_};
 ghost use lib.ListN.{length};
 ghost use Rattle.codepages.specs.Packing.{numbers};
+ghost use Rattle.model.specs.declared.machine.Core.{Core};
 ghost use Rattle.model.specs.Image.{addressLimit, imageLimit};
 ghost use Rattle.model.specs.Memory.{memory};
+ghost use Rattle.model.specs.Status.{statusOf};
 ghost use Rattle.model.specs.Step as spec;
-ghost use Rattle.machine.specs.Turns.{Bounded};
+ghost use Rattle.machine.specs.Fetches.{decodedAs, BoundedIn};
 
-// PG and PC as one number.
-pub fn place_of(core: Core) -> u64
-    ensures { λ r. ⌜ (r ≡ spec.placeOf core) × (r < addressLimit) ⌝ }
-{
-    core.pg as u64 * 65_536 + core.pc as u64
+// An instruction, its entry by its number: what a step needs of the entry it takes from there.
+pub struct Fetched {
+    pub number: u32,
+    pub length: u8,
+    pub operand: u64,
 }
 
-// What stands at the place of execution, at the widths in force. RAM has no part in it.
-pub fn fetch(codes: &[[[u32; 16]; 16]; 3], image: &[u8], base: u32, core: Core) -> Decoded
+pub enum Fetch {
+    Whole(Fetched),
+    NotCarried,
+    CutOff,
+}
+
+// What stands at a place, at the widths of a status. RAM has no part in it.
+pub fn fetch_at(
+    codes: &[[[u32; 16]; 16]; 3],
+    image: &[u8],
+    base: u32,
+    place: u64,
+    status: u16,
+) -> Fetch
     requires { ⌜ (now codes ≡ numbers) × (base + length (now image) ≤ addressLimit) × (length (now image) ≤ imageLimit) ⌝ }
     ensures { λ r. ⌜
-        ((ram : List ℕ) → r ≡ spec.fetched (memory ram (now (image .entry)) base) core) × Bounded r
+        ((ram : List ℕ) (c : Core) → place ≡ spec.placeOf c → c .registers .status ≡ statusOf status
+        → decodedAs r ≡ spec.fetched (memory ram (now (image .entry)) base) c)
+        × BoundedIn r
         ⌝ }
 {
-    let place = place_of(core);
     let from = base as u64;
     if place < from {
-        return Decoded::CutOff;
+        return Fetch::CutOff;
     }
-    let registers = core.registers;
-    let status = registers.status;
-    let m = choose(status.m, 1, 0);
-    let x = choose(status.x, 1, 0);
-    decode_at(codes, image, (place - from) as usize, m, x)
+    let at = (place - from) as usize;
+    let m = bit_at(Status::M, status);
+    let x = bit_at(Status::X, status);
+    match frame_at(codes, image, at, m, x) {
+        Framed::Fits(frame) => Fetch::Whole(Fetched {
+            number: frame.number,
+            length: frame.length,
+            operand: operand_at(image, at, frame),
+        }),
+        Framed::Uncarried => Fetch::NotCarried,
+        Framed::Short => Fetch::CutOff,
+    }
 }

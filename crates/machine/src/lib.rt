@@ -1,4 +1,6 @@
-// The stepping machine: what a step fetches, what it plans to change, and the step itself.
+// The stepping machine: what a step fetches, what it does by its flow, and the step itself.
+pub mod commit;
 pub mod fetch;
-pub mod plan;
+pub mod flows;
+pub mod returning;
 pub mod step;

@@ -1,121 +1,44 @@
-// One step: what is fetched is planned, and the plan is carried out where its stores are served.
-use crate::fetch::fetch;
-use crate::plan::Change;
-use crate::plan::Plan;
-use crate::plan::plan_by;
-use cpu::flags::with_widths;
-use cpu::registers::with_status;
-use image::choose;
-use memory::stores::served_all;
-use memory::stores::write;
-use model::code::Decoded;
-use model::code::Instruction;
-use model::machine::Answer;
+// One step: what is fetched goes by its flow.
+use crate::commit::Turn;
+use crate::commit::stopped;
+use crate::fetch::Fetch;
+use crate::fetch::Fetched;
+use crate::fetch::fetch_at;
+use crate::flows::calls_to;
+use crate::flows::jumps;
+use crate::flows::operates;
+use crate::returning::returns;
+use cpu::file::FILE_SIZE;
+use cpu::file::PS;
+use entries::flow_of;
+use model::code::Flow;
 use model::machine::CALL_LIMIT;
-use model::machine::CallChange;
-use model::machine::Core;
-use model::machine::Registers;
-use model::machine::Served;
 use model::machine::Stop;
-use successors::widths::m_after;
-use successors::widths::x_after;
 ghost use mathlib.Core.Path.{_≡_};
 ghost use Prim.Native.Nat.{_+_, _-_, _≤_, _<_};
 ghost use lib.ListN.{length, getD};
+ghost use Rattle.actions.specs.Tasks as table;
 ghost use Rattle.codepages.specs.Packing.{numbers};
-ghost use Rattle.model.specs.Decode.{operandLimit};
+ghost use Rattle.cpu.specs.File.{fileSize};
+ghost use Rattle.model.specs.declared.code.Decoded.the-variants.{Whole};
 ghost use Rattle.model.specs.Image.{addressLimit, imageLimit};
 ghost use Rattle.model.specs.Memory.{memory};
 ghost use Rattle.model.specs.Step as spec;
-ghost use Rattle.model.proofs.Step.{Opens};
-ghost use Rattle.machine.specs.Planned.{changed};
-ghost use Rattle.machine.specs.Turns.{state, left, stoppedAt};
-ghost use Rattle.model.specs.declared.code.Decoded.the-variants.{Whole};
-ghost use Rattle.model.specs.Step.{changes};
+ghost use Rattle.machine.specs.Fetches.{instruction, Bounded, isBranch};
+ghost use Rattle.machine.specs.Turns.{state, coreOf, left};
 
-// How a step ended, and the registers after it.
-pub struct Turn {
-    pub answer: Answer,
-    pub core: Core,
-}
+const ADDRESS_LIMIT: u64 = 16_777_216;
 
-// A step that stopped.
-fn stopped(stop: Stop, core: Core) -> Turn
-    ensures { λ r. ⌜ r ≡ stoppedAt stop core ⌝ }
+fn is_branch(flow: Flow) -> bool
+    ensures { λ r. ⌜ r ≡ isBranch flow ⌝ }
 {
-    Turn {
-        answer: Answer::Stopped(stop),
-        core,
-    }
-}
-
-// The registers with the widths after an instruction.
-fn widths_after(i: Instruction, before: Registers, after: Registers) -> Registers
-    ensures { λ r. ⌜ r ≡ spec.widthsAfter i before after ⌝ }
-{
-    let entry = i.entry;
-    let effect = entry.effect;
-    let given = before.status;
-    let m = m_after(effect, choose(given.m, 1, 0), i.operand);
-    let x = x_after(effect, choose(given.x, 1, 0), i.operand);
-    let status = after.status;
-    with_status(with_widths(m == 1, x == 1, status), after)
-}
-
-// How many calls are open after a change.
-fn depth_after(change: CallChange, depth: usize) -> usize
-    requires { ⌜ depth ≤ spec.callLimit ⌝ }
-    ensures { λ r. ⌜ r ≡ spec.depthAfter change depth ⌝ }
-{
-    match change {
-        CallChange::Keep => depth,
-        CallChange::Open { .. } => depth + 1,
-        CallChange::Close => {
-            if depth == 0 {
-                return 0;
-            }
-            depth - 1
-        }
-    }
-}
-
-fn core_after(i: Instruction, core: Core, change: Change) -> Core
-    requires { ⌜ core .depth ≤ spec.callLimit ⌝ }
-    ensures { λ r. ⌜ r ≡ spec.coreAfter i core (changed change) ⌝ }
-{
-    let before = core.registers;
-    let registers = change.registers;
-    let calls = change.calls;
-    let place = change.place;
-    Core {
-        registers: widths_after(i, before, registers),
-        pc: (place % 65_536) as u16,
-        pg: (place / 65_536 % 256) as u8,
-        depth: depth_after(calls, core.depth),
-    }
-}
-
-// The open calls after a change: one is entered where it is opened.
-fn change_calls(calls: &mut [u64; CALL_LIMIT], change: CallChange, depth: usize)
-    requires { ⌜ Opens change depth ⌝ }
-    ensures { λ _. ⌜ now (calls .exit) ≡ spec.callsAfter change depth (now (calls .entry)) ⌝ }
-{
-    match change {
-        CallChange::Keep => {}
-        CallChange::Open { address, kind } => {
-            calls[depth] = address as u64 + 4_294_967_296 * kind as u64;
-        }
-        CallChange::Close => {}
-    }
-}
-
-fn answer_of(change: CallChange) -> Answer
-    ensures { λ r. ⌜ r ≡ spec.answerOf change ⌝ }
-{
-    match change {
-        CallChange::Keep => Answer::Completed,
-        CallChange::Open { .. } => Answer::Called,
-        CallChange::Close => Answer::Completed,
+    match flow {
+        Flow::Next => false,
+        Flow::Branch => true,
+        Flow::Jump => false,
+        Flow::Call(_) => false,
+        Flow::Return(_) => false,
+        Flow::Halt => false,
     }
 }
 
@@ -130,81 +53,80 @@ fn last_opened(calls: &[u64; CALL_LIMIT], depth: usize) -> u64
     calls[depth - 1]
 }
 
-// A change is carried out, if all its stores are served.
-fn finish(
-    image: &[u8],
-    base: u32,
-    core: Core,
-    i: Instruction,
-    change: Change,
-    calls: &mut [u64; CALL_LIMIT],
-    ram: &mut [u8],
-) -> Turn
-    requires { ⌜ (core .depth ≤ spec.callLimit) × Opens (change .calls) (core .depth) ⌝ }
-    ensures { λ r. ⌜
-        left r (now (calls .exit)) (now (ram .exit))
-        ≡ spec.finish (changes (changed change)) i (memory (now (ram .entry)) (now (image .entry)) base) (state core (now (calls .entry)))
-        ⌝ }
-{
-    let stores = change.stores;
-    let served = served_all(ram, image, base, stores);
-    if let Served::Refused(stop) = served {
-        return stopped(stop, core);
-    }
-    write(ram, stores);
-    let opens = change.calls;
-    change_calls(calls, opens, core.depth);
-    Turn {
-        answer: answer_of(opens),
-        core: core_after(i, core, change),
-    }
-}
-
 // The step of an instruction.
 fn perform(
+    tasks: &[[u16; 128]; 4],
     image: &[u8],
     base: u32,
-    core: Core,
-    i: Instruction,
-    calls: &mut [u64; CALL_LIMIT],
-    ram: &mut [u8],
-) -> Turn
-    requires { ⌜ (core .depth ≤ spec.callLimit) × (i .length ≤ 6) × (i .operand < operandLimit) ⌝ }
-    ensures { λ r. ⌜
-        left r (now (calls .exit)) (now (ram .exit))
-        ≡ spec.onDecoded (Whole i) (memory (now (ram .entry)) (now (image .entry)) base) (state core (now (calls .entry)))
-        ⌝ }
-{
-    let opened = last_opened(calls, core.depth);
-    let plan = plan_by(ram, image, base, core, i, opened);
-    match plan {
-        Plan::Stops(stop) => stopped(stop, core),
-        Plan::Changes(change) => finish(image, base, core, i, change, calls, ram),
-    }
-}
-
-// The step of a core with its open calls.
-pub fn step_in(
-    codes: &[[[u32; 16]; 16]; 3],
-    image: &[u8],
-    base: u32,
-    core: Core,
+    i: Fetched,
+    place: u64,
+    depth: usize,
+    registers: &mut [u16; FILE_SIZE],
     calls: &mut [u64; CALL_LIMIT],
     ram: &mut [u8],
 ) -> Turn
     requires { ⌜
-        (now codes ≡ numbers) × (base + length (now image) ≤ addressLimit) × (length (now image) ≤ imageLimit)
-        × (core .depth ≤ spec.callLimit)
+        (now tasks ≡ table.numbers) × (place < addressLimit) × Bounded i × (length (now registers) ≡ fileSize)
+        × (depth ≤ spec.callLimit)
         ⌝ }
     ensures { λ r. ⌜
-        left r (now (calls .exit)) (now (ram .exit))
-        ≡ spec.step (memory (now (ram .entry)) (now (image .entry)) base) (state core (now (calls .entry)))
+        (left r (now (registers .exit)) (now (calls .exit)) (now (ram .exit))
+        ≡ spec.onDecoded (Whole (instruction i)) (memory (now (ram .entry)) (now (image .entry)) base)
+        (state (coreOf place depth (now (registers .entry))) (now (calls .entry))))
+        × (length (now (registers .exit)) ≡ fileSize)
         ⌝ }
 {
-    let decoded = fetch(codes, image, base, core);
-    match decoded {
-        Decoded::CutOff => stopped(Stop::Outside, core),
-        Decoded::NotCarried => stopped(Stop::Uncarried, core),
-        Decoded::Whole(i) => perform(image, base, core, i, calls, ram),
+    let flow = flow_of(i.number);
+    match flow {
+        Flow::Next | Flow::Branch => operates(
+            tasks,
+            image,
+            base,
+            is_branch(flow),
+            i,
+            place,
+            depth,
+            registers,
+            ram,
+        ),
+        Flow::Jump => jumps(i, place, depth, registers),
+        Flow::Call(kind) => calls_to(image, base, i, kind, place, depth, registers, calls, ram),
+        Flow::Return(kind) => {
+            let opened = last_opened(calls, depth);
+            returns(image, base, i, opened, kind, place, depth, registers, ram)
+        }
+        Flow::Halt => stopped(Stop::Halt, place, depth),
+    }
+}
+
+// The step of a place, a register file and the open calls.
+pub fn step_in(
+    codes: &[[[u32; 16]; 16]; 3],
+    tasks: &[[u16; 128]; 4],
+    image: &[u8],
+    base: u32,
+    place: u64,
+    depth: usize,
+    registers: &mut [u16; FILE_SIZE],
+    calls: &mut [u64; CALL_LIMIT],
+    ram: &mut [u8],
+) -> Turn
+    requires { ⌜
+        (now codes ≡ numbers) × (now tasks ≡ table.numbers) × (base + length (now image) ≤ addressLimit)
+        × (length (now image) ≤ imageLimit) × (depth ≤ spec.callLimit) × (length (now registers) ≡ fileSize)
+        ⌝ }
+    ensures { λ r. ⌜
+        (left r (now (registers .exit)) (now (calls .exit)) (now (ram .exit))
+        ≡ spec.step (memory (now (ram .entry)) (now (image .entry)) base)
+        (state (coreOf place depth (now (registers .entry))) (now (calls .entry))))
+        × (length (now (registers .exit)) ≡ fileSize)
+        ⌝ }
+{
+    let here = place % ADDRESS_LIMIT;
+    let fetched = fetch_at(codes, image, base, here, registers[PS]);
+    match fetched {
+        Fetch::Whole(i) => perform(tasks, image, base, i, here, depth, registers, calls, ram),
+        Fetch::NotCarried => stopped(Stop::Uncarried, here, depth),
+        Fetch::CutOff => stopped(Stop::Outside, here, depth),
     }
 }

@@ -132,14 +132,6 @@ operand-bound bytes m x i small h =
     let below = number-bound part (bytes-take (n - k) (drop k bytes) (bytes-drop k bytes small)) in
     rw (p .operand) (rw (part-length n k bytes (p .inside)) at below)
 
-pub page-below : (first : ℕ) → pageOf first < 3
-page-below first = below (eqb first 0x42) (eqb first 0x89)
-  where
-    below : (plain next : Bool) → pick plain 1 (pick next 2 0) < 3
-    below true next = omega arith
-    below false true = omega arith
-    below false false = omega arith
-
 pub decode-nothing : (bytes : List ℕ) (m x : ℕ) → length bytes ≡ 0 → CutOff ≡ decode bytes m x
 unfolding decode decodeOn
 decode-nothing [] m x h = refl

@@ -35,10 +35,6 @@ maskN = 128
 abbrev pub levelUnit : ℕ
 levelUnit = 256
 
--- 'Bits 11-15 are fixed at 0'
-abbrev pub statusLimit : ℕ
-statusLimit = 2_048
-
 abbrev pub isSet : ℕ → ℕ → Bool
 isSet mask n = eqb (n / mask % 2) 1
 

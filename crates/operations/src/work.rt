@@ -1,394 +1,135 @@
-// What one operation, or a few alike, do with their data. Each is called by one line or a few of `effect_of`.
+// What each action does. Each is called by one line of `effect_by`.
+use cpu::arithmetic::loads;
+use cpu::arithmetic::modifies;
+use cpu::arithmetic::pulls;
 use cpu::data::bit_of;
 use cpu::data::cleared_by;
 use cpu::data::half;
+use cpu::data::low;
+use cpu::data::merged;
 use cpu::data::size;
 use cpu::data::top_bit;
 use cpu::data::wide;
 use cpu::effects::Effect;
 use cpu::effects::behind_address;
 use cpu::effects::branches_if;
-use cpu::effects::modifies_by;
-use cpu::effects::only;
-use cpu::effects::popped;
+use cpu::effects::leaves;
 use cpu::effects::pushes;
+use cpu::effects::puts;
 use cpu::effects::residence_of;
 use cpu::effects::stores_to;
+use cpu::file::DPR;
+use cpu::file::DT;
+use cpu::file::FILE_SIZE;
+use cpu::file::PS;
+use cpu::flags::is_set;
 use cpu::flags::with_carry;
 use cpu::flags::with_disable;
 use cpu::flags::with_flags_cleared;
 use cpu::flags::with_flags_set;
 use cpu::flags::with_overflow;
-use cpu::registers::adds;
-use cpu::registers::ands;
-use cpu::registers::compares;
-use cpu::registers::exclusive_ors;
-use cpu::registers::flagged;
-use cpu::registers::loads;
-use cpu::registers::loads_a;
-use cpu::registers::loads_b;
-use cpu::registers::loads_x;
-use cpu::registers::loads_y;
-use cpu::registers::ors;
-use cpu::registers::rotates_a;
-use cpu::registers::subtracts;
-use cpu::registers::swaps;
-use cpu::registers::with_dpr;
-use cpu::registers::with_dt;
-use cpu::registers::with_s;
-use cpu::registers::with_status;
-use model::code::Accumulator;
+use cpu::flags::with_result;
 use model::code::Mode;
 use model::machine::Data;
-use model::machine::Registers;
+use model::machine::Status;
 ghost use mathlib.Core.Path.{_≡_};
 ghost use Prim.Native.Nat.{_+_, _-_, _*_, _/_, _%_, _<_};
-ghost use lib.Bits.{bitAnd, bitOr};
+ghost use lib.Bits.{bitAnd, bitOr, bitXor};
 ghost use lib.Dec.{eqb, leb};
+ghost use lib.ListN.{getD};
 ghost use Rattle.model.specs.Addressing.{residenceOf, size};
 ghost use Rattle.model.specs.Arithmetic as arithmetic;
 ghost use Rattle.model.specs.Decode.{operandLimit};
 ghost use Rattle.model.specs.Effects as spec;
 ghost use Rattle.model.specs.Image.{addressLimit, bankSize};
-ghost use Rattle.model.specs.Status.{bit, numberOf};
-ghost use Rattle.cpu.specs.View.{viewed};
+ghost use Rattle.model.specs.Status.{maskC, maskZ, maskV, maskN, isSet, bit};
+ghost use Rattle.cpu.specs.File.{registersOf, fileSize};
+ghost use Rattle.cpu.specs.Rows as rows;
+ghost use Rattle.cpu.specs.View.{viewed, Placed};
+ghost use Rattle.operations.specs.Works.{matches};
 
-// ADC
-pub fn add(named: Accumulator, short: bool, v: u16, registers: Registers) -> Effect
-    ensures { λ r. ⌜ viewed r ≡ spec.only (arithmetic.adds named short v registers) ⌝ }
+// Whether a flag is as a branch wants it.
+fn is_wanted(wanted: usize, flag: bool) -> bool
+    ensures { λ r. ⌜ r ≡ matches wanted flag ⌝ }
 {
-    only(adds(named, short, v, registers))
+    if wanted == 1 {
+        return flag;
+    }
+    !flag
 }
 
-// SBC
-pub fn subtract(named: Accumulator, short: bool, v: u16, registers: Registers) -> Effect
-    ensures { λ r. ⌜ viewed r ≡ spec.only (arithmetic.subtracts named short v registers) ⌝ }
+// The registers as they are.
+pub fn leave(registers: &[u16; FILE_SIZE]) -> Effect
+    ensures { λ r. ⌜
+        (viewed r (registersOf (now (registers .entry))) ≡ spec.only (registersOf (now (registers .entry))))
+        × Placed r
+        ⌝ }
 {
-    only(subtracts(named, short, v, registers))
+    leaves(registers[PS])
 }
 
 // AND
-pub fn and_with(named: Accumulator, short: bool, v: u16, registers: Registers) -> Effect
-    ensures { λ r. ⌜ viewed r ≡ spec.only (arithmetic.ands named short v registers) ⌝ }
+pub fn and_with(to: usize, short: bool, v: u16, registers: &[u16; FILE_SIZE]) -> Effect
+    requires { ⌜ to < fileSize ⌝ }
+    ensures { λ r. ⌜
+        (viewed r (registersOf (now (registers .entry)))
+        ≡ rows.loading (now (registers .entry)) to short (bitAnd (rows.lowOld (now (registers .entry)) to short) v)
+        (rows.status (now (registers .entry))))
+        × Placed r
+        ⌝ }
 {
-    only(ands(named, short, v, registers))
+    let old = low(short, wide(registers[to]));
+    loads(to, short, wide(old & v), registers[PS], registers)
 }
 
 // ORA
-pub fn or_with(named: Accumulator, short: bool, v: u16, registers: Registers) -> Effect
-    ensures { λ r. ⌜ viewed r ≡ spec.only (arithmetic.ors named short v registers) ⌝ }
+pub fn or_with(to: usize, short: bool, v: u16, registers: &[u16; FILE_SIZE]) -> Effect
+    requires { ⌜ to < fileSize ⌝ }
+    ensures { λ r. ⌜
+        (viewed r (registersOf (now (registers .entry)))
+        ≡ rows.loading (now (registers .entry)) to short (bitOr (rows.lowOld (now (registers .entry)) to short) v)
+        (rows.status (now (registers .entry))))
+        × Placed r
+        ⌝ }
 {
-    only(ors(named, short, v, registers))
+    let old = low(short, wide(registers[to]));
+    loads(to, short, wide(old | v), registers[PS], registers)
 }
 
 // EOR
-pub fn exclusive_or_with(named: Accumulator, short: bool, v: u16, registers: Registers) -> Effect
-    ensures { λ r. ⌜ viewed r ≡ spec.only (arithmetic.exclusiveOrs named short v registers) ⌝ }
+pub fn exclusive_or_with(to: usize, short: bool, v: u16, registers: &[u16; FILE_SIZE]) -> Effect
+    requires { ⌜ to < fileSize ⌝ }
+    ensures { λ r. ⌜
+        (viewed r (registersOf (now (registers .entry)))
+        ≡ rows.loading (now (registers .entry)) to short (bitXor (rows.lowOld (now (registers .entry)) to short) v)
+        (rows.status (now (registers .entry))))
+        × Placed r
+        ⌝ }
 {
-    only(exclusive_ors(named, short, v, registers))
-}
-
-// CMP, CPX, CPY
-pub fn compare(short: bool, a: u16, v: u16, registers: Registers) -> Effect
-    ensures { λ r. ⌜ viewed r ≡ spec.only (arithmetic.compares short a v registers) ⌝ }
-{
-    only(compares(short, a, v, registers))
-}
-
-// LDA
-pub fn load(named: Accumulator, short: bool, v: u16, registers: Registers) -> Effect
-    ensures { λ r. ⌜ viewed r ≡ spec.only (arithmetic.loads named short v registers) ⌝ }
-{
-    only(loads(named, short, v as u64, registers))
-}
-
-// Data into A, with N and Z.
-pub fn load_a(short: bool, v: u16, registers: Registers) -> Effect
-    ensures { λ r. ⌜ viewed r ≡ spec.only (arithmetic.loadsA short v registers) ⌝ }
-{
-    only(loads_a(short, v as u64, registers))
-}
-
-// Data into B, with N and Z.
-pub fn load_b(short: bool, v: u16, registers: Registers) -> Effect
-    ensures { λ r. ⌜ viewed r ≡ spec.only (arithmetic.loadsB short v registers) ⌝ }
-{
-    only(loads_b(short, v as u64, registers))
-}
-
-// Data into X, with N and Z.
-pub fn load_x(short: bool, v: u16, registers: Registers) -> Effect
-    ensures { λ r. ⌜ viewed r ≡ spec.only (arithmetic.loadsX short v registers) ⌝ }
-{
-    only(loads_x(short, v as u64, registers))
-}
-
-// Data into Y, with N and Z.
-pub fn load_y(short: bool, v: u16, registers: Registers) -> Effect
-    ensures { λ r. ⌜ viewed r ≡ spec.only (arithmetic.loadsY short v registers) ⌝ }
-{
-    only(loads_y(short, v as u64, registers))
-}
-
-// X counted on by a number.
-pub fn count_x(short: bool, by: u16, registers: Registers) -> Effect
-    ensures { λ r. ⌜ viewed r ≡ spec.only (arithmetic.loadsX short (registers .x + by) registers) ⌝ }
-{
-    only(loads_x(short, registers.x as u64 + by as u64, registers))
-}
-
-// Y counted on by a number.
-pub fn count_y(short: bool, by: u16, registers: Registers) -> Effect
-    ensures { λ r. ⌜ viewed r ≡ spec.only (arithmetic.loadsY short (registers .y + by) registers) ⌝ }
-{
-    only(loads_y(short, registers.y as u64 + by as u64, registers))
-}
-
-// Data into S.
-pub fn set_s(v: u16, registers: Registers) -> Effect
-    ensures { λ r. ⌜ viewed r ≡ spec.only (arithmetic.withS v registers) ⌝ }
-{
-    only(with_s(v, registers))
-}
-
-// Data into DPR.
-pub fn set_dpr(v: u16, registers: Registers) -> Effect
-    ensures { λ r. ⌜ viewed r ≡ spec.only (arithmetic.withDpr v registers) ⌝ }
-{
-    only(with_dpr(v, registers))
-}
-
-// LDT
-pub fn set_dt(v: u16, registers: Registers) -> Effect
-    ensures { λ r. ⌜ viewed r ≡ spec.only (arithmetic.withDt (v % 256) registers) ⌝ }
-{
-    only(with_dt((v % 256) as u8, registers))
-}
-
-// XAB
-pub fn swap(short: bool, registers: Registers) -> Effect
-    ensures { λ r. ⌜ viewed r ≡ spec.only (arithmetic.swaps short registers) ⌝ }
-{
-    only(swaps(short, registers))
-}
-
-// RLA
-pub fn rotate_a(short: bool, v: u16, registers: Registers) -> Effect
-    ensures { λ r. ⌜ viewed r ≡ spec.only (arithmetic.rotatesA short v registers) ⌝ }
-{
-    only(rotates_a(short, v, registers))
-}
-
-// CLC, SEC
-pub fn set_carry(flag: bool, registers: Registers) -> Effect
-    ensures { λ r. ⌜ viewed r ≡ spec.only (arithmetic.withStatus (arithmetic.withCarry flag (registers .status)) registers) ⌝ }
-{
-    let status = registers.status;
-    only(with_status(with_carry(flag, status), registers))
-}
-
-// CLI, SEI
-pub fn set_disable(flag: bool, registers: Registers) -> Effect
-    ensures { λ r. ⌜ viewed r ≡ spec.only (arithmetic.withStatus (arithmetic.withDisable flag (registers .status)) registers) ⌝ }
-{
-    let status = registers.status;
-    only(with_status(with_disable(flag, status), registers))
-}
-
-// CLV
-pub fn set_overflow(flag: bool, registers: Registers) -> Effect
-    ensures { λ r. ⌜ viewed r ≡ spec.only (arithmetic.withStatus (arithmetic.withOverflow flag (registers .status)) registers) ⌝ }
-{
-    let status = registers.status;
-    only(with_status(with_overflow(flag, status), registers))
-}
-
-// SEP
-pub fn set_flags(mask: u16, registers: Registers) -> Effect
-    ensures { λ r. ⌜ viewed r ≡ spec.only (arithmetic.withStatus (arithmetic.withFlagsSet mask (registers .status)) registers) ⌝ }
-{
-    let status = registers.status;
-    only(with_status(with_flags_set(mask, status), registers))
-}
-
-// CLP
-pub fn clear_flags(mask: u16, registers: Registers) -> Effect
-    ensures { λ r. ⌜ viewed r ≡ spec.only (arithmetic.withStatus (arithmetic.withFlagsCleared mask (registers .status)) registers) ⌝ }
-{
-    let status = registers.status;
-    only(with_status(with_flags_cleared(mask, status), registers))
-}
-
-// Data off the stack into A.
-pub fn pull_a(short: bool, v: u16, registers: Registers) -> Effect
-    ensures { λ r. ⌜ viewed r ≡ spec.only (arithmetic.loadsA short v (spec.popped short registers)) ⌝ }
-{
-    only(loads_a(short, v as u64, popped(short, registers)))
-}
-
-// Data off the stack into B.
-pub fn pull_b(short: bool, v: u16, registers: Registers) -> Effect
-    ensures { λ r. ⌜ viewed r ≡ spec.only (arithmetic.loadsB short v (spec.popped short registers)) ⌝ }
-{
-    only(loads_b(short, v as u64, popped(short, registers)))
-}
-
-// Data off the stack into X.
-pub fn pull_x(short: bool, v: u16, registers: Registers) -> Effect
-    ensures { λ r. ⌜ viewed r ≡ spec.only (arithmetic.loadsX short v (spec.popped short registers)) ⌝ }
-{
-    only(loads_x(short, v as u64, popped(short, registers)))
-}
-
-// Data off the stack into Y.
-pub fn pull_y(short: bool, v: u16, registers: Registers) -> Effect
-    ensures { λ r. ⌜ viewed r ≡ spec.only (arithmetic.loadsY short v (spec.popped short registers)) ⌝ }
-{
-    only(loads_y(short, v as u64, popped(short, registers)))
-}
-
-// PLD
-pub fn pull_dpr(short: bool, v: u16, registers: Registers) -> Effect
-    ensures { λ r. ⌜ viewed r ≡ spec.only (arithmetic.withDpr v (spec.popped short registers)) ⌝ }
-{
-    only(with_dpr(v, popped(short, registers)))
-}
-
-// PLT
-pub fn pull_dt(short: bool, v: u16, registers: Registers) -> Effect
-    ensures { λ r. ⌜ viewed r ≡ spec.only (arithmetic.flagged short v (arithmetic.withDt (v % 256) (spec.popped short registers))) ⌝ }
-{
-    let pulled = with_dt((v % 256) as u8, popped(short, registers));
-    only(flagged(short, v as u64, pulled))
-}
-
-// A register onto the stack.
-pub fn push(short: bool, v: u16, registers: Registers) -> Effect
-    ensures { λ r. ⌜ viewed r ≡ spec.pushes short v registers ⌝ }
-{
-    pushes(short, v as u64, registers)
-}
-
-// PHP
-pub fn push_status(short: bool, registers: Registers) -> Effect
-    ensures { λ r. ⌜ viewed r ≡ spec.pushes short (numberOf (registers .status)) registers ⌝ }
-{
-    let status = registers.status;
-    pushes(short, status.number() as u64, registers)
-}
-
-// PHT
-pub fn push_dt(short: bool, registers: Registers) -> Effect
-    ensures { λ r. ⌜ viewed r ≡ spec.pushes short (registers .dt) registers ⌝ }
-{
-    pushes(short, registers.dt as u64, registers)
-}
-
-// PHG
-pub fn push_pg(short: bool, next: u64, registers: Registers) -> Effect
-    ensures { λ r. ⌜ viewed r ≡ spec.pushes short (next / bankSize) registers ⌝ }
-{
-    pushes(short, next / 65_536, registers)
-}
-
-// PER
-pub fn push_relative(short: bool, next: u64, operand: u64, registers: Registers) -> Effect
-    requires { ⌜ (next < addressLimit) × (operand < operandLimit) ⌝ }
-    ensures { λ r. ⌜ viewed r ≡ spec.pushes short (next + operand) registers ⌝ }
-{
-    pushes(short, next + operand, registers)
-}
-
-// STA, STX, STY
-pub fn store_data(short: bool, address: u32, v: u16, registers: Registers) -> Effect
-    ensures { λ r. ⌜ viewed r ≡ spec.storesTo short address v registers ⌝ }
-{
-    stores_to(short, address, v as u64, registers)
-}
-
-// LDM
-pub fn store_immediate(
-    mode: Mode,
-    short: bool,
-    operand: u64,
-    given: Data,
-    registers: Registers,
-) -> Effect
-    ensures { λ r. ⌜ viewed r ≡ spec.storesTo short (given .address) (spec.behindAddress mode short operand) registers ⌝ }
-{
-    let immediate = behind_address(mode, short, operand);
-    stores_to(short, given.address, immediate as u64, registers)
-}
-
-// SEB
-pub fn set_bits(mode: Mode, short: bool, operand: u64, given: Data, registers: Registers) -> Effect
-    ensures { λ r. ⌜ viewed r ≡ spec.storesTo short (given .address) (bitOr (given .value) (spec.behindAddress mode short operand)) registers ⌝ }
-{
-    let mask = behind_address(mode, short, operand);
-    let v = given.value;
-    stores_to(short, given.address, wide(v | mask), registers)
-}
-
-// CLB
-pub fn clear_bits(
-    mode: Mode,
-    short: bool,
-    operand: u64,
-    given: Data,
-    registers: Registers,
-) -> Effect
-    ensures { λ r. ⌜ viewed r ≡ spec.storesTo short (given .address) (arithmetic.clearedBy short (spec.behindAddress mode short operand) (given .value)) registers ⌝ }
-{
-    let mask = behind_address(mode, short, operand);
-    let kept = cleared_by(short, mask, given.value);
-    stores_to(short, given.address, kept as u64, registers)
-}
-
-// BBC
-pub fn branch_clear(
-    mode: Mode,
-    short: bool,
-    operand: u64,
-    given: Data,
-    registers: Registers,
-) -> Effect
-    ensures { λ r. ⌜ viewed r ≡ spec.branchesIf (eqb (bitAnd (given .value) (spec.behindAddress mode short operand)) 0) registers ⌝ }
-{
-    let mask = behind_address(mode, short, operand);
-    let v = given.value;
-    branches_if(v & mask == 0, registers)
-}
-
-// BBS
-pub fn branch_set(
-    mode: Mode,
-    short: bool,
-    operand: u64,
-    given: Data,
-    registers: Registers,
-) -> Effect
-    ensures { λ r. ⌜ viewed r ≡ spec.branchesIf (eqb (arithmetic.clearedBy short (given .value) (spec.behindAddress mode short operand)) 0) registers ⌝ }
-{
-    let mask = behind_address(mode, short, operand);
-    let missing = cleared_by(short, given.value, mask);
-    branches_if(missing == 0, registers)
+    let old = low(short, wide(registers[to]));
+    loads(to, short, wide(old ^ v), registers[PS], registers)
 }
 
 // ASL
 pub fn shift_left(
     mode: Mode,
-    named: Accumulator,
+    to: usize,
     short: bool,
     given: Data,
-    registers: Registers,
+    registers: &[u16; FILE_SIZE],
 ) -> Effect
-    ensures { λ r. ⌜ viewed r ≡ spec.modifiesBy (residenceOf mode) named short (given .address) (leb (arithmetic.half short) (given .value)) (2 * given .value) registers ⌝ }
+    requires { ⌜ to < fileSize ⌝ }
+    ensures { λ r. ⌜
+        (viewed r (registersOf (now (registers .entry)))
+        ≡ rows.modifying (now (registers .entry)) to short (residenceOf mode) (given .address)
+        (leb (arithmetic.half short) (given .value)) (2 * given .value))
+        × Placed r
+        ⌝ }
 {
-    let status = registers.status;
     let v = given.value as u64;
-    modifies_by(
+    modifies(
         residence_of(mode),
-        named,
+        to,
         short,
         given.address,
         half(short) <= v,
@@ -400,18 +141,23 @@ pub fn shift_left(
 // LSR
 pub fn shift_right(
     mode: Mode,
-    named: Accumulator,
+    to: usize,
     short: bool,
     given: Data,
-    registers: Registers,
+    registers: &[u16; FILE_SIZE],
 ) -> Effect
-    ensures { λ r. ⌜ viewed r ≡ spec.modifiesBy (residenceOf mode) named short (given .address) (eqb (given .value % 2) 1) (given .value / 2) registers ⌝ }
+    requires { ⌜ to < fileSize ⌝ }
+    ensures { λ r. ⌜
+        (viewed r (registersOf (now (registers .entry)))
+        ≡ rows.modifying (now (registers .entry)) to short (residenceOf mode) (given .address)
+        (eqb (given .value % 2) 1) (given .value / 2))
+        × Placed r
+        ⌝ }
 {
-    let status = registers.status;
     let v = given.value as u64;
-    modifies_by(
+    modifies(
         residence_of(mode),
-        named,
+        to,
         short,
         given.address,
         v % 2 == 1,
@@ -423,22 +169,29 @@ pub fn shift_right(
 // ROL
 pub fn rotate_left(
     mode: Mode,
-    named: Accumulator,
+    to: usize,
     short: bool,
     given: Data,
-    registers: Registers,
+    registers: &[u16; FILE_SIZE],
 ) -> Effect
-    ensures { λ r. ⌜ viewed r ≡ spec.modifiesBy (residenceOf mode) named short (given .address) (leb (arithmetic.half short) (given .value)) (2 * given .value + bit (registers .status .carry)) registers ⌝ }
+    requires { ⌜ to < fileSize ⌝ }
+    ensures { λ r. ⌜
+        (viewed r (registersOf (now (registers .entry)))
+        ≡ rows.modifying (now (registers .entry)) to short (residenceOf mode) (given .address)
+        (leb (arithmetic.half short) (given .value))
+        (2 * given .value + bit (isSet maskC (getD (now (registers .entry)) 7 0))))
+        × Placed r
+        ⌝ }
 {
-    let status = registers.status;
+    let carry = is_set(Status::C, registers[PS]);
     let v = given.value as u64;
-    modifies_by(
+    modifies(
         residence_of(mode),
-        named,
+        to,
         short,
         given.address,
         half(short) <= v,
-        2 * v + bit_of(status.carry),
+        2 * v + bit_of(carry),
         registers,
     )
 }
@@ -446,22 +199,29 @@ pub fn rotate_left(
 // ROR
 pub fn rotate_right(
     mode: Mode,
-    named: Accumulator,
+    to: usize,
     short: bool,
     given: Data,
-    registers: Registers,
+    registers: &[u16; FILE_SIZE],
 ) -> Effect
-    ensures { λ r. ⌜ viewed r ≡ spec.modifiesBy (residenceOf mode) named short (given .address) (eqb (given .value % 2) 1) (given .value / 2 + arithmetic.topBit short (registers .status .carry)) registers ⌝ }
+    requires { ⌜ to < fileSize ⌝ }
+    ensures { λ r. ⌜
+        (viewed r (registersOf (now (registers .entry)))
+        ≡ rows.modifying (now (registers .entry)) to short (residenceOf mode) (given .address)
+        (eqb (given .value % 2) 1)
+        (given .value / 2 + arithmetic.topBit short (isSet maskC (getD (now (registers .entry)) 7 0))))
+        × Placed r
+        ⌝ }
 {
-    let status = registers.status;
+    let carry = is_set(Status::C, registers[PS]);
     let v = given.value as u64;
-    modifies_by(
+    modifies(
         residence_of(mode),
-        named,
+        to,
         short,
         given.address,
         v % 2 == 1,
-        v / 2 + top_bit(short, status.carry),
+        v / 2 + top_bit(short, carry),
         registers,
     )
 }
@@ -469,21 +229,27 @@ pub fn rotate_right(
 // INC
 pub fn increment(
     mode: Mode,
-    named: Accumulator,
+    to: usize,
     short: bool,
     given: Data,
-    registers: Registers,
+    registers: &[u16; FILE_SIZE],
 ) -> Effect
-    ensures { λ r. ⌜ viewed r ≡ spec.modifiesBy (residenceOf mode) named short (given .address) (registers .status .carry) (given .value + 1) registers ⌝ }
+    requires { ⌜ to < fileSize ⌝ }
+    ensures { λ r. ⌜
+        (viewed r (registersOf (now (registers .entry)))
+        ≡ rows.modifying (now (registers .entry)) to short (residenceOf mode) (given .address)
+        (isSet maskC (getD (now (registers .entry)) 7 0)) (given .value + 1))
+        × Placed r
+        ⌝ }
 {
-    let status = registers.status;
+    let carry = is_set(Status::C, registers[PS]);
     let v = given.value as u64;
-    modifies_by(
+    modifies(
         residence_of(mode),
-        named,
+        to,
         short,
         given.address,
-        status.carry,
+        carry,
         v + 1,
         registers,
     )
@@ -492,22 +258,444 @@ pub fn increment(
 // DEC
 pub fn decrement(
     mode: Mode,
-    named: Accumulator,
+    to: usize,
     short: bool,
     given: Data,
-    registers: Registers,
+    registers: &[u16; FILE_SIZE],
 ) -> Effect
-    ensures { λ r. ⌜ viewed r ≡ spec.modifiesBy (residenceOf mode) named short (given .address) (registers .status .carry) (given .value + size short - 1) registers ⌝ }
+    requires { ⌜ to < fileSize ⌝ }
+    ensures { λ r. ⌜
+        (viewed r (registersOf (now (registers .entry)))
+        ≡ rows.modifying (now (registers .entry)) to short (residenceOf mode) (given .address)
+        (isSet maskC (getD (now (registers .entry)) 7 0)) (given .value + size short - 1))
+        × Placed r
+        ⌝ }
 {
-    let status = registers.status;
+    let carry = is_set(Status::C, registers[PS]);
     let v = given.value as u64;
-    modifies_by(
+    modifies(
         residence_of(mode),
-        named,
+        to,
         short,
         given.address,
-        status.carry,
+        carry,
         v + size(short) - 1,
         registers,
     )
+}
+
+// A register counted on by a number.
+fn counted(v: u16, by: u16) -> u64
+    ensures { λ r. ⌜ r ≡ v + by ⌝ }
+{
+    v as u64 + by as u64
+}
+
+// INX, INY
+pub fn count_up(to: usize, short: bool, registers: &[u16; FILE_SIZE]) -> Effect
+    requires { ⌜ to < fileSize ⌝ }
+    ensures { λ r. ⌜
+        (viewed r (registersOf (now (registers .entry)))
+        ≡ rows.loading (now (registers .entry)) to short (getD (now (registers .entry)) to 0 + 1)
+        (rows.status (now (registers .entry))))
+        × Placed r
+        ⌝ }
+{
+    loads(
+        to,
+        short,
+        counted(registers[to], 1),
+        registers[PS],
+        registers,
+    )
+}
+
+// DEX, DEY
+pub fn count_down(to: usize, short: bool, registers: &[u16; FILE_SIZE]) -> Effect
+    requires { ⌜ to < fileSize ⌝ }
+    ensures { λ r. ⌜
+        (viewed r (registersOf (now (registers .entry)))
+        ≡ rows.loading (now (registers .entry)) to short (getD (now (registers .entry)) to 0 + 65_535)
+        (rows.status (now (registers .entry))))
+        × Placed r
+        ⌝ }
+{
+    loads(
+        to,
+        short,
+        counted(registers[to], 65_535),
+        registers[PS],
+        registers,
+    )
+}
+
+// LDA, LDX, LDY
+pub fn load(to: usize, short: bool, v: u16, registers: &[u16; FILE_SIZE]) -> Effect
+    requires { ⌜ to < fileSize ⌝ }
+    ensures { λ r. ⌜
+        (viewed r (registersOf (now (registers .entry)))
+        ≡ rows.loading (now (registers .entry)) to short v (rows.status (now (registers .entry))))
+        × Placed r
+        ⌝ }
+{
+    loads(to, short, wide(v), registers[PS], registers)
+}
+
+// A register into another, with N and Z.
+pub fn transfer(source: usize, to: usize, short: bool, registers: &[u16; FILE_SIZE]) -> Effect
+    requires { ⌜ (source < fileSize) × (to < fileSize) ⌝ }
+    ensures { λ r. ⌜
+        (viewed r (registersOf (now (registers .entry)))
+        ≡ rows.loading (now (registers .entry)) to short (getD (now (registers .entry)) source 0)
+        (rows.status (now (registers .entry))))
+        × Placed r
+        ⌝ }
+{
+    loads(to, short, wide(registers[source]), registers[PS], registers)
+}
+
+// A register into S or DPR.
+pub fn move_whole(source: usize, to: usize, registers: &[u16; FILE_SIZE]) -> Effect
+    requires { ⌜ (source < fileSize) × (to < fileSize) ⌝ }
+    ensures { λ r. ⌜
+        (viewed r (registersOf (now (registers .entry)))
+        ≡ rows.putting (now (registers .entry)) to (getD (now (registers .entry)) source 0)
+        (rows.status (now (registers .entry))))
+        × Placed r
+        ⌝ }
+{
+    puts(to, registers[source], registers[PS])
+}
+
+// LDT
+pub fn load_bank(v: u16, registers: &[u16; FILE_SIZE]) -> Effect
+    ensures { λ r. ⌜
+        (viewed r (registersOf (now (registers .entry)))
+        ≡ rows.putting (now (registers .entry)) 6 v (rows.status (now (registers .entry))))
+        × Placed r
+        ⌝ }
+{
+    puts(DT, v, registers[PS])
+}
+
+// BCC, BCS
+pub fn branch_carry(wanted: usize, registers: &[u16; FILE_SIZE]) -> Effect
+    ensures { λ r. ⌜
+        (viewed r (registersOf (now (registers .entry)))
+        ≡ rows.branching (now (registers .entry)) (matches wanted (isSet maskC (getD (now (registers .entry)) 7 0))))
+        × Placed r
+        ⌝ }
+{
+    let status = registers[PS];
+    branches_if(is_wanted(wanted, is_set(Status::C, status)), status)
+}
+
+// BNE, BEQ
+pub fn branch_zero(wanted: usize, registers: &[u16; FILE_SIZE]) -> Effect
+    ensures { λ r. ⌜
+        (viewed r (registersOf (now (registers .entry)))
+        ≡ rows.branching (now (registers .entry)) (matches wanted (isSet maskZ (getD (now (registers .entry)) 7 0))))
+        × Placed r
+        ⌝ }
+{
+    let status = registers[PS];
+    branches_if(is_wanted(wanted, is_set(Status::Z, status)), status)
+}
+
+// BPL, BMI
+pub fn branch_negative(wanted: usize, registers: &[u16; FILE_SIZE]) -> Effect
+    ensures { λ r. ⌜
+        (viewed r (registersOf (now (registers .entry)))
+        ≡ rows.branching (now (registers .entry)) (matches wanted (isSet maskN (getD (now (registers .entry)) 7 0))))
+        × Placed r
+        ⌝ }
+{
+    let status = registers[PS];
+    branches_if(is_wanted(wanted, is_set(Status::N, status)), status)
+}
+
+// BVC, BVS
+pub fn branch_overflow(wanted: usize, registers: &[u16; FILE_SIZE]) -> Effect
+    ensures { λ r. ⌜
+        (viewed r (registersOf (now (registers .entry)))
+        ≡ rows.branching (now (registers .entry)) (matches wanted (isSet maskV (getD (now (registers .entry)) 7 0))))
+        × Placed r
+        ⌝ }
+{
+    let status = registers[PS];
+    branches_if(is_wanted(wanted, is_set(Status::V, status)), status)
+}
+
+// CLC, SEC
+pub fn set_carry(wanted: usize, registers: &[u16; FILE_SIZE]) -> Effect
+    ensures { λ r. ⌜
+        (viewed r (registersOf (now (registers .entry)))
+        ≡ rows.leaving (now (registers .entry))
+        (arithmetic.withCarry (eqb wanted 1) (rows.status (now (registers .entry)))))
+        × Placed r
+        ⌝ }
+{
+    leaves(with_carry(wanted == 1, registers[PS]))
+}
+
+// CLI, SEI
+pub fn set_disable(wanted: usize, registers: &[u16; FILE_SIZE]) -> Effect
+    ensures { λ r. ⌜
+        (viewed r (registersOf (now (registers .entry)))
+        ≡ rows.leaving (now (registers .entry))
+        (arithmetic.withDisable (eqb wanted 1) (rows.status (now (registers .entry)))))
+        × Placed r
+        ⌝ }
+{
+    leaves(with_disable(wanted == 1, registers[PS]))
+}
+
+// CLV
+pub fn set_overflow(wanted: usize, registers: &[u16; FILE_SIZE]) -> Effect
+    ensures { λ r. ⌜
+        (viewed r (registersOf (now (registers .entry)))
+        ≡ rows.leaving (now (registers .entry))
+        (arithmetic.withOverflow (eqb wanted 1) (rows.status (now (registers .entry)))))
+        × Placed r
+        ⌝ }
+{
+    leaves(with_overflow(wanted == 1, registers[PS]))
+}
+
+// SEP
+pub fn set_flags(mask: u16, registers: &[u16; FILE_SIZE]) -> Effect
+    ensures { λ r. ⌜
+        (viewed r (registersOf (now (registers .entry)))
+        ≡ rows.leaving (now (registers .entry)) (arithmetic.withFlagsSet mask (rows.status (now (registers .entry)))))
+        × Placed r
+        ⌝ }
+{
+    leaves(with_flags_set(mask, registers[PS]))
+}
+
+// CLP
+pub fn clear_flags(mask: u16, registers: &[u16; FILE_SIZE]) -> Effect
+    ensures { λ r. ⌜
+        (viewed r (registersOf (now (registers .entry)))
+        ≡ rows.leaving (now (registers .entry))
+        (arithmetic.withFlagsCleared mask (rows.status (now (registers .entry)))))
+        × Placed r
+        ⌝ }
+{
+    leaves(with_flags_cleared(mask, registers[PS]))
+}
+
+// BBC
+pub fn branch_bits_clear(
+    mode: Mode,
+    short: bool,
+    operand: u64,
+    v: u16,
+    registers: &[u16; FILE_SIZE],
+) -> Effect
+    ensures { λ r. ⌜
+        (viewed r (registersOf (now (registers .entry)))
+        ≡ rows.branching (now (registers .entry)) (eqb (bitAnd v (spec.behindAddress mode short operand)) 0))
+        × Placed r
+        ⌝ }
+{
+    let mask = behind_address(mode, short, operand);
+    branches_if(v & mask == 0, registers[PS])
+}
+
+// BBS
+pub fn branch_bits_set(
+    mode: Mode,
+    short: bool,
+    operand: u64,
+    v: u16,
+    registers: &[u16; FILE_SIZE],
+) -> Effect
+    ensures { λ r. ⌜
+        (viewed r (registersOf (now (registers .entry)))
+        ≡ rows.branching (now (registers .entry))
+        (eqb (arithmetic.clearedBy short v (spec.behindAddress mode short operand)) 0))
+        × Placed r
+        ⌝ }
+{
+    let mask = behind_address(mode, short, operand);
+    branches_if(cleared_by(short, v, mask) == 0, registers[PS])
+}
+
+// LDM
+pub fn store_immediate(
+    mode: Mode,
+    short: bool,
+    operand: u64,
+    given: Data,
+    registers: &[u16; FILE_SIZE],
+) -> Effect
+    ensures { λ r. ⌜
+        (viewed r (registersOf (now (registers .entry)))
+        ≡ rows.storing (now (registers .entry)) short (given .address) (spec.behindAddress mode short operand))
+        × Placed r
+        ⌝ }
+{
+    let immediate = behind_address(mode, short, operand);
+    stores_to(short, given.address, wide(immediate), registers[PS])
+}
+
+// SEB
+pub fn set_bits(
+    mode: Mode,
+    short: bool,
+    operand: u64,
+    given: Data,
+    registers: &[u16; FILE_SIZE],
+) -> Effect
+    ensures { λ r. ⌜
+        (viewed r (registersOf (now (registers .entry)))
+        ≡ rows.storing (now (registers .entry)) short (given .address)
+        (bitOr (given .value) (spec.behindAddress mode short operand)))
+        × Placed r
+        ⌝ }
+{
+    let mask = behind_address(mode, short, operand);
+    let v = given.value;
+    stores_to(short, given.address, wide(v | mask), registers[PS])
+}
+
+// CLB
+pub fn clear_bits(
+    mode: Mode,
+    short: bool,
+    operand: u64,
+    given: Data,
+    registers: &[u16; FILE_SIZE],
+) -> Effect
+    ensures { λ r. ⌜
+        (viewed r (registersOf (now (registers .entry)))
+        ≡ rows.storing (now (registers .entry)) short (given .address)
+        (arithmetic.clearedBy short (spec.behindAddress mode short operand) (given .value)))
+        × Placed r
+        ⌝ }
+{
+    let mask = behind_address(mode, short, operand);
+    let kept = cleared_by(short, mask, given.value);
+    stores_to(short, given.address, wide(kept), registers[PS])
+}
+
+// STA, STX, STY
+pub fn store(source: usize, short: bool, address: u32, registers: &[u16; FILE_SIZE]) -> Effect
+    requires { ⌜ source < fileSize ⌝ }
+    ensures { λ r. ⌜
+        (viewed r (registersOf (now (registers .entry)))
+        ≡ rows.storing (now (registers .entry)) short address (getD (now (registers .entry)) source 0))
+        × Placed r
+        ⌝ }
+{
+    stores_to(short, address, wide(registers[source]), registers[PS])
+}
+
+// A register onto the stack.
+pub fn push(source: usize, short: bool, registers: &[u16; FILE_SIZE]) -> Effect
+    requires { ⌜ source < fileSize ⌝ }
+    ensures { λ r. ⌜
+        (viewed r (registersOf (now (registers .entry)))
+        ≡ spec.pushes short (getD (now (registers .entry)) source 0) (registersOf (now (registers .entry))))
+        × Placed r
+        ⌝ }
+{
+    pushes(short, wide(registers[source]), registers)
+}
+
+// PEI
+pub fn push_data(short: bool, v: u16, registers: &[u16; FILE_SIZE]) -> Effect
+    ensures { λ r. ⌜
+        (viewed r (registersOf (now (registers .entry))) ≡ spec.pushes short v (registersOf (now (registers .entry))))
+        × Placed r
+        ⌝ }
+{
+    pushes(short, wide(v), registers)
+}
+
+// PER
+pub fn push_relative(short: bool, next: u64, operand: u64, registers: &[u16; FILE_SIZE]) -> Effect
+    requires { ⌜ (next < addressLimit) × (operand < operandLimit) ⌝ }
+    ensures { λ r. ⌜
+        (viewed r (registersOf (now (registers .entry)))
+        ≡ spec.pushes short (next + operand) (registersOf (now (registers .entry))))
+        × Placed r
+        ⌝ }
+{
+    pushes(short, next + operand, registers)
+}
+
+// PHG
+pub fn push_program_bank(short: bool, next: u64, registers: &[u16; FILE_SIZE]) -> Effect
+    ensures { λ r. ⌜
+        (viewed r (registersOf (now (registers .entry)))
+        ≡ spec.pushes short (next / bankSize) (registersOf (now (registers .entry))))
+        × Placed r
+        ⌝ }
+{
+    pushes(short, next / 65_536, registers)
+}
+
+// PHP
+pub fn push_status(short: bool, registers: &[u16; FILE_SIZE]) -> Effect
+    ensures { λ r. ⌜
+        (viewed r (registersOf (now (registers .entry)))
+        ≡ spec.pushes short (getD (now (registers .entry)) 7 0) (registersOf (now (registers .entry))))
+        × Placed r
+        ⌝ }
+{
+    pushes(short, wide(registers[PS]), registers)
+}
+
+// PHT
+pub fn push_data_bank(short: bool, registers: &[u16; FILE_SIZE]) -> Effect
+    ensures { λ r. ⌜
+        (viewed r (registersOf (now (registers .entry)))
+        ≡ spec.pushes short (getD (now (registers .entry)) 6 0 % 256) (registersOf (now (registers .entry))))
+        × Placed r
+        ⌝ }
+{
+    pushes(short, wide(registers[DT]) % 256, registers)
+}
+
+// PLA, PLB, PLX, PLY
+pub fn pull(to: usize, short: bool, v: u16, registers: &[u16; FILE_SIZE]) -> Effect
+    requires { ⌜ to < fileSize ⌝ }
+    ensures { λ r. ⌜
+        (viewed r (registersOf (now (registers .entry)))
+        ≡ rows.pulling (now (registers .entry)) to short
+        (arithmetic.merged short (getD (now (registers .entry)) to 0) v)
+        (arithmetic.withResult short v (rows.status (now (registers .entry)))))
+        × Placed r
+        ⌝ }
+{
+    let value = merged(short, registers[to], wide(v));
+    let status = with_result(short, wide(v), registers[PS]);
+    pulls(to, short, value, status, registers)
+}
+
+// PLD
+pub fn pull_page(short: bool, v: u16, registers: &[u16; FILE_SIZE]) -> Effect
+    ensures { λ r. ⌜
+        (viewed r (registersOf (now (registers .entry)))
+        ≡ rows.pulling (now (registers .entry)) 5 short v (rows.status (now (registers .entry))))
+        × Placed r
+        ⌝ }
+{
+    pulls(DPR, short, v, registers[PS], registers)
+}
+
+// PLT
+pub fn pull_bank(short: bool, v: u16, registers: &[u16; FILE_SIZE]) -> Effect
+    ensures { λ r. ⌜
+        (viewed r (registersOf (now (registers .entry)))
+        ≡ rows.pulling (now (registers .entry)) 6 short v
+        (arithmetic.withResult short v (rows.status (now (registers .entry)))))
+        × Placed r
+        ⌝ }
+{
+    let old = registers[PS];
+    let status = with_result(short, wide(v), old);
+    pulls(DT, short, v, status, registers)
 }

@@ -1,10 +1,10 @@
 -- A run is what is left of it at each step: a step that completes is one less to do, a step that stops ends it and leaves
 -- registers, open calls and RAM as they were.
 -- Assumes nothing.
-use mathlib.Core.Path.{_≡_, refl, sym, ap, _∙_}
+use mathlib.Core.Path.{_≡_, refl, sym, ap, ap₂, _∙_}
 use mathlib.Core.Bool.{Bool, true, false}
 use mathlib.Core.List.{List}
-use Prim.Native.Nat.{ℕ, suc, _+_, _-_, _≤_, _<_}
+use Prim.Native.Nat.{ℕ, suc, _+_, _-_, _/_, _%_, _≤_, _<_}
 use native.Mathlib.Omega.{arith}
 use lib.ListN.{length}
 use Rattle.model.specs.declared.machine.Answer.{Answer}
@@ -13,6 +13,7 @@ use Rattle.model.specs.declared.machine.Core.{Core}
 use Rattle.model.specs.declared.machine.State.{State}
 use Rattle.model.specs.declared.runs.End.{End}
 use Rattle.model.specs.declared.runs.End.the-variants.{Done}
+use Rattle.model.specs.Image.{bankSize}
 use Rattle.model.specs.Memory.{Memory, memory}
 use Rattle.model.specs.Status.{bit}
 use Rattle.model.specs.Step.{callLimit, step}
@@ -20,9 +21,17 @@ use Rattle.model.specs.Run.{isCompleted, isCall, endAfter, Ran, played}
 use Rattle.model.proofs.Run.{further, ended, completed-stops, stopped-leaves}
 use Rattle.model.proofs.Run.{run-begins, run-goes-on, run-stops, run-ends}
 use Rattle.model.proofs.Step.{depth-kept}
-use Rattle.machine.specs.declared.step.Turn.{Turn}
-use Rattle.machine.specs.Turns.{state, left}
+use Rattle.cpu.specs.File.{registersOf, fileSize}
+use Rattle.machine.specs.declared.commit.Turn.{Turn}
+use Rattle.machine.specs.Turns.{state, coreOf, left}
 use Rattle.runs.specs.Courses.{leftBy}
+
+-- a core is made of its place, its number of open calls and the file of its registers
+pub made-of : (given : Core) (place : ℕ) (file : List ℕ) → registersOf file ≡ given .registers
+    → place % bankSize ≡ given .pc → place / bankSize % 256 ≡ given .pg → coreOf place (given .depth) file ≡ given
+made-of given place file e e′ e″ =
+    ap (λ r. record { registers = r; pc = place % bankSize; pg = place / bankSize % 256; depth = given .depth }) e
+    ∙ ap₂ (λ pc pg. record { registers = given .registers; pc = pc; pg = pg; depth = given .depth }) e′ e″
 
 module _ (m : Memory) (s : State) where
   -- the run ends so
@@ -41,76 +50,78 @@ module _ (image : List ℕ) (base : ℕ) (calls₀ ram₀ : List ℕ) (given : C
       further steps made (played (memory ram image base) (state core calls) (asked - steps))
 
   -- where a run stands after so many steps
-  pub record Going (calls ram : List ℕ) (core : Core) (steps made : ℕ) : Type 0 where
-    pub goes : rest core calls ram steps made ≡ whole
-    pub few : core .depth ≤ callLimit
+  pub record Going (calls ram file : List ℕ) (place depth steps made : ℕ) : Type 0 where
+    pub goes : rest (coreOf place depth file) calls ram steps made ≡ whole
+    pub filed : length file ≡ fileSize
+    pub few : depth ≤ callLimit
     pub counted : made ≤ steps
     pub within : steps ≤ asked
     pub same : length ram ≡ length ram₀
 
-  pub begins : given .depth ≤ callLimit → Going calls₀ ram₀ given 0 0
-  begins h =
+  pub begins : (file : List ℕ) (place : ℕ) → given .depth ≤ callLimit → length file ≡ fileSize
+      → coreOf place (given .depth) file ≡ given → Going calls₀ ram₀ file place (given .depth) 0 0
+  begins file place h long same-core =
       let all : asked - 0 ≡ asked = omega arith in
       record {
-        goes = rw all (run-begins (memory ram₀ image base) (state given calls₀) asked);
+        goes =
+            ap (λ c. rest c calls₀ ram₀ 0 0) same-core
+            ∙ rw all (run-begins (memory ram₀ image base) (state given calls₀) asked);
+        filed = long;
         few = h;
         counted = omega arith;
         within = omega arith;
         same = refl;
       }
 
-  module _ (calls ram : List ℕ) (core : Core) (steps made : ℕ) (g : Going calls ram core steps made) where
+  module _ (calls ram file : List ℕ) (place depth steps made : ℕ) (g : Going calls ram file place depth steps made) where
     abbrev m : Memory
     m = memory ram image base
 
     abbrev s : State
-    s = state core calls
+    s = state (coreOf place depth file) calls
 
-    pub ends : asked ≤ steps → leftBy (record {
-      end =
-          Done;
-      steps = steps;
-      calls = made;
-      core = core;
-    }) calls ram ≡ whole
-    ends h =
+    pub ends : asked ≤ steps → (core : Core) → core ≡ coreOf place depth file
+        → leftBy (record { end = Done; steps = steps; calls = made; core = core }) calls ram ≡ whole
+    ends h core e =
         let none : asked - steps ≡ 0 = omega arith in
         let last = rw none at (g .goes) in
-        sym (run-ends m s steps made) ∙ last
+        rw e (sym (run-ends m s steps made) ∙ last)
 
-    module _ (more : steps < asked) (turn : Turn) (calls′ ram′ : List ℕ) (is-step : left turn calls′ ram′ ≡ step m s)
-      where
-        one-more : asked - steps ≡ suc (asked - (steps + 1))
-        one-more = omega (arith, more)
+    module _ (more : steps < asked) (turn : Turn) (calls′ ram′ file′ : List ℕ)
+        (is-step : left turn file′ calls′ ram′ ≡ step m s) where
+      one-more : asked - steps ≡ suc (asked - (steps + 1))
+      one-more = omega (arith, more)
 
-        pub goes-on : isCompleted (turn .answer) ≡ true → length ram′ ≡ length ram → (made′ : ℕ) → made′ ≡ made + bit
-            (isCall (turn .answer))
-            → Going calls′ ram′ (turn .core) (steps + 1) made′
-        goes-on c long made′ e =
-            let answers : step m s .answer ≡ turn .answer = ap (λ t. t .answer) (sym is-step) in
-            let law = run-goes-on m s (asked - (steps + 1)) steps made (rw answers c) in
-            let first = rw one-more at (g .goes) in
-            let deep = depth-kept m s (g .few) in
-            record {
-              goes = rw e (rw (← is-step) at (sym law ∙ first));
-              few = rw (← is-step) at deep;
-              counted = rw e (by (isCall (turn .answer)));
-              within = omega arith;
-              same = long ∙ g .same;
-            }
-          where
-            by : (b : Bool) → made + bit b ≤ steps + 1
-            by true = omega (arith, g .counted)
-            by false = omega (arith, g .counted)
+      pub goes-on : isCompleted (turn .answer) ≡ true → length ram′ ≡ length ram → length file′ ≡ fileSize
+          → (made′ : ℕ) → made′ ≡ made + bit (isCall (turn .answer))
+          → Going calls′ ram′ file′ (turn .place) (turn .depth) (steps + 1) made′
+      goes-on c long eight made′ e =
+          let answers : step m s .answer ≡ turn .answer = ap (λ t. t .answer) (sym is-step) in
+          let law = run-goes-on m s (asked - (steps + 1)) steps made (rw answers c) in
+          let first = rw one-more at (g .goes) in
+          let deep = depth-kept m s (g .few) in
+          record {
+            goes = rw e (rw (← is-step) at (sym law ∙ first));
+            filed = eight;
+            few = rw (← is-step) at deep;
+            counted = rw e (by (isCall (turn .answer)));
+            within = omega arith;
+            same = long ∙ g .same;
+          }
+        where
+          by : (b : Bool) → made + bit b ≤ steps + 1
+          by true = omega (arith, g .counted)
+          by false = omega (arith, g .counted)
 
-        pub stops-so : isCompleted (turn .answer) ≡ false → (end : End) → end ≡ endAfter (turn .answer) Done
-            → leftBy (record { end = end; steps = steps; calls = made; core = turn .core }) calls′ ram′ ≡ whole
-        stops-so c end e =
-            let answers : step m s .answer ≡ turn .answer = ap (λ t. t .answer) (sym is-step) in
-            let kept = stopped-leaves m s (rw answers c) in
-            let same-state : state (turn .core) calls′ ≡ s = ap (λ t. t .state) is-step ∙ kept .0 in
-            let same-ram : ram′ ≡ ram = ap (λ t. t .ram) is-step ∙ kept .1 in
-            let first = rw one-more at (g .goes) in
-            rw (e, same-state, same-ram) (sym (stop-ends m s (asked - (steps + 1)) steps made (turn .answer) answers
-            c)
-            ∙ first)
+      pub stops-so : isCompleted (turn .answer) ≡ false → (end : End) → end ≡ endAfter (turn .answer) Done
+          → (core : Core) → core ≡ coreOf (turn .place) (turn .depth) file′
+          → leftBy (record { end = end; steps = steps; calls = made; core = core }) calls′ ram′ ≡ whole
+      stops-so c end e core e′ =
+          let answers : step m s .answer ≡ turn .answer = ap (λ t. t .answer) (sym is-step) in
+          let kept = stopped-leaves m s (rw answers c) in
+          let same-state : state (coreOf (turn .place) (turn .depth) file′) calls′ ≡ s = ap (λ t. t .state) is-step ∙ kept .0 in
+          let same-ram : ram′ ≡ ram = ap (λ t. t .ram) is-step ∙ kept .1 in
+          let first = rw one-more at (g .goes) in
+          rw (e, e′, same-state, same-ram) (sym (stop-ends m s (asked - (steps + 1)) steps made (turn .answer) answers
+          c)
+          ∙ first)

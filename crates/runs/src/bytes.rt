@@ -1,5 +1,6 @@
 // A run of a state that is given as bytes: any bytes are answered.
 use crate::course::run_in;
+use actions::tasks;
 use codepages::pages;
 use image::base_fits;
 use image::length_fits;
@@ -79,7 +80,16 @@ pub fn run(image: &[u8], base: u32, bytes: &mut [u8], ram: &mut [u8], asked: u32
     if let Admission::Refused(why) = admission {
         return RunAnswer::NotRun(why);
     }
-    let course = run_in(&pages(), image, base, core, &mut calls, ram, asked);
+    let course = run_in(
+        &pages(),
+        &tasks(),
+        image,
+        base,
+        core,
+        &mut calls,
+        ram,
+        asked,
+    );
     let end = course.end;
     let after = course.core;
     put_state(bytes, after, &calls);

@@ -1,20 +1,24 @@
 // Steps one after another, until the asked number is done or one stops.
+use cpu::file::FILE_SIZE;
+use cpu::file::file_of;
+use cpu::file::registers_in;
 use machine::step::step_in;
 use model::machine::Answer;
 use model::machine::CALL_LIMIT;
 use model::machine::Core;
 use model::runs::End;
 ghost use mathlib.Core.Path.{_≡_};
-ghost use Prim.Native.Nat.{_+_, _≤_};
+ghost use Prim.Native.Nat.{_+_, _/_, _%_, _≤_};
 ghost use lib.ListN.{length};
+ghost use Rattle.actions.specs.Tasks as table;
 ghost use Rattle.codepages.specs.Packing.{numbers};
-ghost use Rattle.model.specs.Image.{addressLimit, imageLimit};
+ghost use Rattle.model.specs.Image.{addressLimit, bankSize, imageLimit};
 ghost use Rattle.model.specs.Memory.{memory};
 ghost use Rattle.model.specs.declared.runs.End.the-variants.{Done};
 ghost use Rattle.model.specs.Run.{stepLimit, isCompleted, isCall, endAfter, played};
 ghost use Rattle.model.specs.Status.{bit};
-ghost use Rattle.model.specs.Step.{callLimit};
-ghost use Rattle.machine.specs.Turns.{state};
+ghost use Rattle.model.specs.Step.{callLimit, placeOf};
+ghost use Rattle.machine.specs.Turns.{state, coreOf};
 ghost use Rattle.runs.specs.Courses.{leftBy};
 
 // How a run ended, the steps completed, the calls among them, and the registers after it.
@@ -59,9 +63,29 @@ fn with_call(made: u32, answer: Answer) -> u32
     }
 }
 
+// PG and PC as one number.
+fn place_of(core: Core) -> u64
+    ensures { λ r. ⌜ (r ≡ placeOf core) × (r % bankSize ≡ core .pc) × (r / bankSize % 256 ≡ core .pg) ⌝ }
+{
+    core.pg as u64 * 65_536 + core.pc as u64
+}
+
+// The core of a place, the number of open calls and a register file.
+fn core_of(place: u64, depth: usize, registers: &[u16; FILE_SIZE]) -> Core
+    ensures { λ r. ⌜ r ≡ coreOf place depth (now (registers .entry)) ⌝ }
+{
+    Core {
+        registers: registers_in(registers),
+        pc: (place % 65_536) as u16,
+        pg: (place / 65_536 % 256) as u8,
+        depth,
+    }
+}
+
 // The steps of a core with its open calls.
 pub fn run_in(
     codes: &[[[u32; 16]; 16]; 3],
+    tasks: &[[u16; 128]; 4],
     image: &[u8],
     base: u32,
     given: Core,
@@ -70,27 +94,41 @@ pub fn run_in(
     asked: u32,
 ) -> Course
     requires { ⌜
-        (now codes ≡ numbers) × (base + length (now image) ≤ addressLimit) × (length (now image) ≤ imageLimit)
-        × (given .depth ≤ callLimit) × (asked ≤ stepLimit)
+        (now codes ≡ numbers) × (now tasks ≡ table.numbers) × (base + length (now image) ≤ addressLimit)
+        × (length (now image) ≤ imageLimit) × (given .depth ≤ callLimit) × (asked ≤ stepLimit)
         ⌝ }
     ensures { λ r. ⌜
         leftBy r (now (calls .exit)) (now (ram .exit))
         ≡ played (memory (now (ram .entry)) (now (image .entry)) base) (state given (now (calls .entry))) asked
         ⌝ }
 {
-    let mut core = given;
+    let before = given.registers;
+    let mut registers = file_of(before);
+    let mut place = place_of(given);
+    let mut depth = given.depth;
     let mut steps: u32 = 0;
     let mut made: u32 = 0;
     while steps < asked {
-        let turn = step_in(codes, image, base, core, calls, ram);
+        let turn = step_in(
+            codes,
+            tasks,
+            image,
+            base,
+            place,
+            depth,
+            &mut registers,
+            calls,
+            ram,
+        );
         let answer = turn.answer;
-        core = turn.core;
+        place = turn.place;
+        depth = turn.depth;
         if !is_completed(answer) {
             return Course {
                 end: end_at(answer),
                 steps,
                 calls: made,
-                core,
+                core: core_of(place, depth, &registers),
             };
         }
         made = with_call(made, answer);
@@ -100,6 +138,6 @@ pub fn run_in(
         end: End::Done,
         steps,
         calls: made,
-        core,
+        core: core_of(place, depth, &registers),
     }
 }

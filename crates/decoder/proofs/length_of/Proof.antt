@@ -1,24 +1,21 @@
--- The sum fits, since the number keeps at most seven bytes and the widths add one byte at most.
+-- The sum fits, since a number keeps at most seven bytes and one bit is added: the bit of the number's rule.
 -- Assumes nothing.
-use Rattle.model.proofs.CodeMap.{more-at-most}
-use native.Mathlib.Omega.{arith}
+use Rattle.decoder.proofs.Lengths.{length-by-bits}
 use borrow.Author.Needs.{needs}
 use Rattle.decoder.proofs.length_of.Statement.{statement}
 use Rattle.decoder.proofs.length_of.Tie as tie
 
-add-result : tie.Need-add-result
-add-result c =
-    omega (
-      arith,
-      c .before .before .bytes-of .ensures .1,
-      c .more-bytes .ensures,
-      more-at-most (c .before .rule-of
-          .result) (c .before .before .before .args .m) (c .before .before .before .args .x),
-    )
-
 returns : tie.Need-returns
-returns c = rw (c .before .before .bytes-of .ensures .0, c .more-bytes .ensures, c .before .rule-of .ensures)
+returns c =
+    let a = c .before .before .before .args in
+    length-by-bits (a .number) (a .m) (a .x) (c .bytes-of .result) (c .before .before .at-zero .result)
+    (c .before .at-zero2 .result) (c .bytes-of .ensures .0) (c .before .before .at-zero .ensures)
+    (c .before .at-zero2 .ensures)
 
 pub length-of-spec : {M : Type 1} → statement M
 length-of-spec =
-    tie.close (tie.spec (λ c κs. search needs) (λ c κs. search needs) (λ c κs. search needs) add-result returns)
+    tie.close
+    (tie.spec
+    (λ c κs. search needs) (λ c. search needs) (λ c. search needs) (λ c κs. search needs) (λ c. search needs)
+    (λ c. search needs) (λ c. search needs) (λ c κs. search needs) (λ c. search needs) (λ c. search needs)
+    (λ c. search needs) returns)

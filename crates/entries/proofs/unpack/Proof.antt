@@ -11,9 +11,9 @@ returns c =
     rw (
       c .before .before .before .before .before .before .before .before .before .operation-at .ensures,
       c .before
-          .before .before .before .before .before .before .before .mode-at .ensures,
+          .before .before .before .before .before .before .before .mode-of .ensures,
       c .before .before .before .before
-          .before .before .before .accumulator-at .ensures,
+          .before .before .before .accumulator-of .ensures,
       c .before .before .before .before .before .before .is-carried
           .ensures,
       c .before .before .before .before .before .flow-of .ensures,
@@ -23,7 +23,7 @@ returns c =
       c .before .before .bytes-of .ensures
           .0,
       c .before .rule-of .ensures,
-      c .width-at .ensures,
+      c .width-of .ensures,
     )
 
 pub unpack-spec : {M : Type 1} → statement M

@@ -40,8 +40,16 @@ address-of-spec =
     (λ c. rw (c .before .before .enum-told12 .given .1, ← c .before .direct9 .ensures .0) (c .by-long-y .ensures))
     (λ c. rw (c .before .enum-told13 .given .1, c .absolute .ensures .0) refl)
     (λ c. rw (c .before .enum-told14 .given .1, c .absolute2 .ensures .0) refl)
-    (λ c. rw (c .before .before .enum-told15 .given .1, c .index-x3 .ensures .0, c .before .absolute3 .ensures .0) refl)
-    (λ c. rw (c .before .before .enum-told16 .given .1, c .index-y2 .ensures .0, c .before .absolute4 .ensures .0) refl)
+    (λ c. rw (
+      c .before .before .enum-told15 .given .1,
+      c .index-x3 .ensures .0,
+      c .before .absolute3 .ensures .0,
+    ) refl)
+    (λ c. rw (
+      c .before .before .enum-told16 .given .1,
+      c .index-y2 .ensures .0,
+      c .before .absolute4 .ensures .0,
+    ) refl)
     (λ c. rw (c .before .enum-told17 .given .1, c .long .ensures .0) refl)
     (λ c. rw (c .before .before .enum-told18 .given .1, c .index-x4 .ensures .0, c .before .long2 .ensures .0) refl)
     (λ c. rw (c .enum-told19 .given .1) refl) (λ c. rw (c .enum-told20 .given .1) refl)

@@ -5,6 +5,7 @@ use mathlib.Core.Path.{subst}
 use Rattle.memory.specs.Reads.{IsLong}
 use native.Mathlib.Omega.{arith}
 use Prim.Native.Nat.{_+_}
+use Rattle.cpu.specs.File.{registersOf}
 use Rattle.addressing.proofs.Pointers.{long-found, long-missing}
 use borrow.Author.Needs.{needs}
 use Rattle.addressing.proofs.reach.by_long_y.Statement.{statement}
@@ -17,14 +18,14 @@ add-t15 c =
 
 returns : tie.Need-returns
 returns c =
-    rw (c .index-y .ensures .0) (long-found _ _ (λ p. p + indexY (c .before .before .before .before .before .before
-    .before .args .registers)) _ (c .before .before .before .before .long-from .ensures .0) _ (c .before .before
-    .read .given .1))
+    rw (c .index-y .ensures .0) (long-found _ _ (λ p. p + indexY (registersOf (c .before .before .before .before
+    .before .before .before .args .registers .now))) _ (c .before .before .before .before .long-from .ensures .0) _
+    (c .before .before .read .given .1))
 
 returns-2 : tie.Need-returns-2
 returns-2 c =
-    long-missing _ _ (λ p. p + indexY (c .before .before .before .before .before .args .registers)) _ (c .before
-    .before .long-from .ensures .0) (c .enum-told .given .1)
+    long-missing _ _ (λ p. p + indexY (registersOf (c .before .before .before .before .before .args .registers
+    .now))) _ (c .before .before .long-from .ensures .0) (c .enum-told .given .1)
 
 pub by-long-y-spec : {M : Type 1} → statement M
 by-long-y-spec =

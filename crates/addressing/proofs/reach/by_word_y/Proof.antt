@@ -2,6 +2,7 @@
 -- Assumes nothing.
 use Rattle.model.specs.Addressing.{inDataBank, indexY}
 use Prim.Native.Nat.{_+_}
+use Rattle.cpu.specs.File.{registersOf}
 use Rattle.addressing.proofs.Pointers.{word-found, word-missing}
 use borrow.Author.Needs.{needs}
 use Rattle.addressing.proofs.reach.by_word_y.Statement.{statement}
@@ -9,21 +10,21 @@ use Rattle.addressing.proofs.reach.by_word_y.Tie as tie
 
 returns : tie.Need-returns
 returns c =
-    rw (c .index-y .ensures .0) (word-found _ _ (λ p. inDataBank (c .before .before .before .before .before .before
-    .before .before .args .registers) p + indexY (c .before .before .before .before .before .before .before .before
-    .args .registers)) _ (c .before .before .before .before .before .word-from .ensures) _ (c .before .before
-    .before .read .given .1))
+    rw (c .index-y .ensures .0) (word-found _ _ (λ p. inDataBank (registersOf (c .before .before .before .before
+    .before .before .before .before .args .registers .now)) p + indexY (registersOf (c .before .before .before
+    .before .before .before .before .before .args .registers .now))) _ (c .before .before .before .before .before
+    .word-from .ensures) _ (c .before .before .before .read .given .1))
 
 returns-2 : tie.Need-returns-2
 returns-2 c =
-    word-missing _ _ (λ p. inDataBank (c .before .before .before .before .before .args .registers) p + indexY (c
-    .before .before .before .before .before .args .registers)) _ (c .before .before .word-from .ensures) (c
-    .enum-told .given .1)
+    word-missing _ _ (λ p. inDataBank (registersOf (c .before .before .before .before .before .args .registers
+    .now)) p + indexY (registersOf (c .before .before .before .before .before .args .registers .now))) _ (c .before
+    .before .word-from .ensures) (c .enum-told .given .1)
 
 pub by-word-y-spec : {M : Type 1} → statement M
 by-word-y-spec =
     tie.close
     (tie.spec
     (λ c. search needs) (λ c κs. search needs) (λ c. search needs) (λ c. search needs) (λ c. search needs)
-    (λ c. search needs) (λ c. search needs) (λ c κs. search needs) (λ c. search needs) (λ c. search needs) returns
-    returns-2)
+    (λ c. search needs) (λ c. search needs) (λ c. search needs) (λ c κs. search needs) (λ c. search needs)
+    (λ c. search needs) returns returns-2)

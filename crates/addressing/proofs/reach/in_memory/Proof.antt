@@ -1,8 +1,8 @@
--- The address first, then the data there.
+-- The address first, then, unless it is asked alone, the data there.
 -- Assumes nothing.
-use Rattle.model.specs.Addressing.{addressOf}
+use Rattle.cpu.specs.File.{registersOf}
 use Rattle.model.specs.Memory.{memory}
-use Rattle.addressing.proofs.Pointers.{data-nowhere, data-found, data-missing}
+use Rattle.addressing.proofs.Pointers.{data-nowhere, address-found, data-found, data-missing}
 use borrow.Author.Needs.{needs}
 use Rattle.addressing.proofs.reach.in_memory.Statement.{statement}
 use Rattle.addressing.proofs.reach.in_memory.Tie as tie
@@ -10,37 +10,53 @@ use Rattle.addressing.proofs.reach.in_memory.Tie as tie
 returns : tie.Need-returns
 returns c =
     data-nowhere (memory (c .before .before .before .before .before .args .ram .now) (c .before .before .before
-    .before .before .args .image .now) (c .before .before .before .before .before .args .base)) (addressOf (c
-    .before .before .before .before .before .args .mode) (c .before .before .before .before .before .args
-    .registers) (c .before .before .before .before .before .args .operand)) (c .before .before .before .before
-    .before .args .short) _ (c .before .before .address-of .ensures) (c .enum-told .given .1)
+    .before .before .args .image .now) (c .before .before .before .before .before .args .base)) (c .before .before
+    .before .before .before .args .mode) (registersOf (c .before .before .before .before .before .args .registers
+    .now)) (c .before .before .before .before .before .args .short) (c .before .before .before .before .before .args
+    .operand) _ (c .before .before .address-of .ensures) (c .before .before .before .before .before .args .alone) (c
+    .enum-told .given .1)
 
 returns-2 : tie.Need-returns-2
 returns-2 c =
-    data-found (memory (c .before .before .before .before .before .before .before .before .before .before .args .ram
-    .now) (c .before .before .before .before .before .before .before .before .before .before .args .image .now) (c
-    .before .before .before .before .before .before .before .before .before .before .args .base)) (addressOf (c
-    .before .before .before .before .before .before .before .before .before .before .args .mode) (c .before .before
-    .before .before .before .before .before .before .before .before .args .registers) (c .before .before .before
-    .before .before .before .before .before .before .before .args .operand)) (c .before .before .before .before
-    .before .before .before .before .before .before .args .short) _ (c .before .before .before .before .before
-    .before .before .address-of .ensures) _ (c .before .before .before .before .before .reached .given .1) _ (c
-    .before .before .before .data-from .ensures) _ (c .before .read .given .1)
+    address-found (memory (c .before .before .before .before .before .before .before .args .ram .now) (c .before
+    .before .before .before .before .before .before .args .image .now) (c .before .before .before .before .before
+    .before .before .args .base)) (c .before .before .before .before .before .before .before .args .mode)
+    (registersOf (c .before .before .before .before .before .before .before .args .registers .now)) (c .before
+    .before .before .before .before .before .before .args .short) (c .before .before .before .before .before .before
+    .before .args .operand) _ (c .before .before .before .before .address-of .ensures) (c .before .before .before
+    .before .before .before .before .args .alone) (c .if1 .taken) _ (c .before .before .reached .given .1)
 
 returns-3 : tie.Need-returns-3
 returns-3 c =
-    data-missing (memory (c .before .before .before .before .before .before .before .before .before .args .ram .now)
-    (c .before .before .before .before .before .before .before .before .before .args .image .now) (c .before .before
-    .before .before .before .before .before .before .before .args .base)) (addressOf (c .before .before .before
-    .before .before .before .before .before .before .args .mode) (c .before .before .before .before .before .before
-    .before .before .before .args .registers) (c .before .before .before .before .before .before .before .before
-    .before .args .operand)) (c .before .before .before .before .before .before .before .before .before .args
-    .short) _ (c .before .before .before .before .before .before .address-of .ensures) _ (c .before .before .before
-    .before .reached .given .1) _ (c .before .before .data-from .ensures) (c .enum-told2 .given .1)
+    data-found (memory (c .before .before .before .before .before .before .before .before .before .before .before
+    .args .ram .now) (c .before .before .before .before .before .before .before .before .before .before .before
+    .args .image .now) (c .before .before .before .before .before .before .before .before .before .before .before
+    .args .base)) (c .before .before .before .before .before .before .before .before .before .before .before .args
+    .mode) (registersOf (c .before .before .before .before .before .before .before .before .before .before .before
+    .args .registers .now)) (c .before .before .before .before .before .before .before .before .before .before
+    .before .args .short) (c .before .before .before .before .before .before .before .before .before .before .before
+    .args .operand) _ (c .before .before .before .before .before .before .before .before .address-of .ensures) _ (c
+    .before .before .before .before .before .before .reached .given .1) _ (c .before .before .before .data-from
+    .ensures) (c .before .before .before .before .before .before .before .before .before .before .before .args
+    .alone) (c .before .before .before .before .if1 .left) _ (c .before .read .given .1)
+
+returns-4 : tie.Need-returns-4
+returns-4 c =
+    data-missing (memory (c .before .before .before .before .before .before .before .before .before .before .args
+    .ram .now) (c .before .before .before .before .before .before .before .before .before .before .args .image .now)
+    (c .before .before .before .before .before .before .before .before .before .before .args .base)) (c .before
+    .before .before .before .before .before .before .before .before .before .args .mode) (registersOf (c .before
+    .before .before .before .before .before .before .before .before .before .args .registers .now)) (c .before
+    .before .before .before .before .before .before .before .before .before .args .short) (c .before .before .before
+    .before .before .before .before .before .before .before .args .operand) _ (c .before .before .before .before
+    .before .before .before .address-of .ensures) _ (c .before .before .before .before .before .reached .given .1) _
+    (c .before .before .data-from .ensures) (c .before .before .before .before .before .before .before .before
+    .before .before .args .alone) (c .before .before .before .if1 .left) (c .enum-told2 .given .1)
 
 pub in-memory-spec : {M : Type 1} → statement M
 in-memory-spec =
     tie.close
     (tie.spec
-    (λ c κs. search needs) (λ c. search needs) (λ c. search needs) returns (λ c. search needs) (λ c. search needs)
-    (λ c. search needs) (λ c κs. search needs) (λ c. search needs) (λ c. search needs) returns-2 returns-3)
+    (λ c κs. search needs) (λ c. search needs) (λ c. search needs) returns returns-2 (λ c. search needs)
+    (λ c. search needs) (λ c. search needs) (λ c κs. search needs) (λ c. search needs) (λ c. search needs)
+    returns-3 returns-4)

@@ -1,29 +1,26 @@
 -- By where the data lies.
 -- Assumes nothing.
-use Rattle.model.specs.Addressing.{operandBy}
 use mathlib.Core.Path.{refl}
 use borrow.Author.Needs.{needs}
 use Rattle.addressing.proofs.reach.operand_by.Statement.{statement}
 use Rattle.addressing.proofs.reach.operand_by.Tie as tie
 
 returns : tie.Need-returns
-unfolding operandBy
 returns c =
-    rw (← c .before .before .before .residence-of .ensures, c .before .enum-told .given .1) (c .in-memory .ensures)
+    rw (← c .before .before .before .residence-by .ensures, c .before .enum-told .given .1) (c .in-memory .ensures)
 
 returns-2 : tie.Need-returns-2
-unfolding operandBy
 returns-2 c =
-    rw (← c .before .before .before .residence-of .ensures, c .before .enum-told2 .given .1, c .low .ensures .0) refl
+    rw (← c .before .before .before .residence-by .ensures, c .before .enum-told2 .given .1, c .low .ensures .0)
+    refl
 
 returns-3 : tie.Need-returns-3
-unfolding operandBy
 returns-3 c =
     rw (
-      ← c .before .before .before .before .residence-of .ensures,
+      ← c .before .before .before .before .residence-by .ensures,
       c .before .before .enum-told3 .given .1,
       c .low2 .ensures .0,
-      c .before .accumulator-of .ensures,
+      c .before .accumulator-in .ensures,
     ) refl
 
 pub operand-by-spec : {M : Type 1} → statement M

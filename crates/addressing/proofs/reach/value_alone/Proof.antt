@@ -9,6 +9,7 @@ returns : tie.Need-returns
 returns c = rw (c .before .read .given .1) refl
 
 pub value-alone-spec : {M : Type 1} → statement M
-value-alone-spec = tie.close
+value-alone-spec =
+    tie.close
     (tie.spec
     (λ c. search needs) (λ c. search needs) returns (λ c. search needs))

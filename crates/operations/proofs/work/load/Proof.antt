@@ -1,14 +1,15 @@
 -- The definition's steps, one call each.
 -- Assumes nothing.
-use mathlib.Core.Path.{refl}
+use mathlib.Core.Path.{refl, _∙_}
 use borrow.Author.Needs.{needs}
 use Rattle.operations.proofs.work.load.Statement.{statement}
 use Rattle.operations.proofs.work.load.Tie as tie
 
 returns : tie.Need-returns
-returns c = rw (c .only .ensures, c .before .loads .ensures) refl
+returns c = (
+  c .loads .ensures .0 ∙ rw (c .before .before .wide .ensures, c .before .loads-arg .given) refl,
+  c .loads .ensures .1,
+)
 
 pub load-spec : {M : Type 1} → statement M
-load-spec = tie.close
-    (tie.spec
-    (λ c κs. search needs) (λ c κs. search needs) returns)
+load-spec = tie.close (tie.spec (λ c κs. search needs) (λ c. search needs) (λ c κs. search needs) returns)

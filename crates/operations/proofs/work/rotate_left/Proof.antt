@@ -1,22 +1,25 @@
 -- The definition's steps, one call each.
 -- Assumes nothing.
-use mathlib.Core.Path.{refl}
+use mathlib.Core.Path.{refl, _∙_}
 use borrow.Author.Needs.{needs}
 use Rattle.operations.proofs.work.rotate_left.Statement.{statement}
 use Rattle.operations.proofs.work.rotate_left.Tie as tie
 
 returns : tie.Need-returns
-returns c =
-    rw (
-      c .modifies-by .ensures,
-      c .before .before .before .residence-of .ensures,
-      c .before .before .half .ensures .0,
-      c .before .bit-of .ensures .0,
-    ) refl
+returns c = (
+  c .modifies .ensures .0 ∙ rw (
+    c .before .before .before .residence-of .ensures,
+    c .before .before .half .ensures .0,
+    c .before .bit-of .ensures .0,
+    c .before .before .before .before .before .is-set .ensures,
+    c .before .before .before .before .before .before .is-set-arg .given,
+  ) refl,
+  c .modifies .ensures .1,
+)
 
 pub rotate-left-spec : {M : Type 1} → statement M
 rotate-left-spec =
     tie.close
     (tie.spec
-    (λ c. search needs) (λ c κs. search needs) (λ c κs. search needs) (λ c. search needs) (λ c κs. search needs)
-    (λ c. search needs) (λ c κs. search needs) returns)
+    (λ c. search needs) (λ c κs. search needs) (λ c. search needs) (λ c κs. search needs) (λ c κs. search needs)
+    (λ c. search needs) (λ c κs. search needs) (λ c. search needs) (λ c κs. search needs) returns)

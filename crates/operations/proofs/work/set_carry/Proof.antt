@@ -1,15 +1,18 @@
 -- The definition's steps, one call each.
 -- Assumes nothing.
-use mathlib.Core.Path.{refl}
+use native.Mathlib.Omega.{arith}
+use mathlib.Core.Path.{ap}
 use borrow.Author.Needs.{needs}
+use Rattle.cpu.specs.Rows.{leaving}
 use Rattle.operations.proofs.work.set_carry.Statement.{statement}
 use Rattle.operations.proofs.work.set_carry.Tie as tie
 
 returns : tie.Need-returns
-returns c = rw (c .only .ensures, c .before .with-status .ensures, c .before .before .with-carry .ensures) refl
+returns c =
+    rw (c .leaves .ensures) (
+      ap (leaving (c .before .before .before .args .registers .now)) (c .before .with-carry .ensures),
+      (omega arith, omega arith),
+    )
 
 pub set-carry-spec : {M : Type 1} → statement M
-set-carry-spec =
-    tie.close
-    (tie.spec
-    (λ c κs. search needs) (λ c κs. search needs) (λ c κs. search needs) returns)
+set-carry-spec = tie.close (tie.spec (λ c. search needs) (λ c κs. search needs) (λ c κs. search needs) returns)

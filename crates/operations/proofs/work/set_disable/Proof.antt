@@ -1,15 +1,18 @@
 -- The definition's steps, one call each.
 -- Assumes nothing.
-use mathlib.Core.Path.{refl}
+use native.Mathlib.Omega.{arith}
+use mathlib.Core.Path.{ap}
 use borrow.Author.Needs.{needs}
+use Rattle.cpu.specs.Rows.{leaving}
 use Rattle.operations.proofs.work.set_disable.Statement.{statement}
 use Rattle.operations.proofs.work.set_disable.Tie as tie
 
 returns : tie.Need-returns
-returns c = rw (c .only .ensures, c .before .with-status .ensures, c .before .before .with-disable .ensures) refl
+returns c =
+    rw (c .leaves .ensures) (
+      ap (leaving (c .before .before .before .args .registers .now)) (c .before .with-disable .ensures),
+      (omega arith, omega arith),
+    )
 
 pub set-disable-spec : {M : Type 1} → statement M
-set-disable-spec =
-    tie.close
-    (tie.spec
-    (λ c κs. search needs) (λ c κs. search needs) (λ c κs. search needs) returns)
+set-disable-spec = tie.close (tie.spec (λ c. search needs) (λ c κs. search needs) (λ c κs. search needs) returns)

@@ -1,12 +1,15 @@
 -- The definition's steps, one call each.
 -- Assumes nothing.
-use mathlib.Core.Path.{refl}
+use mathlib.Core.Path.{refl, _∙_}
 use borrow.Author.Needs.{needs}
 use Rattle.operations.proofs.work.shift_left.Statement.{statement}
 use Rattle.operations.proofs.work.shift_left.Tie as tie
 
 returns : tie.Need-returns
-returns c = rw (c .modifies-by .ensures, c .before .before .residence-of .ensures, c .before .half .ensures .0) refl
+returns c = (
+  c .modifies .ensures .0 ∙ rw (c .before .before .residence-of .ensures, c .before .half .ensures .0) refl,
+  c .modifies .ensures .1,
+)
 
 pub shift-left-spec : {M : Type 1} → statement M
 shift-left-spec =

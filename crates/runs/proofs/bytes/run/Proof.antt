@@ -28,65 +28,65 @@ returns c =
 
 run-in-requires : tie.Need-run-in-requires
 run-in-requires c κs =
-    let start =
-    c .before .before .before .before .before .before .before .before .before .before .before .before .before
-    .before .before .before .before in
-    let b =
-    admitted (memory (start .args .ram .now) (start .args .image .now) (start .args .base)) (c .before .before
-    .before .before .before .before .before .before .fits2 .result) (start .args .asked) (sym (c .before .before
-    .before .before .before .before .admission-by .ensures) ∙ c .before .before .before .before .enum-told .given
-    .1) in let taken = sym (c .before .before .before .before .before .before .before .before .fits2 .ensures) ∙
-    b .taken in (
-      c .before .before .before .pages .ensures,
+    let start = c .before .before .before .before .before .before .before .before .before .before .before .before
+    .before .before .before .before .before .before .before in
+    let b = admitted (memory (start .args .ram .now) (start .args .image .now) (start .args .base)) (c .before
+    .before .before .before .before .before .before .before .before .before .fits2 .result) (start .args .asked)
+    (sym (c .before .before .before .before .before .before .before .before .admission-by .ensures) ∙ c .before
+    .before .before .before .before .before .enum-told .given .1) in let taken = sym (c .before .before .before
+    .before .before .before .before .before .before .before .fits2 .ensures) ∙ b .taken in (
+      c .before .before
+          .before .before .before .pages .ensures,
+      c .before .before .before .tasks .ensures,
       b .whole,
       b .few,
-      shallow (length (start .args .bytes
-          .now)) (c .before .before .before .before .before .before .before .before .before .before .before .before
-          .core-of .result) (c .before .before .before .before .before .before .before .before .before .before
-          .calls-of .result) taken,
+      shallow
+          (length (start .args .bytes .now)) (c .before .before .before .before .before .before .before .before .before
+          .before .before .before .before .before .core-of .result) (c .before .before .before .before .before .before
+          .before .before .before .before .before .before .calls-of .result) taken,
       b .steps,
     )
 
 put-state-requires : tie.Need-put-state-requires
 put-state-requires c κs =
-    let start =
-    c .before .before .before .before .before .before .before .before .before .before .before .before .before
-    .before .before .before .before .before .before .before .before .before .before in
-    let b =
-    admitted (memory (start .args .ram .now) (start .args .image .now) (start .args .base)) (c .before .before
-    .before .before .before .before .before .before .before .before .before .before .before .before .fits2
-    .result) (start .args .asked) (sym (c .before .before .before .before .before .before .before .before .before
-    .before .before .before .admission-by .ensures) ∙ c .before .before .before .before .before .before .before
-    .before .before .before .enum-told .given .1) in let taken = sym (c .before .before .before .before .before
-    .before .before .before .before .before .before .before .before .before .fits2 .ensures) ∙ b .taken in long
-    (length (start .args .bytes .now)) (c .before .before .before .before .before .before .before .before .before
-    .before .before .before .before .before .before .before .before .before .core-of .result) (c .before .before
-    .before .before .before .before .before .before .before .before .before .before .before .before .before
-    .before .calls-of .result) taken
+    let start = c .before .before .before .before .before .before .before .before .before .before .before .before
+    .before .before .before .before .before .before .before .before .before .before .before .before .before in
+    let b = admitted (memory (start .args .ram .now) (start .args .image .now) (start .args .base)) (c .before
+    .before .before .before .before .before .before .before .before .before .before .before .before .before .before
+    .before .fits2 .result) (start .args .asked) (sym (c .before .before .before .before .before .before .before
+    .before .before .before .before .before .before .before .admission-by .ensures) ∙ c .before .before .before
+    .before .before .before .before .before .before .before .before .before .enum-told .given .1) in let taken = sym
+    (c .before .before .before .before .before .before .before .before .before .before .before .before .before
+    .before .before .before .fits2 .ensures) ∙ b .taken in long (length (start .args .bytes .now)) (c .before
+    .before .before .before .before .before .before .before .before .before .before .before .before .before .before
+    .before .before .before .before .before .core-of .result) (c .before .before .before .before .before .before
+    .before .before .before .before .before .before .before .before .before .before .before .before .calls-of
+    .result) taken
 
 returns-2 : tie.Need-returns-2
 returns-2 c =
-    let start =
-    c .before .before .before .before .before .before .before .before .before .before .before .before .before
-    .before .before .before .before .before .before .before .before .before .before .before .before .before in
-    let e =
-    sym (run-taken (memory (start .args .ram .now) (start .args .image .now) (start .args .base)) (start .args
-    .bytes .now) (start .args .asked) (c .before .before .before .before .before .before .before .before .before
-    .before .before .before .before .before .before .before .before .before .before .before .before .core-of
+    let start = c .before .before .before .before .before .before .before .before .before .before .before .before
+    .before .before .before .before .before .before .before .before .before .before .before .before .before .before
+    .before .before in
+    let e = sym (run-taken (memory (start .args .ram .now) (start .args .image .now) (start .args .base)) (start
+    .args .bytes .now) (start .args .asked) (c .before .before .before .before .before .before .before .before
+    .before .before .before .before .before .before .before .before .before .before .before .before .before .before
+    .before .core-of .result) (c .before .before .before .before .before .before .before .before .before .before
+    .before .before .before .before .before .before .before .before .before .before .before .calls-of .result) (c
+    .before .before .before .before .before .before .before .before .before .before .before .before .before .before
+    .before .before .before .before .before .before .before .before .before .core-of .ensures) (c .before .before
+    .before .before .before .before .before .before .before .before .before .before .before .before .before .before
+    .before .before .before .before .before .calls-of .ensures) (c .before .before .before .before .before .before
+    .before .before .before .before .before .before .before .before .before .before .before .before .before .fits2
     .result) (c .before .before .before .before .before .before .before .before .before .before .before .before
-    .before .before .before .before .before .before .before .calls-of .result) (c .before .before .before .before
+    .before .before .before .before .before .before .before .fits2 .ensures) (c .before .before .before .before
     .before .before .before .before .before .before .before .before .before .before .before .before .before
-    .before .before .before .before .core-of .ensures) (c .before .before .before .before .before .before .before
-    .before .before .before .before .before .before .before .before .before .before .before .before .calls-of
-    .ensures) (c .before .before .before .before .before .before .before .before .before .before .before .before
-    .before .before .before .before .before .fits2 .result) (c .before .before .before .before .before .before
-    .before .before .before .before .before .before .before .before .before .before .before .fits2 .ensures) (c
-    .before .before .before .before .before .before .before .before .before .before .before .before .before
-    .before .before .admission-by .result) (c .before .before .before .before .before .before .before .before
+    .admission-by .result) (c .before .before .before .before .before .before .before .before .before .before
     .before .before .before .before .before .before .before .admission-by .ensures) (c .before .before .before
-    .before .before .before .before .before .before .before .before .before .before .enum-told .given .1) _ (c
-    .before .before .before .before .before .before .before .before .run-in .ensures)) in (
-      ap (λ r. r .answer) e,
+    .before .before .before .before .before .before .before .before .before .before .before .before .enum-told
+    .given .1) _ (c .before .before .before .before .before .before .before .before .run-in .ensures)) in (
+      ap (λ r.
+          r .answer) e,
       (c .before .before .put-state .ensures ∙ ap (λ r. r .state) e, ap (λ r. r .ram) e),
     )
 
@@ -103,6 +103,7 @@ run-spec =
     (λ c. search needs)
     returns
     (λ c. search needs)
+    (λ c κs. search needs)
     (λ c κs. search needs)
     run-in-requires
     put-state-requires

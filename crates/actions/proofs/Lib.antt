@@ -1,0 +1,2 @@
+-- The laws about tasks and their table that other crates cite.
+pub mod Unpacked

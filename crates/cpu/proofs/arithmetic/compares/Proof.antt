@@ -1,0 +1,50 @@
+-- The flags of a difference, and nothing else.
+-- Assumes nothing.
+use Rattle.cpu.proofs.Steps.{through}
+use Rattle.model.specs.Arithmetic.{withResult}
+use Rattle.cpu.specs.Rows.{leaving}
+use mathlib.Core.Path.{refl, ap, _∙_}
+use native.Mathlib.Omega.{arith}
+use borrow.Author.Needs.{needs}
+use Rattle.cpu.proofs.arithmetic.compares.Statement.{statement}
+use Rattle.cpu.proofs.arithmetic.compares.Tie as tie
+
+returns : tie.Need-returns
+returns c =
+    let start = c .before .before .before .before .before .before .before .before .before in
+    rw (c .leaves .ensures) (
+      ap (leaving (start .args .registers .now)) (through (withResult (start .args .short) (c
+          .before .before .before .before .before .difference .result)) (c .before .with-result .ensures) (c .before
+          .before .with-carry .ensures)) ∙ rw (
+            c .before .before .before .before .is-past .ensures,
+            c .before .before
+                .before .before .before .difference .ensures,
+            c .before .before .before .before .before .before .low .ensures
+                .0,
+            c .before .before .before .before .before .before .before .wide .ensures,
+            c .before .before .before .before
+                .before .before .before .before .wide-arg .given,
+            c .before .before .before .with-carry-arg .given,
+          ) refl,
+      (
+        omega
+            arith,
+        omega arith,
+      ),
+    )
+
+pub compares-spec : {M : Type 1} → statement M
+compares-spec =
+    tie.close
+    (tie.spec
+    (λ c. search needs)
+    (λ c. search needs)
+    (λ c κs. search needs)
+    (λ c κs. search needs)
+    (λ c κs. search needs)
+    (λ c κs. search needs)
+    (λ c. search needs)
+    (λ c κs. search needs)
+    (λ c κs. search needs)
+    (λ c κs. search needs)
+    returns)

@@ -1,0 +1,13 @@
+-- The field is what its list has at that part of the number.
+-- Assumes nothing.
+use Rattle.codepages.specs.Packing.{unpacked}
+use borrow.Author.Needs.{needs}
+use Rattle.entries.proofs.accumulator_of.Statement.{statement}
+use Rattle.entries.proofs.accumulator_of.Tie as tie
+
+returns : tie.Need-returns
+unfolding unpacked
+returns c = search needs
+
+pub accumulator-of-spec : {M : Type 1} → statement M
+accumulator-of-spec = tie.close (tie.spec (λ c κs. search needs) returns)

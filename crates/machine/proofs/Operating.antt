@@ -1,0 +1,166 @@
+-- Operations and jumps: what the functions give makes the definition's plan, and the plan its step.
+-- Assumes nothing.
+use mathlib.Core.Path.{_≡_, refl, sym, ap, _∙_}
+use mathlib.Core.Bool.{Bool, true, false}
+use mathlib.Core.List.{List, []}
+use Prim.Native.Nat.{ℕ, _<_}
+use lib.ListN.{getD}
+use Rattle.actions.specs.Tasks.{taskOf, packed, unpackedTask}
+use Rattle.actions.proofs.Unpacked.{task-kept, access-kept}
+use Rattle.addressing.specs.declared.reach.DataRead.{DataRead}
+use Rattle.addressing.specs.declared.reach.DataRead.the-variants.{Found, Unmapped as NoData}
+use Rattle.addressing.specs.Found.{dataRead}
+use Rattle.codepages.specs.Packing.{unpacked}
+use Rattle.cpu.specs.declared.effects.Effect.{Effect as Kept}
+use Rattle.cpu.specs.File.{registersOf}
+use Rattle.cpu.specs.View.{viewed, kept}
+use Rattle.memory.specs.declared.stores.Stores.the-variants.{None}
+use Rattle.memory.specs.Listed.{listed}
+use Rattle.model.specs.declared.code.Accumulator.{Accumulator}
+use Rattle.model.specs.declared.code.DataWidth.{DataWidth}
+use Rattle.model.specs.declared.code.Entry.{Entry}
+use Rattle.model.specs.declared.code.Mode.{Mode}
+use Rattle.model.specs.declared.machine.Access.{Access}
+use Rattle.model.specs.declared.machine.Core.{Core}
+use Rattle.model.specs.declared.machine.Data.{Data}
+use Rattle.model.specs.declared.machine.Registers.{Registers}
+use Rattle.model.specs.declared.machine.CallChange.the-variants.{Keep}
+use Rattle.model.specs.declared.machine.Stop.the-variants.{Unmapped, Decimal}
+use Rattle.model.specs.declared.machine.Answer.the-variants.{Completed, Stopped}
+use Rattle.model.specs.Addressing.{accessOf, isShort, dataOf}
+use Rattle.model.specs.Choice.{pick}
+use Rattle.model.specs.Effects.{Effect, effectOf}
+use Rattle.model.specs.Image.{addressLimit}
+use Rattle.model.specs.Memory.{Memory, Outcome, done, unmapped, come}
+use Rattle.model.specs.Rules.{nextAddress}
+use Rattle.model.specs.Status.{maskM, maskX, isSet}
+use Rattle.model.specs.Step as spec
+use Rattle.model.specs.Step.{Plan, stops, changes, change, isDecimal, widthsAfter, operates}
+use Rattle.model.proofs.Step.{decimal-first}
+use Rattle.operations.specs.Works.{effectBy}
+use Rattle.operations.proofs.ByTask.{by-number}
+use Rattle.machine.specs.declared.commit.Turn.{Turn}
+use Rattle.machine.specs.declared.fetch.Fetched.{Fetched}
+use Rattle.machine.specs.Fetches.{instruction}
+use Rattle.machine.specs.Turns.{coreOf, turn, left, finished}
+use Rattle.machine.proofs.Turning.{place-kept, stops-so, completes}
+
+-- a branch that is not taken goes on at the next instruction, and so does what does not branch
+pub not-taken : (branches taken : Bool) (target next to : ℕ) → taken ≡ false → to ≡ next
+    → to ≡ pick branches (pick taken target next) next
+not-taken true taken target next to h e = rw h e
+not-taken false taken target next to h e = e
+
+data-done : (o : Outcome Data) (w : DataRead) (d : Data) → w ≡ dataRead o → w ≡ Found d → o ≡ done d
+data-done (done u) w d e e′ = cc
+data-done unmapped w d e e′ = cc
+
+data-unmapped : (o : Outcome Data) (w : DataRead) → w ≡ dataRead o → w ≡ NoData → o ≡ unmapped
+data-unmapped (done u) w e e′ = cc
+data-unmapped unmapped w e e′ = cc
+
+-- what an operation's effect comes to, with where it goes on
+abbrev plannedBy : (Bool → ℕ) → Effect → Plan
+plannedBy goes e = changes (change (e .registers) (goes (e .taken)) Keep (e .stores))
+
+module _ (i : Fetched) (m : Memory) (place depth : ℕ) (file : List ℕ) where
+  abbrev c : Core
+  c = coreOf place depth file
+
+  abbrev r : Registers
+  r = registersOf file
+
+  abbrev entry : Entry
+  entry = unpacked (i .number)
+
+  module _ (goes : Bool → ℕ) (task : ℕ) (access : Access)
+      (is-task : task ≡ packed (taskOf (entry .accumulator) (entry .operation)))
+      (is-access : access ≡ unpackedTask task .access) (decimal : Bool) (tested : decimal ≡ isDecimal access r) where
+    asked-so : access ≡ accessOf (entry .operation)
+    asked-so =
+        is-access
+        ∙ ap (λ t. unpackedTask t .access) is-task
+        ∙ ap (λ t. t .access) (task-kept (entry .accumulator) (entry .operation))
+        ∙ access-kept (entry .accumulator) (entry .operation)
+
+    is-tested : isDecimal (accessOf (entry .operation)) r ≡ decimal
+    is-tested = ap (λ a. isDecimal a r) (sym asked-so) ∙ sym tested
+
+    pub stops-decimal : decimal ≡ true → (t : Turn) → t ≡ turn (Stopped Decimal) place depth → (calls : List ℕ)
+        → left t file calls (m .ram) ≡ finished (operates c (instruction i) m goes) i m place depth file calls
+    stops-decimal h t is-turn calls =
+        stops-so i m place depth file calls Decimal (operates c (instruction i) m goes) t is-turn
+        (sym (decimal-first m c (instruction i) goes (is-tested ∙ h)))
+
+    module _ (h : decimal ≡ false) (width : DataWidth) (is-width : width ≡ entry .width)
+        (status : ℕ) (is-status : status ≡ getD file 7 0) (by-m : Bool) (is-m : by-m ≡ isSet maskM status)
+        (by-x : Bool) (is-x : by-x ≡ isSet maskX status) (short : Bool) (is-short : short ≡ isShort width by-m by-x)
+        (mode : Mode) (is-mode : mode ≡ entry .mode) (named : Accumulator) (is-named : named ≡ entry .accumulator)
+        (w : DataRead) (read : w ≡ dataRead (come m (dataOf access mode named r short (i .operand)))) where
+      short-so : short ≡ spec.short c (instruction i)
+      short-so = rw (is-short, is-width, is-m, is-x, is-status) refl
+
+      abbrev asked : Outcome Data
+      asked =
+          come m
+          (dataOf (accessOf (entry .operation)) (entry .mode) (entry .accumulator) r (spec.short c (instruction i))
+          (i .operand))
+
+      again : w ≡ dataRead asked
+      again = read ∙ rw (asked-so, is-mode, is-named, short-so) refl
+
+      unmapped-plan : w ≡ NoData → stops Unmapped ≡ operates c (instruction i) m goes
+      unfolding operates
+      unmapped-plan e = rw (is-tested, h, data-unmapped asked w again e) refl
+
+      pub stops-unmapped : w ≡ NoData → (t : Turn) → t ≡ turn (Stopped Unmapped) place depth → (calls : List ℕ)
+          → left t file calls (m .ram) ≡ finished (operates c (instruction i) m goes) i m place depth file calls
+      stops-unmapped e t is-turn calls =
+          stops-so i m place depth file calls Unmapped (operates c (instruction i) m goes) t is-turn (unmapped-plan e)
+
+      module _ (given : Data) (found : w ≡ Found given) (inside : place < addressLimit)
+          (next : ℕ) (is-next : next ≡ nextAddress place (i .length)) (e : Kept)
+          (is-effect : viewed e r ≡ effectBy mode short (i .operand) next given file (unpackedTask task))
+          (to : ℕ) (is-to : to ≡ goes (e .taken)) where
+        next-so : next ≡ spec.next c (instruction i)
+        next-so = is-next ∙ ap (λ n. nextAddress n (i .length)) (sym (place-kept place depth file inside))
+
+        effect-so : viewed e r
+            ≡ effectOf (entry .mode) (entry .accumulator) (spec.short c (instruction i)) (i .operand)
+            (spec.next c (instruction i)) given r (entry .operation)
+        effect-so =
+            is-effect
+            ∙ ap (λ t. effectBy mode short (i .operand) next given file (unpackedTask t)) is-task
+            ∙ by-number mode short (i .operand) next given file (i .number)
+            ∙ rw (is-mode, short-so, next-so) refl
+
+        works-so : changes (change (viewed e r .registers) to Keep (listed (e .stores)))
+            ≡ spec.works c (instruction i) goes given
+        works-so =
+            ap (λ n. changes (change (viewed e r .registers) n Keep (listed (e .stores)))) is-to
+            ∙ ap (plannedBy goes) effect-so
+
+        worked-plan : changes (change (viewed e r .registers) to Keep (listed (e .stores)))
+            ≡ operates c (instruction i) m goes
+        unfolding operates
+        worked-plan = rw (is-tested, h, data-done asked w given again found) works-so
+
+        pub works-on : (t : Turn) (file′ ram′ : List ℕ)
+            → ((calls : List ℕ) → left t file′ calls ram′
+            ≡ finished (changes (change (viewed e r .registers) to Keep (listed (e .stores)))) i m place depth file
+            calls)
+            → (calls : List ℕ)
+            → left t file′ calls ram′ ≡ finished (operates c (instruction i) m goes) i m place depth file calls
+        works-on t file′ ram′ finishes calls =
+            finishes calls ∙ ap (λ p. finished p i m place depth file calls) worked-plan
+
+  -- a jump leaves the registers but for the widths
+  pub jumped : (e : Kept) → e ≡ kept 7 0 7 0 (getD file 7 0) None false
+      → (file′ : List ℕ) → registersOf file′ ≡ widthsAfter (instruction i) r (viewed e r .registers)
+      → (to target : ℕ) → to ≡ target → (calls : List ℕ)
+      → left (turn Completed to depth) file′ calls (m .ram)
+      ≡ finished (changes (change r target Keep [])) i m place depth file calls
+  jumped e is-effect file′ same to target is-to calls =
+      ap (λ n. left (turn Completed n depth) file′ calls (m .ram)) is-to
+      ∙ completes i m place depth file calls r target Keep [] file′ calls (m .ram) refl
+      (same ∙ ap (λ k. widthsAfter (instruction i) r (viewed k r .registers)) is-effect) refl refl

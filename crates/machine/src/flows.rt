@@ -1,0 +1,251 @@
+// What a step does by its flow: operations, jumps and calls.
+use crate::commit::Turn;
+use crate::commit::finish;
+use crate::commit::put;
+use crate::commit::stopped;
+use crate::fetch::Fetched;
+use actions::access_of;
+use actions::task_at;
+use addressing::access::is_short;
+use addressing::reach::DataRead;
+use addressing::reach::data_of;
+use cpu::effects::leaves;
+use cpu::effects::pushed_at;
+use cpu::effects::puts;
+use cpu::effects::store;
+use cpu::file::FILE_SIZE;
+use cpu::file::PS;
+use cpu::file::S;
+use cpu::flags::is_set;
+use entries::accumulator_of;
+use entries::mode_of;
+use entries::target_form_of;
+use entries::width_of;
+use memory::stores::Stores;
+use memory::stores::served_all;
+use memory::stores::write;
+use model::code::Kind;
+use model::machine::Access;
+use model::machine::Answer;
+use model::machine::CALL_LIMIT;
+use model::machine::Served;
+use model::machine::Status;
+use model::machine::Stop;
+use operations::effect_by;
+use successors::kind_number;
+use successors::next_address;
+use successors::target_of;
+ghost use mathlib.Core.Path.{_≡_};
+ghost use mathlib.Core.List.{List, []};
+ghost use Prim.Native.Nat.{ℕ, _≤_, _<_};
+ghost use lib.ListN.{length};
+ghost use Rattle.actions.specs.Tasks.{numbers};
+ghost use Rattle.cpu.specs.File.{registersOf, fileSize};
+ghost use Rattle.memory.specs.Listed.{listed};
+ghost use Rattle.model.specs.declared.machine.CallChange.the-variants.{Keep};
+ghost use Rattle.model.specs.Image.{addressLimit};
+ghost use Rattle.model.specs.Memory.{Memory, memory};
+ghost use Rattle.model.specs.Rules.{targetAddress, kindNumber};
+ghost use Rattle.model.specs.Step as spec;
+ghost use Rattle.machine.specs.Fetches.{instruction, Bounded};
+ghost use Rattle.machine.specs.Turns.{coreOf, left, finished, goesBy};
+
+// The place of an open call's kind in its entry.
+pub const ENTRY_UNIT: u64 = 4_294_967_296;
+
+// Where an instruction goes by its target.
+fn target(i: Fetched, place: u64) -> u64
+    requires { ⌜ (place < addressLimit) × Bounded i ⌝ }
+    ensures { λ r. ⌜ r ≡ targetAddress (instruction i) place ⌝ }
+{
+    target_of(target_form_of(i.number), place, i.length, i.operand)
+}
+
+// Where an operation goes on.
+fn goes(branches: bool, taken: bool, i: Fetched, place: u64) -> u64
+    requires { ⌜ (place < addressLimit) × Bounded i ⌝ }
+    ensures { λ r. ⌜ r ≡ goesBy branches i place taken ⌝ }
+{
+    if branches {
+        if taken {
+            return target(i, place);
+        }
+    }
+    next_address(place, i.length)
+}
+
+// ADC and SBC with D=1.
+fn is_decimal(access: Access, registers: &[u16; FILE_SIZE]) -> bool
+    ensures { λ r. ⌜ r ≡ spec.isDecimal access (registersOf (now (registers .entry))) ⌝ }
+{
+    match access {
+        Access::Operand => false,
+        Access::Addend => is_set(Status::D, registers[PS]),
+        Access::Address => false,
+        Access::Pull => false,
+        Access::DirectWord => false,
+    }
+}
+
+// An operation: decimal mode, then the reads, then the operation, then its stores.
+pub fn operates(
+    tasks: &[[u16; 128]; 4],
+    image: &[u8],
+    base: u32,
+    branches: bool,
+    i: Fetched,
+    place: u64,
+    depth: usize,
+    registers: &mut [u16; FILE_SIZE],
+    ram: &mut [u8],
+) -> Turn
+    requires { ⌜
+        (now tasks ≡ numbers) × (place < addressLimit) × Bounded i × (length (now registers) ≡ fileSize)
+        ⌝ }
+    ensures { λ r. ⌜
+        ((calls : List ℕ) → left r (now (registers .exit)) calls (now (ram .exit))
+        ≡ finished
+        (spec.operates (coreOf place depth (now (registers .entry))) (instruction i)
+        (memory (now (ram .entry)) (now (image .entry)) base) (goesBy branches i place))
+        i (memory (now (ram .entry)) (now (image .entry)) base) place depth (now (registers .entry)) calls)
+        × (length (now (registers .exit)) ≡ fileSize)
+        ⌝ }
+{
+    let task = task_at(tasks, i.number);
+    let access = access_of(task);
+    if is_decimal(access, registers) {
+        return stopped(Stop::Decimal, place, depth);
+    }
+    let status = registers[PS];
+    let short = is_short(
+        width_of(i.number),
+        is_set(Status::M, status),
+        is_set(Status::X, status),
+    );
+    let mode = mode_of(i.number);
+    let named = accumulator_of(i.number);
+    let read = data_of(
+        ram,
+        image,
+        base,
+        access,
+        mode,
+        named,
+        registers,
+        short,
+        i.operand,
+    );
+    let DataRead::Found(given) = read else {
+        return stopped(Stop::Unmapped, place, depth);
+    };
+    let next = next_address(place, i.length);
+    let effect = effect_by(task, mode, short, i.operand, next, given, registers);
+    let to = goes(branches, effect.taken, i, place);
+    finish(image, base, i, effect, to, place, depth, registers, ram)
+}
+
+// A jump.
+pub fn jumps(i: Fetched, place: u64, depth: usize, registers: &mut [u16; FILE_SIZE]) -> Turn
+    requires { ⌜ (place < addressLimit) × Bounded i × (length (now registers) ≡ fileSize) ⌝ }
+    ensures { λ r. ⌜
+        ((m : Memory) (calls : List ℕ) → left r (now (registers .exit)) calls (m .ram)
+        ≡ finished
+        (spec.changes (spec.change (registersOf (now (registers .entry))) (targetAddress (instruction i) place) Keep []))
+        i m place depth (now (registers .entry)) calls)
+        × (length (now (registers .exit)) ≡ fileSize)
+        ⌝ }
+{
+    let status = registers[PS];
+    put(registers, i, leaves(status));
+    Turn {
+        answer: Answer::Completed,
+        place: target(i, place),
+        depth,
+    }
+}
+
+// How many bytes a return address of a kind has.
+pub fn return_bytes(kind: Kind) -> u16
+    ensures { λ r. ⌜ r ≡ spec.returnBytes kind ⌝ }
+{
+    match kind {
+        Kind::ByRts => 2,
+        Kind::ByRtl => 3,
+    }
+}
+
+// A return address onto the stack, the highest byte first.
+fn pushes_return(s: u16, next: u64, kind: Kind) -> Stores
+    ensures { λ r. ⌜
+        ((place depth : ℕ) (file : List ℕ) (i : Fetched) → s ≡ registersOf file .s
+        → next ≡ spec.next (coreOf place depth file) (instruction i)
+        → listed r ≡ spec.pushesReturn (coreOf place depth file) (instruction i) kind)
+        ⌝ }
+{
+    let first = s as u64;
+    let second = pushed_at(s, 1) as u64;
+    let third = pushed_at(s, 2) as u64;
+    match kind {
+        Kind::ByRts => Stores::Two(store(first, next / 256), store(second, next)),
+        Kind::ByRtl => Stores::Three(
+            store(first, next / 65_536),
+            store(second, next / 256),
+            store(third, next),
+        ),
+    }
+}
+
+// The entry of an open call.
+fn entry_of(address: u64, kind: Kind) -> u64
+    requires { ⌜ address < addressLimit ⌝ }
+    ensures { λ r. ⌜ r ≡ spec.entryOf address (kindNumber kind) ⌝ }
+{
+    address + ENTRY_UNIT * kind_number(kind) as u64
+}
+
+// A call, unless too many are open or its pushes are not served.
+pub fn calls_to(
+    image: &[u8],
+    base: u32,
+    i: Fetched,
+    kind: Kind,
+    place: u64,
+    depth: usize,
+    registers: &mut [u16; FILE_SIZE],
+    calls: &mut [u64; CALL_LIMIT],
+    ram: &mut [u8],
+) -> Turn
+    requires { ⌜
+        (place < addressLimit) × Bounded i × (length (now registers) ≡ fileSize) × (depth ≤ spec.callLimit)
+        ⌝ }
+    ensures { λ r. ⌜
+        (left r (now (registers .exit)) (now (calls .exit)) (now (ram .exit))
+        ≡ finished (spec.calls (coreOf place depth (now (registers .entry))) (instruction i) kind) i
+        (memory (now (ram .entry)) (now (image .entry)) base) place depth (now (registers .entry)) (now (calls .entry)))
+        × (length (now (registers .exit)) ≡ fileSize)
+        ⌝ }
+{
+    if CALL_LIMIT <= depth {
+        return stopped(Stop::Deep, place, depth);
+    }
+    let next = next_address(place, i.length);
+    let s = registers[S];
+    let stores = pushes_return(s, next, kind);
+    let served = served_all(ram, image, base, stores);
+    if let Served::Refused(stop) = served {
+        return stopped(stop, place, depth);
+    }
+    write(ram, stores);
+    calls[depth] = entry_of(next, kind);
+    let status = registers[PS];
+    put(
+        registers,
+        i,
+        puts(S, pushed_at(s, return_bytes(kind)), status),
+    );
+    Turn {
+        answer: Answer::Called,
+        place: target(i, place),
+        depth: depth + 1,
+    }
+}

@@ -1,0 +1,130 @@
+// What a return does: the pulls, then whether it goes astray.
+use crate::commit::Turn;
+use crate::commit::put;
+use crate::commit::stopped;
+use crate::fetch::Fetched;
+use crate::flows::ENTRY_UNIT;
+use crate::flows::return_bytes;
+use cpu::effects::pulled_at;
+use cpu::effects::puts;
+use cpu::file::FILE_SIZE;
+use cpu::file::PS;
+use cpu::file::S;
+use memory::reads::LongRead;
+use memory::reads::WordRead;
+use memory::reads::long_from;
+use memory::reads::word_from;
+use model::code::Kind;
+use model::machine::Answer;
+use model::machine::Stop;
+use successors::in_bank_of;
+use successors::kind_number;
+ghost use mathlib.Core.Path.{_≡_};
+ghost use mathlib.Core.List.{List};
+ghost use Prim.Native.Nat.{ℕ, _<_};
+ghost use lib.ListN.{length};
+ghost use Rattle.cpu.specs.File.{registersOf, fileSize};
+ghost use Rattle.memory.specs.Reads.{longRead};
+ghost use Rattle.model.specs.declared.code.Flow.the-variants.{Return};
+ghost use Rattle.model.specs.Image.{addressLimit};
+ghost use Rattle.model.specs.Memory.{Memory, memory, come};
+ghost use Rattle.model.specs.Step as spec;
+ghost use Rattle.machine.specs.Fetches.{instruction};
+ghost use Rattle.machine.specs.Turns.{coreOf, left, finished, inOwnBank};
+
+// A word as an address of the bank of execution.
+fn in_own_bank(place: u64, read: WordRead) -> LongRead
+    requires { ⌜ place < addressLimit ⌝ }
+    ensures { λ r. ⌜ r ≡ inOwnBank place read ⌝ }
+{
+    match read {
+        WordRead::Word(address) => LongRead::Long(in_bank_of(place, address as u64) as u32),
+        WordRead::Unmapped => LongRead::Unmapped,
+    }
+}
+
+// The return address that is pulled.
+fn pulls_return(ram: &[u8], image: &[u8], base: u32, s: u16, place: u64, kind: Kind) -> LongRead
+    requires { ⌜ place < addressLimit ⌝ }
+    ensures { λ r. ⌜
+        ((depth : ℕ) (file : List ℕ) (i : Fetched) → s ≡ registersOf file .s
+        → r
+        ≡ longRead
+        (come (memory (now (ram .entry)) (now (image .entry)) base)
+        (spec.pullsReturn (coreOf place depth file) (instruction i) kind)))
+        ⌝ }
+{
+    let first = pulled_at(s, 1) as u64;
+    let second = pulled_at(s, 2) as u64;
+    let third = pulled_at(s, 3) as u64;
+    match kind {
+        Kind::ByRts => in_own_bank(place, word_from(ram, image, base, first, second)),
+        Kind::ByRtl => long_from(ram, image, base, first, second, third),
+    }
+}
+
+// A return to an address, if the call opened last is of its kind and returns there.
+fn returns_to(
+    i: Fetched,
+    opened: u64,
+    kind: Kind,
+    address: u32,
+    place: u64,
+    depth: usize,
+    registers: &mut [u16; FILE_SIZE],
+) -> Turn
+    requires { ⌜ length (now registers) ≡ fileSize ⌝ }
+    ensures { λ r. ⌜
+        ((m : Memory) (calls : List ℕ) → left r (now (registers .exit)) calls (m .ram)
+        ≡ finished (spec.returnsTo (coreOf place depth (now (registers .entry))) (instruction i) opened kind address) i m
+        place depth (now (registers .entry)) calls)
+        × (length (now (registers .exit)) ≡ fileSize)
+        ⌝ }
+{
+    if depth == 0 {
+        return stopped(Stop::Astray, place, depth);
+    }
+    if opened / ENTRY_UNIT % 256 != kind_number(kind) as u64 {
+        return stopped(Stop::Astray, place, depth);
+    }
+    if opened % ENTRY_UNIT != address as u64 {
+        return stopped(Stop::Astray, place, depth);
+    }
+    let s = pulled_at(registers[S], return_bytes(kind));
+    let status = registers[PS];
+    put(registers, i, puts(S, s, status));
+    Turn {
+        answer: Answer::Completed,
+        place: address as u64,
+        depth: depth - 1,
+    }
+}
+
+// A return.
+pub fn returns(
+    image: &[u8],
+    base: u32,
+    i: Fetched,
+    opened: u64,
+    kind: Kind,
+    place: u64,
+    depth: usize,
+    registers: &mut [u16; FILE_SIZE],
+    ram: &[u8],
+) -> Turn
+    requires { ⌜ (place < addressLimit) × (length (now registers) ≡ fileSize) ⌝ }
+    ensures { λ r. ⌜
+        ((calls : List ℕ) → left r (now (registers .exit)) calls (now (ram .entry))
+        ≡ finished
+        (spec.planBy (coreOf place depth (now (registers .entry))) (instruction i)
+        (memory (now (ram .entry)) (now (image .entry)) base) opened (Return kind))
+        i (memory (now (ram .entry)) (now (image .entry)) base) place depth (now (registers .entry)) calls)
+        × (length (now (registers .exit)) ≡ fileSize)
+        ⌝ }
+{
+    let pulled = pulls_return(ram, image, base, registers[S], place, kind);
+    match pulled {
+        LongRead::Long(address) => returns_to(i, opened, kind, address, place, depth, registers),
+        LongRead::Unmapped => stopped(Stop::Unmapped, place, depth),
+    }
+}
