@@ -1,11 +1,11 @@
 // The answer for the bytes of two files.
-use checker::check;
-use checker::count_starts;
 use image::IMAGE_LIMIT;
 use marklist::reader::read_list;
 use marklist::refusal_number;
 use model::lists::ListRead;
 use model::rules::Verdict;
+use view::plain::check;
+use view::plain::count_starts;
 ghost use mathlib.Core.Path.{_≡_};
 ghost use lib.ListN.{length};
 ghost use Rattle.answer.specs.AnswerLine as spec;
@@ -20,12 +20,12 @@ pub enum Answer {
     Refused { number: u8, offset: u32 },
 }
 
-// The check's answer, with the number of starts where it accepts.
+// The check's answer on the view of an image, with the number of starts where it accepts.
 fn verdict_answer(image: &[u8], marks: &[u8], base: u32, reset: u32) -> Answer
     ensures { λ r. ⌜ r ≡ spec.verdictAnswer (now (image .entry)) (now (marks .entry)) base reset ⌝ }
 {
     match check(image, marks, base, reset) {
-        Verdict::Accepted => Answer::Accepted(count_starts(marks) as u32),
+        Verdict::Accepted => Answer::Accepted(count_starts(image, marks, base) as u32),
         Verdict::Refused { number, offset } => Answer::Refused { number, offset },
     }
 }

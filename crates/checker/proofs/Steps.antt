@@ -13,8 +13,7 @@ use Rattle.model.specs.declared.code.Decoded.{Decoded}
 use Rattle.model.specs.declared.code.Decoded.the-variants.{Whole, NotCarried, CutOff}
 use Rattle.model.specs.Choice.{pick}
 use Rattle.model.specs.Image.{markM, markX}
-use Rattle.model.specs.Decode.{decode}
-use Rattle.model.specs.Rules.{StartRules}
+use Rattle.model.specs.Rules.{instructionAt, StartRules}
 use Rattle.model.specs.Verdict.{firstFrom, startAt, startNumber, brokenAt}
 use Rattle.model.proofs.Decode.{decodes}
 use Rattle.model.proofs.First.{Passed, one-more-passed, passed-all}
@@ -24,7 +23,7 @@ use Rattle.checker.specs.Steps.{bytesOf, bytesAt, stepAt}
 
 module _ (image marks : List ℕ) (at : ℕ) where
   abbrev decoded-here : Decoded
-  decoded-here = decode (drop at image) (markM (getD marks at 0)) (markX (getD marks at 0))
+  decoded-here = instructionAt image marks at
 
   bytes-few : (1 ≤ bytesOf decoded-here) × (bytesOf decoded-here ≤ 6)
   bytes-few = by decoded-here refl

@@ -3,12 +3,10 @@
 -- Assumes nothing.
 use Prim.Native.Nat.{ℕ}
 use mathlib.Core.List.{List}
-use lib.ListN.{getD, drop}
 use Rattle.model.specs.declared.code.Decoded.{Decoded}
 use Rattle.model.specs.declared.code.Decoded.the-variants.{Whole, NotCarried, CutOff}
 use Rattle.model.specs.Choice.{pick}
-use Rattle.model.specs.Image.{markM, markX}
-use Rattle.model.specs.Decode.{decode}
+use Rattle.model.specs.Rules.{instructionAt}
 use Rattle.model.specs.Verdict.{startAt, decodedNumber, startNumber}
 use Rattle.checker.specs.declared.start.Step.{Step}
 
@@ -20,7 +18,7 @@ bytesOf CutOff = 1
 
 unfoldable pub bytesAt : List ℕ → List ℕ → ℕ → ℕ
 bytesAt image marks at =
-    pick (startAt marks at) (bytesOf (decode (drop at image) (markM (getD marks at 0)) (markX (getD marks at 0)))) 1
+    pick (startAt marks at) (bytesOf (instructionAt image marks at)) 1
 
 -- the step of what is decoded at a place with a start
 abbrev pub decodedStep : List ℕ → ℕ → ℕ → Decoded → Step

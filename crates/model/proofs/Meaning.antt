@@ -21,8 +21,8 @@ use Rattle.model.specs.declared.rules.Verdict.{Verdict}
 use Rattle.model.specs.declared.rules.Verdict.the-variants.{Accepted, Refused}
 use Rattle.model.specs.Choice.{pick}
 use Rattle.model.specs.Image.{isStart, isFormed, lengthFits, baseFits, markAt, resetFits}
-use Rattle.model.specs.Rules.{returnFits}
-use Rattle.model.specs.Meaning.{Among, instructionAt, owedThere, StartBreaks, FormedBelow, Breaks}
+use Rattle.model.specs.Rules.{returnFits, instructionAt}
+use Rattle.model.specs.Meaning.{Among, owedThere, StartBreaks, FormedBelow, Breaks}
 use Rattle.model.specs.Verdict.{firstFrom, startAt, isClear, wantsStart, allStarts, wantsMark}
 use Rattle.model.specs.Verdict.{allMarks, owedNumber, wholeNumber, decodedNumber, startNumber, badMark, badStart}
 use Rattle.model.specs.Verdict.{startsVerdict, verdict}
@@ -86,7 +86,7 @@ not-clear marks at n h =
 -- ---- the number at a start
 
 module _ (image marks : List ℕ) (base at : ℕ) where
-  whole-breaks : (i : Instruction) → instructionAt image marks base at ≡ Whole i → (wholeNumber marks base at i ≡ 0 → ⊥)
+  whole-breaks : (i : Instruction) → instructionAt image marks at ≡ Whole i → (wholeNumber marks base at i ≡ 0 → ⊥)
       → StartBreaks image marks base at (wholeNumber marks base at i)
   unfolding wholeNumber owedNumber
   whole-breaks i whole broken =
@@ -118,9 +118,9 @@ module _ (image marks : List ℕ) (base at : ℕ) where
   start-breaks : startAt marks at ≡ true → (startNumber image marks base at ≡ 0 → ⊥)
       → StartBreaks image marks base at (startNumber image marks base at)
   unfolding startNumber decodedNumber
-  start-breaks s broken = rw s (by (instructionAt image marks base at) refl (rw s at broken))
+  start-breaks s broken = rw s (by (instructionAt image marks at) refl (rw s at broken))
     where
-      by : (d : Decoded) → instructionAt image marks base at ≡ d → (decodedNumber marks base at d ≡ 0 → ⊥)
+      by : (d : Decoded) → instructionAt image marks at ≡ d → (decodedNumber marks base at d ≡ 0 → ⊥)
           → StartBreaks image marks base at (decodedNumber marks base at d)
       by NotCarried e nz = StartBreaks.code e
       by CutOff e nz = StartBreaks.cut-off e

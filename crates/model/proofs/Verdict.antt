@@ -10,7 +10,7 @@ use Prim.Native.Nat.{ℕ, zero, suc, _+_, _-_, _≤_, _<_}
 use native.Mathlib.Omega.{arith}
 use borrow.Author.Tests.{eqb-true, eq-eqb, ne-eqb, not-false}
 use lib.Dec.{eqb, eqb·suc-zero}
-use lib.ListN.{length, getD, drop}
+use lib.ListN.{length, getD}
 use Rattle.model.specs.declared.code.Instruction.{Instruction}
 use Rattle.model.specs.declared.code.Decoded.{Decoded}
 use Rattle.model.specs.declared.code.Decoded.the-variants.{Whole, NotCarried, CutOff}
@@ -20,9 +20,8 @@ use Rattle.model.specs.declared.rules.Owed.the-variants.{Nothing, One, T
 use Rattle.model.specs.declared.rules.Verdict.{Verdict}
 use Rattle.model.specs.declared.rules.Verdict.the-variants.{Accepted, Refused}
 use Rattle.model.specs.Choice.{pick}
-use Rattle.model.specs.Image.{isStart, markM, markX, isFormed, lengthFits, baseFits, markAt, resetFits}
-use Rattle.model.specs.Rules.{owedAt, returnFits, Met, AllMet, StartRules, Accepts}
-use Rattle.model.specs.Decode.{decode}
+use Rattle.model.specs.Image.{isStart, isFormed, lengthFits, baseFits, markAt, resetFits}
+use Rattle.model.specs.Rules.{owedAt, returnFits, instructionAt, Met, AllMet, StartRules, Accepts}
 use Rattle.model.specs.Verdict.{firstFrom, startAt, isClear, wantsStart, allStarts, wantsMark}
 use Rattle.model.specs.Verdict.{allMarks, owedNumber, wholeNumber, decodedNumber, startNumber, badMark, badStart}
 use Rattle.model.specs.Verdict.{unformedAt, startsVerdict, verdict}
@@ -117,8 +116,7 @@ zero-owed marks base (Two v w) m =
 
 module _ (image marks : List ℕ) (base at : ℕ) where
   whole-zero : (i : Instruction) → wholeNumber marks base at i ≡ 0
-      → decode (drop at image) (markM (getD marks at 0)) (markX (getD marks at 0)) ≡ Whole i → StartRules image
-      marks base at
+      → instructionAt image marks at ≡ Whole i → StartRules image marks base at
   unfolding wholeNumber
   whole-zero i h whole =
       by (isClear marks at (i .length)) (returnFits (i .entry .flow) (getD marks at 0)) (owedNumber marks base o)
@@ -154,9 +152,9 @@ module _ (image marks : List ℕ) (base at : ℕ) where
   -- no number at a start says that its rules hold
   pub start-zero : startAt marks at ≡ true → startNumber image marks base at ≡ 0 → StartRules image marks base at
   unfolding startNumber decodedNumber
-  start-zero s h = by (decode (drop at image) (markM (getD marks at 0)) (markX (getD marks at 0))) refl (rw s at h)
+  start-zero s h = by (instructionAt image marks at) refl (rw s at h)
     where
-      by : (d : Decoded) → decode (drop at image) (markM (getD marks at 0)) (markX (getD marks at 0)) ≡ d
+      by : (d : Decoded) → instructionAt image marks at ≡ d
           → decodedNumber marks base at d ≡ 0 → StartRules image marks base at
       by NotCarried e z = absurd (omega arith)
       by CutOff e z = absurd (omega arith)
@@ -167,8 +165,7 @@ module _ (image marks : List ℕ) (base at : ℕ) where
   zero-start rules = by (startAt marks at) refl
     where
       by : (b : Bool) → startAt marks at ≡ b
-          → pick b (decodedNumber marks base at (decode (drop at image) (markM (getD marks at 0)) (markX (getD marks
-          at 0)))) 0 ≡ 0
+          → pick b (decodedNumber marks base at (instructionAt image marks at)) 0 ≡ 0
       by false e = refl
       by true e = let r = rules e in rw (r .whole) (zero-whole r)
 

@@ -6,16 +6,14 @@ use mathlib.Core.Logic.{_⊎_}
 use Prim.Native.Nat.{ℕ, _+_, _<_}
 use mathlib.Core.Bool.{true, false}
 use mathlib.Core.List.{List}
-use lib.ListN.{length, getD, drop}
+use lib.ListN.{length, getD}
 use Rattle.model.specs.declared.code.Instruction.{Instruction}
-use Rattle.model.specs.declared.code.Decoded.{Decoded}
 use Rattle.model.specs.declared.code.Decoded.the-variants.{Whole, NotCarried, CutOff}
 use Rattle.model.specs.declared.rules.Want.{Want}
 use Rattle.model.specs.declared.rules.Owed.{Owed}
 use Rattle.model.specs.declared.rules.Owed.the-variants.{Nothing, One, Two}
-use Rattle.model.specs.Image.{isStart, markM, markX, isFormed, lengthFits, baseFits, markAt, resetFits}
-use Rattle.model.specs.Rules.{owedAt, returnFits, StartRules}
-use Rattle.model.specs.Decode.{decode}
+use Rattle.model.specs.Image.{isStart, isFormed, lengthFits, baseFits, markAt, resetFits}
+use Rattle.model.specs.Rules.{owedAt, returnFits, instructionAt, StartRules}
 
 -- a want is among what is owed
 abbrev pub Among : Want → Owed → Type 0
@@ -24,10 +22,7 @@ Among w (One v) = w ≡ v
 Among w (Two u v) = (w ≡ u) ⊎ (w ≡ v)
 
 module _ (image marks : List ℕ) (base at : ℕ) where
-  -- the instruction at a place, at the widths marked there, and what it owes
-  abbrev pub instructionAt : Decoded
-  instructionAt = decode (drop at image) (markM (getD marks at 0)) (markX (getD marks at 0))
-
+  -- what the instruction at the place owes
   abbrev pub owedThere : Instruction → Owed
   owedThere i = owedAt marks base i (base + at) (getD marks at 0)
 
@@ -41,16 +36,17 @@ module _ (image marks : List ℕ) (base at : ℕ) where
 
   -- the number at a start
   pub data StartBreaks : ℕ → Type 0 where
-    code : instructionAt ≡ NotCarried → StartBreaks 5
-    cut-off : instructionAt ≡ CutOff → StartBreaks 6
-    overlap : (i : Instruction) → instructionAt ≡ Whole i
+    code : instructionAt image marks at ≡ NotCarried → StartBreaks 5
+    cut-off : instructionAt image marks at ≡ CutOff → StartBreaks 6
+    overlap : (i : Instruction) → instructionAt image marks at ≡ Whole i
         → (k : ℕ) → at < k → k < at + i .length → isStart (getD marks k 0) ≡ true → StartBreaks 7
-    return : (i : Instruction) → instructionAt ≡ Whole i → Clear i
+    return : (i : Instruction) → instructionAt image marks at ≡ Whole i → Clear i
         → returnFits (i .entry .flow) (getD marks at 0) ≡ false → StartBreaks 10
-    flow : (i : Instruction) → instructionAt ≡ Whole i → Clear i → returnFits (i .entry .flow) (getD marks at 0) ≡ true
+    flow : (i : Instruction) → instructionAt image marks at ≡ Whole i → Clear i
+        → returnFits (i .entry .flow) (getD marks at 0) ≡ true
         → (w : Want) → Among w (owedThere i) → isStart (markAt marks base (w .address)) ≡ false → StartBreaks 8
-    widths : (i : Instruction) → instructionAt ≡ Whole i → Clear i → returnFits (i .entry .flow) (getD marks at 0) ≡ true
-        → AllStarts i
+    widths : (i : Instruction) → instructionAt image marks at ≡ Whole i → Clear i
+        → returnFits (i .entry .flow) (getD marks at 0) ≡ true → AllStarts i
         → (w : Want) → Among w (owedThere i) → (markAt marks base (w .address) ≡ w .mark → ⊥) → StartBreaks 9
 
 module _ (image marks : List ℕ) (base reset : ℕ) where

@@ -15,6 +15,7 @@ use Rattle.model.specs.declared.code.Target.the-variants.{NoTarget, Offs
 use Rattle.model.specs.declared.code.WidthEffect.{WidthEffect}
 use Rattle.model.specs.declared.code.WidthEffect.the-variants.{KeepWidths, SetM, ClearM, SetBits, ClearBits}
 use Rattle.model.specs.declared.code.Instruction.{Instruction}
+use Rattle.model.specs.declared.code.Decoded.{Decoded}
 use Rattle.model.specs.declared.code.Decoded.the-variants.{Whole}
 use Rattle.model.specs.declared.rules.Want.{Want}
 use Rattle.model.specs.declared.rules.Owed.{Owed}
@@ -23,6 +24,10 @@ use Rattle.model.specs.Choice.{pick}
 use Rattle.model.specs.Image.{addressLimit, isStart, markM, markX, markKind, returnM, returnX}
 use Rattle.model.specs.Image.{markOf, isFormed, lengthFits, baseFits, markAt, inBankOf, resetFits}
 use Rattle.model.specs.Decode.{decode}
+
+-- the instruction at a place, at the widths marked there: 'length is read from there at the marked widths'
+abbrev pub instructionAt : List ℕ → List ℕ → ℕ → Decoded
+instructionAt image marks at = decode (drop at image) (markM (getD marks at 0)) (markX (getD marks at 0))
 
 -- 'the next address': addresses count on as one 24-bit number that wraps
 abbrev pub nextAddress : ℕ → ℕ → ℕ
@@ -138,7 +143,7 @@ AllMet marks base (Two v w) = Met marks base v × Met marks base w
 -- of RTS and RTL; its successors.
 pub record StartRules (image marks : List ℕ) (base at : ℕ) : Type 0 where
   pub instruction : Instruction
-  pub whole : decode (drop at image) (markM (getD marks at 0)) (markX (getD marks at 0)) ≡ Whole instruction
+  pub whole : instructionAt image marks at ≡ Whole instruction
   pub no-overlap : (k : ℕ) → at < k → k < at + instruction .length → isStart (getD marks k 0) ≡ false
   pub returns : returnFits (instruction .entry .flow) (getD marks at 0) ≡ true
   pub successors : AllMet marks base (owedAt marks base instruction (base + at) (getD marks at 0))

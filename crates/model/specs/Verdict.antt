@@ -5,7 +5,7 @@ use Prim.Native.Nat.{ℕ, zero, suc, _+_, _-_}
 use mathlib.Core.Bool.{Bool, true, not, _&&_}
 use mathlib.Core.List.{List}
 use lib.Dec.{eqb}
-use lib.ListN.{length, getD, drop}
+use lib.ListN.{length, getD}
 use Rattle.model.specs.declared.code.Instruction.{Instruction}
 use Rattle.model.specs.declared.code.Decoded.{Decoded}
 use Rattle.model.specs.declared.code.Decoded.the-variants.{Whole, NotCarried, CutOff}
@@ -15,9 +15,8 @@ use Rattle.model.specs.declared.rules.Owed.the-variants.{Nothing, One, T
 use Rattle.model.specs.declared.rules.Verdict.{Verdict}
 use Rattle.model.specs.declared.rules.Verdict.the-variants.{Accepted, Refused}
 use Rattle.model.specs.Choice.{pick}
-use Rattle.model.specs.Image.{isStart, markM, markX, isFormed, lengthFits, baseFits, markAt, resetFits}
-use Rattle.model.specs.Rules.{owedAt, returnFits}
-use Rattle.model.specs.Decode.{decode}
+use Rattle.model.specs.Image.{isStart, isFormed, lengthFits, baseFits, markAt, resetFits}
+use Rattle.model.specs.Rules.{owedAt, returnFits, instructionAt}
 
 -- the lowest of n places from i on where a test holds, or the place past them
 unfoldable pub firstFrom : (ℕ → Bool) → ℕ → ℕ → ℕ
@@ -77,9 +76,7 @@ decodedNumber marks base at (Whole i) = wholeNumber marks base at i
 -- the number of the first rule that is broken at a place, 0 where none is or no instruction starts
 unfoldable pub startNumber : List ℕ → List ℕ → ℕ → ℕ → ℕ
 startNumber image marks base at =
-    pick (startAt marks at)
-    (decodedNumber marks base at (decode (drop at image) (markM (getD marks at 0)) (markX (getD marks at 0))))
-    0
+    pick (startAt marks at) (decodedNumber marks base at (instructionAt image marks at)) 0
 
 -- 4: 'a mark not of the form above', and the lowest such
 abbrev pub unformedAt : List ℕ → ℕ → Bool

@@ -1,0 +1,62 @@
+// The read-only view of an image: 01, 'Image, marks and base travel together as one read-only view'.
+pub mod plain;
+
+use decoder::decode_at;
+use image::byte_at;
+use model::code::Decoded;
+use model::rules::Verdict;
+ghost use mathlib.Core.Path.{_≡_};
+ghost use Rattle.codepages.specs.Packing.{numbers};
+ghost use Rattle.model.specs.Image.{markAt, startCount};
+ghost use Rattle.model.specs.Rules.{instructionAt};
+ghost use Rattle.model.specs.Verdict.{verdict};
+
+// What stands at an offset of an image, at the widths marked there.
+fn decode_marked(image: &[u8], marks: &[u8], codes: &[[[u32; 16]; 16]; 3], at: usize) -> Decoded
+    requires { ⌜ now codes ≡ numbers ⌝ }
+    ensures { λ r. ⌜ r ≡ instructionAt (now (image .entry)) (now (marks .entry)) at ⌝ }
+{
+    let mark = byte_at(marks, at);
+    decode_at(codes, image, at, mark / 2 % 2, mark / 4 % 2)
+}
+
+// An image, the marks beside it and its base address. Any lengths and any base: the check judges them.
+pub struct View<'i, 'm> {
+    pub image: &'i [u8],
+    pub marks: &'m [u8],
+    pub base: u32,
+}
+
+// Each function takes the view apart and leaves the work to one that is proved over plain slices.
+impl<'i, 'm> View<'i, 'm> {
+    // The verdict of the check at a reset address.
+    pub fn check(self, reset: u32) -> Verdict
+        ensures { λ r. ⌜
+            r ≡ verdict (now (self .entry .image)) (now (self .entry .marks)) (self .entry .base) reset
+            ⌝ }
+    {
+        checker::check(self.image, self.marks, self.base, reset)
+    }
+
+    // The mark at an address, 0 outside the image.
+    pub fn mark_at(self, address: u64) -> u8
+        ensures { λ r. ⌜ r ≡ markAt (now (self .entry .marks)) (self .entry .base) address ⌝ }
+    {
+        image::mark_at(self.marks, self.base, address)
+    }
+
+    // How many instructions the marks start.
+    pub fn count_starts(self) -> usize
+        ensures { λ r. ⌜ r ≡ startCount (now (self .entry .marks)) ⌝ }
+    {
+        checker::count_starts(self.marks)
+    }
+
+    // What stands at an offset, at the widths marked there. The code pages are lent.
+    pub fn instruction_at(self, codes: &[[[u32; 16]; 16]; 3], at: usize) -> Decoded
+        requires { ⌜ now codes ≡ numbers ⌝ }
+        ensures { λ r. ⌜ r ≡ instructionAt (now (self .entry .image)) (now (self .entry .marks)) at ⌝ }
+    {
+        decode_marked(self.image, self.marks, codes, at)
+    }
+}
