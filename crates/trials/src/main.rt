@@ -1,0 +1,119 @@
+// Tries the functions that loaders call (include/m7700.h) on the simulator's vectors, check-00.bin and so on: a line
+// for each file, how many records agree out of how many, and behind the files of a kind a line for each number, how
+// many records were answered with it and agreed. A run is refused with a number below 20, stopped by one from 20 on,
+// or ended with 0.
+mod parts;
+mod records;
+
+use crate::parts::take_u32;
+use crate::records::Kind;
+use crate::records::turn_at;
+use libc::STDOUT_FILENO;
+ghost use Prim.Native.Nat.{_≤_};
+ghost use lib.ListN.{length};
+
+// The numbers of the papers end at 27.
+const NUMBERS: usize = 28;
+
+fn say(text: &[u8]) {
+    io::write_all(STDOUT_FILENO, text);
+}
+
+fn say_number(n: u64) {
+    io::print_decimal(STDOUT_FILENO, n);
+}
+
+// Counts a number that has a counter.
+fn count(numbers: &mut [u64; NUMBERS], number: usize) {
+    if number < NUMBERS {
+        numbers[number] = std::num::wrapping_add_u64(numbers[number], 1);
+    }
+}
+
+fn say_score(agreed: u64, records: u32, whole: bool) {
+    say_number(agreed);
+    say(b" of ");
+    say_number(records as u64);
+    if whole {
+        say(b" agree\n");
+    } else {
+        say(b" agree, and the file is not of the form\n");
+    }
+}
+
+// Tries the records of a file, as many as it says and then nothing more, and says how many agree.
+fn try_records(kind: Kind, file: &[u8], numbers: &mut [u64; NUMBERS]) {
+    let mut at: usize = 0;
+    let records = take_u32(file, &mut at);
+    let mut agreed: u64 = 0;
+    let mut left = records;
+    while 0 < left {
+        left -= 1;
+        let turn = turn_at(kind, file, &mut at);
+        if turn.agrees {
+            agreed = std::num::wrapping_add_u64(agreed, 1);
+            count(numbers, turn.number);
+        }
+        if file.len() < at {
+            break;
+        }
+    }
+    say_score(agreed, records, at == file.len());
+}
+
+// Tries the file of a name, if it is there.
+fn try_named(kind: Kind, name: &[u8], numbers: &mut [u64; NUMBERS]) {
+    let descriptor = os::open_read(name);
+    if descriptor < 0 {
+        return;
+    }
+    let mut buffer = io::large_buffer();
+    let size = io::read_full(descriptor, &mut buffer);
+    libc::close(descriptor);
+    say(name);
+    say(b": ");
+    try_records(kind, &buffer[..size], numbers);
+}
+
+// A number that no record had has no line.
+fn say_counts(numbers: [u64; NUMBERS]) {
+    let mut number: usize = 0;
+    while number < NUMBERS {
+        if 0 < numbers[number] {
+            say_number(number as u64);
+            say(b": ");
+            say_number(numbers[number]);
+            say(b"\n");
+        }
+        number += 1;
+    }
+}
+
+// Tries the files of a kind, 00 to 99 where there is one. A name ends in NN.bin; a missing file is a missing line.
+fn try_files(kind: Kind, name: &mut [u8])
+    requires { ⌜ 6 ≤ length (now name) ⌝ }
+{
+    let tens = name.len() - 6;
+    let mut numbers = [0; NUMBERS];
+    let mut number: u8 = 0;
+    while number < 100 {
+        name[tens] = b'0' + number / 10;
+        name[tens + 1] = b'0' + number % 10;
+        try_named(kind, name, &mut numbers);
+        number += 1;
+    }
+    say_counts(numbers);
+}
+
+fn main() {
+    let mut check = *b"check-00.bin";
+    try_files(Kind::Check, &mut check);
+    let mut step = *b"step-00.bin";
+    try_files(Kind::Step, &mut step);
+    let mut run = *b"run-00.bin";
+    try_files(Kind::Run, &mut run);
+    let mut read = *b"read-00.bin";
+    try_files(Kind::Read, &mut read);
+    let mut write = *b"write-00.bin";
+    try_files(Kind::Write, &mut write);
+}

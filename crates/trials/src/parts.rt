@@ -1,0 +1,130 @@
+// The parts of a record, one behind another (sim/README.md, 'Vector files'). Each function that takes one takes it at a
+// place of the file and moves the place behind it, or to nowhere if the file or the buffer for it does not hold it.
+ghost use mathlib.Core.Path.{_≡_};
+ghost use lib.ListN.{length};
+
+// A list's length has at most five digits, and that of a buffer of the machine's is a u16.
+const SPACE: usize = 100_000;
+
+// A place past the end of every file.
+const NOWHERE: usize = usize::MAX;
+
+// A space that buffers are lent from.
+pub(crate) fn space() -> [u8; SPACE]
+    ensures { λ r. ⌜ 100000 ≡ length r ⌝ }
+{
+    [0; SPACE]
+}
+
+// The front of a space, to lend: so many bytes, or all that there are.
+pub(crate) fn front(space: &mut [u8], size: usize) -> &mut [u8] {
+    if space.len() < size {
+        return space;
+    }
+    &mut space[..size]
+}
+
+// So many bytes.
+pub(crate) fn take<'a>(file: &'a [u8], at: &mut usize, size: usize) -> &'a [u8] {
+    let first = *at;
+    if file.len() < first {
+        return &file[..0];
+    }
+    if file.len() - first < size {
+        *at = NOWHERE;
+        return &file[..0];
+    }
+    let end = first + size;
+    *at = end;
+    &file[first..end]
+}
+
+fn wide(byte: u8) -> u64 {
+    byte as u64
+}
+
+// A number of so many bytes, the low byte first.
+fn number(bytes: &[u8]) -> u64 {
+    let mut n: u64 = 0;
+    let mut i = bytes.len();
+    while 0 < i {
+        i -= 1;
+        n = n << 8 | wide(bytes[i]);
+    }
+    n
+}
+
+pub(crate) fn take_u64(file: &[u8], at: &mut usize) -> u64 {
+    number(take(file, at, 8))
+}
+
+pub(crate) fn take_u32(file: &[u8], at: &mut usize) -> u32 {
+    (number(take(file, at, 4)) % 4_294_967_296) as u32
+}
+
+pub(crate) fn take_u16(file: &[u8], at: &mut usize) -> u16 {
+    (number(take(file, at, 2)) % 65_536) as u16
+}
+
+fn take_u8(file: &[u8], at: &mut usize) -> u8 {
+    (number(take(file, at, 1)) % 256) as u8
+}
+
+// Bytes behind their length.
+pub(crate) fn take_bytes<'a>(file: &'a [u8], at: &mut usize) -> &'a [u8] {
+    let size = take_u32(file, at);
+    take(file, at, size as usize)
+}
+
+// Fills a buffer with bytes that grow by the same number, modulo 256.
+pub(crate) fn fill(buffer: &mut [u8], first: u8, by: u8) {
+    let mut byte = first;
+    let mut i = 0;
+    while i < buffer.len() {
+        buffer[i] = byte;
+        byte = std::num::wrapping_add_u8(byte, by);
+        i += 1;
+    }
+}
+
+// So many bytes, which replace those of a buffer from an offset on.
+pub(crate) fn take_over(
+    file: &[u8],
+    at: &mut usize,
+    buffer: &mut [u8],
+    offset: usize,
+    size: usize,
+) {
+    let piece = take(file, at, size);
+    if buffer.len() < offset {
+        *at = NOWHERE;
+        return;
+    }
+    if buffer.len() - offset < piece.len() {
+        *at = NOWHERE;
+        return;
+    }
+    bytes::copy(piece, &mut buffer[offset..]);
+}
+
+// Pieces, which replace bytes of a buffer.
+pub(crate) fn take_pieces(file: &[u8], at: &mut usize, buffer: &mut [u8]) {
+    let mut left = take_u16(file, at);
+    while 0 < left {
+        left -= 1;
+        let offset = take_u16(file, at);
+        let size = take_u16(file, at);
+        take_over(file, at, buffer, offset as usize, size as usize);
+    }
+}
+
+// A buffer whose length was taken, made twice: one to lend, and one that becomes what the call must leave.
+pub(crate) fn take_buffer(file: &[u8], at: &mut usize, lent: &mut [u8], after: &mut [u8]) {
+    let first = take_u8(file, at);
+    let by = take_u8(file, at);
+    fill(lent, first, by);
+    fill(after, first, by);
+    let mut again = *at;
+    take_pieces(file, &mut again, after);
+    take_pieces(file, at, lent);
+}

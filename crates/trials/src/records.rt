@@ -1,0 +1,146 @@
+// The records of the vector files (sim/README.md, 'Vector files'), a function each: it takes the parts in their order,
+// makes the call, and compares the answer and every byte of each lent buffer with what the record says.
+use crate::parts::fill;
+use crate::parts::front;
+use crate::parts::space;
+use crate::parts::take_buffer;
+use crate::parts::take_bytes;
+use crate::parts::take_over;
+use crate::parts::take_pieces;
+use crate::parts::take_u16;
+use crate::parts::take_u32;
+use crate::parts::take_u64;
+use check::same;
+use loader::m7700_check;
+use loader::m7700_read_list;
+use loader::m7700_run;
+use loader::m7700_step;
+use loader::m7700_write_list;
+
+// The value of every mark before a read, and of every byte of the page before a write.
+const UNREAD: u8 = 0x5A;
+
+const UNWRITTEN: u8 = 0xA5;
+
+pub(crate) enum Kind {
+    Check,
+    Step,
+    Run,
+    Read,
+    Write,
+}
+
+// What a record shows: the number of its answer, and whether the call did what it says.
+pub(crate) struct Turn {
+    pub(crate) number: usize,
+    pub(crate) agrees: bool,
+}
+
+// The record at a place, which moves behind it.
+pub(crate) fn turn_at(kind: Kind, file: &[u8], at: &mut usize) -> Turn {
+    match kind {
+        Kind::Check => check_turn(file, at),
+        Kind::Step => machine_turn(file, at, true),
+        Kind::Run => machine_turn(file, at, false),
+        Kind::Read => read_turn(file, at),
+        Kind::Write => write_turn(file, at),
+    }
+}
+
+fn check_turn(file: &[u8], at: &mut usize) -> Turn {
+    let base = take_u32(file, at);
+    let reset = take_u32(file, at);
+    let image = take_bytes(file, at);
+    let marks = take_bytes(file, at);
+    let answer = take_u32(file, at);
+    Turn {
+        number: (answer / 65_536) as usize,
+        agrees: m7700_check(image, marks, base, reset) == answer,
+    }
+}
+
+// A step or a run. A record of a step asks for one.
+fn machine_turn(file: &[u8], at: &mut usize, by_step: bool) -> Turn {
+    let base = take_u32(file, at);
+    let steps = take_u32(file, at);
+    let image = take_bytes(file, at);
+    let state_size = take_u16(file, at) as usize;
+    let mut state_space = space();
+    let mut state_after_space = space();
+    let state = front(&mut state_space, state_size);
+    let state_after = front(&mut state_after_space, state_size);
+    take_buffer(file, at, state, state_after);
+    let ram_size = take_u16(file, at) as usize;
+    let mut ram_space = space();
+    let mut ram_after_space = space();
+    let ram = front(&mut ram_space, ram_size);
+    let ram_after = front(&mut ram_after_space, ram_size);
+    take_buffer(file, at, ram, ram_after);
+    let answer = take_u64(file, at);
+    take_pieces(file, at, state_after);
+    take_pieces(file, at, ram_after);
+    let given = if by_step {
+        m7700_step(image, base, state, ram)
+    } else {
+        m7700_run(image, base, state, ram, steps)
+    };
+    Turn {
+        number: run_number(answer),
+        agrees: given == answer
+            && (!by_step || steps == 1)
+            && same(state, state_after)
+            && same(ram, ram_after),
+    }
+}
+
+// A run's number is its refusal's or, where it has none, its end's.
+fn run_number(answer: u64) -> usize {
+    let refusal = (answer % 256) as usize;
+    if refusal == 0 {
+        (answer / 256 % 256) as usize
+    } else {
+        refusal
+    }
+}
+
+fn read_turn(file: &[u8], at: &mut usize) -> Turn {
+    let text = take_bytes(file, at);
+    let size = take_u32(file, at) as usize;
+    let answer = take_u64(file, at);
+    let mut marks_space = space();
+    let mut after_space = space();
+    let marks = front(&mut marks_space, size);
+    let after = front(&mut after_space, size);
+    fill(marks, UNREAD, 0);
+    fill(after, UNREAD, 0);
+    if answer % 256 == 0 {
+        take_over(file, at, after, 0, size);
+    }
+    let given = m7700_read_list(text, marks);
+    Turn {
+        number: (answer % 256) as usize,
+        agrees: marks.len() == size && given == answer && same(marks, after),
+    }
+}
+
+fn write_turn(file: &[u8], at: &mut usize) -> Turn {
+    let base = take_u32(file, at);
+    let reset = take_u32(file, at);
+    let marks = take_bytes(file, at);
+    let size = take_u32(file, at) as usize;
+    let answer = take_u64(file, at);
+    let mut page_space = space();
+    let mut after_space = space();
+    let page = front(&mut page_space, size);
+    let after = front(&mut after_space, size);
+    fill(page, UNWRITTEN, 0);
+    fill(after, UNWRITTEN, 0);
+    if answer % 256 == 0 {
+        take_over(file, at, after, 0, (answer / 256) as usize);
+    }
+    let given = m7700_write_list(marks, base, reset, page);
+    Turn {
+        number: (answer % 256) as usize,
+        agrees: page.len() == size && given == answer && same(page, after),
+    }
+}
