@@ -4,8 +4,7 @@ use marklist::reader::read_list;
 use marklist::refusal_number;
 use model::lists::ListRead;
 use model::rules::Verdict;
-use view::plain::check;
-use view::plain::count_starts;
+use view::plain::judge;
 ghost use mathlib.Core.Path.{_≡_};
 ghost use lib.ListN.{length};
 ghost use Rattle.answer.specs.AnswerLine as spec;
@@ -24,8 +23,10 @@ pub enum Answer {
 fn verdict_answer(image: &[u8], marks: &[u8], base: u32, reset: u32) -> Answer
     ensures { λ r. ⌜ r ≡ spec.verdictAnswer (now (image .entry)) (now (marks .entry)) base reset ⌝ }
 {
-    match check(image, marks, base, reset) {
-        Verdict::Accepted => Answer::Accepted(count_starts(image, marks, base) as u32),
+    let judged = judge(image, marks, base, reset);
+    let verdict = judged.verdict;
+    match verdict {
+        Verdict::Accepted => Answer::Accepted(judged.starts as u32),
         Verdict::Refused { number, offset } => Answer::Refused { number, offset },
     }
 }

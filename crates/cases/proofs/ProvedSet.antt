@@ -1,8 +1,18 @@
--- 01, 'Proved set': every row of the table holds. Verdicts, runs and steps compute, whatever stands where 01 is
--- silent; case 10 is one computed step and the law of a step that changes nothing.
+-- 01, 'Proved set': every row of the table holds. Verdicts, the list and the steps of a run compute, whatever stands
+-- where 01 is silent; a run that stops computes for any number of steps above those that it completes; case 10 is one
+-- computed step and the law of a step that changes nothing.
 -- Assumes nothing.
-use mathlib.Core.Path.{refl}
+use mathlib.Core.Path.{_≡_, refl, ap}
+use mathlib.Core.Bool.{true}
+use mathlib.Core.List.{List, [], _∷_}
+use Prim.Native.Nat.{ℕ, zero, suc, _+_, _-_, _≤_}
+use native.Mathlib.Omega.{arith}
 use borrow.Author.Tests.{le-leb}
+use lib.Dec.{ltb}
+use lib.ListN.{length}
+use Rattle.model.specs.declared.machine.State.{State}
+use Rattle.model.specs.declared.machine.Answer.the-variants.{Completed}
+use Rattle.model.specs.declared.runs.Admission.the-variants.{Admitted}
 use Rattle.model.specs.CodePages.{plain, pages}
 use Rattle.model.specs.CodeMap.{entryAt}
 use Rattle.model.specs.Decode.{judged, decodeOn, decode}
@@ -11,13 +21,23 @@ use Rattle.model.specs.Rules.{targetOf, mAfter, xAfter, markOfRoutine, markOnRe
 use Rattle.model.specs.Rules.{returnsBy, returnFits}
 use Rattle.model.specs.Verdict.{firstFrom, isClear, wantsStart, allStarts, wantsMark, allMarks, owedNumber}
 use Rattle.model.specs.Verdict.{wholeNumber, decodedNumber, startNumber, badMark, badStart, startsVerdict, verdict}
-use Rattle.model.specs.Memory.{byteAt, servedAt}
+use Rattle.model.specs.Digits.{digit, digits, digitValue, value, startsWith}
+use Rattle.model.specs.MarkList.{decimalDigits, headerText, kindLetter, fields, lengthDigitsShown, headerShown}
+use Rattle.model.specs.MarkList.{isHeader, bitShown, kindShown, fieldsMark, isLine, markShown, lineSize, marksShown}
+use Rattle.model.specs.MarkList.{linesLeft, linesText, marksOf, leftOf, isList, readAs, readList, marksBy, marksRead}
+use Rattle.model.specs.Memory.{Memory, memory, byteAt, servedAt}
 use Rattle.model.specs.Addressing.{operandBy, dataOf}
 use Rattle.model.specs.Effects.{effectOf}
-use Rattle.model.specs.Step.{bytesFrom, operates, calls, returnsTo, planBy, step}
-use Rattle.model.specs.Run.{stepLimit, history, ramFits, callsFit, stateFits, admissionBy, admittedHistory, ran}
+use Rattle.model.specs.Step.{bytesFrom, operates, calls, returnsTo, planBy, stepped, step}
+use Rattle.model.specs.Run.{stepLimit, levelLimit, history, ramFits, callsFit, stateFits, admissionBy, admission}
+use Rattle.model.specs.Run.{played, ran}
 use Rattle.model.specs.Guarantee.{Every}
-use Rattle.cases.specs.Rows.{Silent, Holds}
+use Rattle.model.proofs.Verdict.{both-true}
+use Rattle.model.proofs.RoundTrips.{read-then-written}
+use Rattle.model.proofs.Run.{admitted-ran}
+use Rattle.cases.specs.Rows.{listOf, Silent, Named, Claim, listed, does, stops, returns, Row, Listed, RanTo}
+use Rattle.cases.specs.Rows.{Claimed, Holds}
+use Rattle.cases.specs.ProvedSet.{widthImage, widthMarks, widthList, callImage, ram, fromReset, begun}
 use Rattle.cases.specs.ProvedSet.{case1, case2, case3, case4, case5, case6, case7, case8, case9, case10}
 use Rattle.cases.specs.ProvedSet.{table, ProvedSet}
 use Rattle.cases.proofs.Returning.{returning}
@@ -27,37 +47,124 @@ computed : Unit {0}
 unfolding plain pages entryAt judged decodeOn decode isFormed lengthFits baseFits markAt resetFits
     targetOf mAfter xAfter markOfRoutine markOnReturn markAfter owedBy owedAt returnsBy returnFits firstFrom isClear
     wantsStart allStarts wantsMark allMarks owedNumber wholeNumber decodedNumber startNumber badMark badStart
-    startsVerdict verdict byteAt servedAt operandBy dataOf effectOf bytesFrom operates calls returnsTo planBy
-    step history ramFits callsFit stateFits admissionBy admittedHistory ran
+    startsVerdict verdict digit digits digitValue value startsWith decimalDigits headerText kindLetter fields
+    lengthDigitsShown headerShown isHeader bitShown kindShown fieldsMark isLine markShown lineSize marksShown linesLeft
+    linesText marksOf leftOf isList readAs readList marksBy marksRead byteAt servedAt operandBy dataOf effectOf
+    bytesFrom operates calls returnsTo planBy step history ramFits
 computed = tt
 
+-- ---- from what computes to what is claimed
+
+-- k more than n, in a form that computes whatever k is
+abbrev more : ℕ → ℕ → ℕ
+more zero k = k
+more (suc n) k = suc (more n k)
+
+more-is : (n k : ℕ) → more n k ≡ n + k
+more-is zero k = omega arith
+more-is (suc n) k = omega (arith, more-is n k)
+
+module _ (r : Row) where
+  abbrev on : List ℕ → Memory
+  on ram = memory ram (r .image) (r .base)
+
+  -- no run from a state and RAM is refused but for its steps
+  abbrev Taken : State → List ℕ → Type 0
+  Taken s ram = (n : ℕ) → n ≤ stepLimit → admission (on ram) s n ≡ Admitted
+
+  -- what is computed for a claim
+  abbrev Computes : Claim → Type 0
+  Computes (listed text) = Listed r text
+  Computes (does s ram asked calls after) =
+      Taken s ram × (asked ≤ stepLimit) × RanTo s ram (played (on ram) s asked) 0 asked calls after
+  Computes (stops s ram stop steps calls after) =
+      Taken s ram × ((k : ℕ) → RanTo s ram (played (on ram) s (more steps (suc k))) stop steps calls after)
+  Computes (returns s ram) = Taken s ram × (step (on ram) s ≡ stepped Completed s ram)
+
+  ran-so : (s : State) (ram : List ℕ) (n end steps calls : ℕ) (after : List Named) → Taken s ram → n ≤ stepLimit
+      → RanTo s ram (played (on ram) s n) end steps calls after → RanTo s ram (ran (on ram) s n) end steps calls after
+  ran-so s ram n end steps calls after taken few so = rw (admitted-ran (on ram) s n (taken n few) .1) so
+
+  claimed : (c : Claim) → Computes c → Claimed r c
+  claimed (listed text) l = l
+  claimed (does s ram asked calls after) (taken, few, so) = ran-so s ram asked 0 asked calls after taken few so
+  claimed (stops s ram stop steps calls after) (taken, so) = λ n above few.
+      let k = n - steps - 1 in
+      let same : n ≡ more steps (suc k) = rw (more-is steps (suc k)) (omega arith) in
+      ran-so s ram n stop steps calls after taken few (rw same (so k))
+  claimed (returns s ram) (taken, same) = returning (on ram) s same taken
+
+  all-claimed : (claims : List Claim) → Every Computes claims → Every (Claimed r) claims
+  all-claimed [] each = tt
+  all-claimed (c ∷ claims) (first, rest) = (claimed c first, all-claimed claims rest)
+
+-- ---- the cases
+
+-- a list of so many numbers has that length
+length-list-of : (n : ℕ) (f : ℕ → ℕ) → length (listOf n f) ≡ n
+length-list-of zero f = refl
+length-list-of (suc n) f = ap suc (length-list-of n (λ k. f (suc k)))
+
 module _ (v : Silent) where
+  -- a run of a state that fits is not refused
+  admitted : (image : List ℕ) (size : ℕ) (s : State) → lengthFits (length image) (length image) ≡ true
+      → baseFits 0x00C000 (length image) ≡ true → ramFits size 0x00C000 ≡ true → stateFits s ≡ true
+      → (n : ℕ) → n ≤ stepLimit → admission (memory (ram v size) image 0x00C000) s n ≡ Admitted
+  unfolding admissionBy
+  admitted image size s long based sized fits n few =
+      rw (long, based, length-list-of size (v .bytes), sized, fits, le-leb n stepLimit few)
+
+  -- from reset, with the silent open calls
+  reset-taken : (image : List ℕ) (a : ℕ) → lengthFits (length image) (length image) ≡ true
+      → baseFits 0x00C000 (length image) ≡ true
+      → (n : ℕ) → n ≤ stepLimit → admission (memory (ram v (v .size)) image 0x00C000) (fromReset v a) n ≡ Admitted
+  unfolding stateFits
+  reset-taken image a long based =
+      admitted image (v .size) (fromReset v a) long based (v .size-fits) (v .state-fits)
+
+  -- with no open call the state fits too
+  begun-fits : (s pc : ℕ) → stateFits (begun v s pc) ≡ true
+  unfolding stateFits callsFit firstFrom
+  begun-fits s pc =
+      rw (both-true (ltb (v .core .registers .status .level) levelLimit) _ (both-true _ _ (v .state-fits) .0) .0) refl
+
+  -- with no open call
+  begun-taken : (s pc : ℕ) (n : ℕ) → n ≤ stepLimit
+      → admission (memory (ram v 512) callImage 0x00C000) (begun v s pc) n ≡ Admitted
+  unfolding computed
+  begun-taken s pc = admitted callImage 512 (begun v s pc) refl refl refl (begun-fits s pc)
+
   holds1 : Holds (case1 v)
   unfolding computed
-  holds1 = (refl, tt)
+  holds1 = (
+    refl,
+    (
+      record {
+        written = λ page room. read-then-written widthList widthMarks page _ refl room;
+        read = λ lent same. (rw same refl, rw same refl);
+      },
+      tt,
+    ),
+  )
 
   holds2 : Holds (case2 v)
   unfolding computed
   holds2 = (
     refl,
-    (
-      ((refl, refl, refl), (refl, tt)),
-      (
-        (
-          (refl, refl, (refl, (refl, tt))),
-          (
-            (refl, refl, (refl, (refl, tt))),
-            ((refl, refl, (refl, (refl, tt))), ((refl, refl, ((refl, refl), tt)), tt)),
-          ),
-        ),
-        tt,
-      ),
-    ),
+    all-claimed (case2 v) (case2 v .claims)
+        ((reset-taken widthImage 0x0000 refl refl, λ k. ((refl, refl, refl), (refl, tt))), tt),
   )
 
   holds3 : Holds (case3 v)
   unfolding computed
-  holds3 = (refl, (((refl, refl, refl), (refl, tt)), (((refl, refl, refl), ((refl, refl), tt)), tt)))
+  holds3 = (
+    refl,
+    let taken = reset-taken widthImage 0x0000 refl refl in
+        all-claimed (case3 v) (case3 v .claims) (
+          (taken, omega arith, ((refl, refl, refl), tt)),
+          ((taken, omega arith, ((refl, refl, refl), ((refl, refl), tt))), tt),
+        ),
+  )
 
   holds4 : Holds (case4 v)
   unfolding computed
@@ -71,21 +178,17 @@ module _ (v : Silent) where
   unfolding computed
   holds6 = (
     refl,
-    (
-      ((refl, refl, refl), (refl, (refl, tt))),
-      (
-        (
-          (refl, refl, (refl, (refl, (refl, tt)))),
-          ((refl, refl, (refl, tt)), ((refl, refl, ((refl, refl), tt)), tt)),
-        ),
-        tt,
-      ),
-    ),
+    all-claimed (case6 v) (case6 v .claims)
+        ((begun-taken 0x01FF 0xC000, λ k. ((refl, refl, refl), (refl, (refl, tt)))), tt),
   )
 
   holds7 : Holds (case7 v)
   unfolding computed
-  holds7 = (refl, (((refl, refl, refl), ((refl, refl), tt)), (((refl, refl, ((refl, refl), tt)), tt), tt)))
+  holds7 = (
+    refl,
+    all-claimed (case7 v) (case7 v .claims)
+        ((begun-taken 0x0000 0xC000, λ k. ((refl, refl, refl), ((refl, refl), tt))), tt),
+  )
 
   holds8 : Holds (case8 v)
   unfolding computed
@@ -95,18 +198,19 @@ module _ (v : Silent) where
   unfolding computed
   holds9 = (
     refl,
-    (
-      ((refl, refl, refl), ((refl, refl), tt)),
-      (
-        ((refl, refl, ((refl, refl), tt)), tt),
-        (((refl, refl, refl), ((refl, refl), tt)), (((refl, refl, ((refl, refl), tt)), tt), tt)),
-      ),
+    all-claimed (case9 v) (case9 v .claims) (
+      (begun-taken 0x01FD 0xC004, λ k. ((refl, refl, refl), tt)),
+      ((begun-taken 0x01FF 0xC004, λ k. ((refl, refl, refl), tt)), tt),
     ),
   )
 
   holds10 : Holds (case10 v)
   unfolding computed
-  holds10 = (refl, (returning _ _ refl (λ n h. rw (le-leb n stepLimit h) refl), tt))
+  holds10 = (
+    refl,
+    all-claimed (case10 v) (case10 v .claims)
+        ((reset-taken (case10 v .image) (v .core .registers .a) refl refl, refl), tt),
+  )
 
   all-hold : Every Holds (table v)
   all-hold =

@@ -1,13 +1,14 @@
 -- 01, 'Proved set': the ten cases, a row each, and the claim that every row holds, whatever stands where 01 is silent.
 -- Assumes nothing.
-use Prim.Native.Nat.{ℕ}
-use mathlib.Core.List.{List, [], _∷_}
+use Prim.Native.Nat.{ℕ, _-_}
+use mathlib.Core.List.{List, [], _∷_, _++_}
+use lib.ListN.{set}
 use Rattle.model.specs.declared.rules.Verdict.{Verdict}
 use Rattle.model.specs.declared.rules.Verdict.the-variants.{Accepted, Refused}
 use Rattle.model.specs.declared.machine.State.{State}
 use Rattle.model.specs.Guarantee.{Every}
-use Rattle.cases.specs.Rows.{listOf, Silent, stateAt, holdsA, standsAt, holdsByte, unchanged, stage}
-use Rattle.cases.specs.Rows.{Claim, runs, stages, returns, Row, Holds}
+use Rattle.cases.specs.Rows.{listOf, bytesOf, Silent, stateAt, holdsA, holdsByte, unchanged}
+use Rattle.cases.specs.Rows.{Claim, listed, does, stops, returns, Row, Holds}
 
 -- 'Base 00C000, reset C000': every case has these
 abbrev pub row : List ℕ → List ℕ → Verdict → List Claim → Row
@@ -27,6 +28,15 @@ widthImage = 0x49 ∷ 0x34 ∷ 0x12 ∷ 0xF8 ∷ 0x49 ∷ 0x56 ∷ 0xDB ∷ []
 abbrev pub widthMarks : List ℕ
 widthMarks = 0x01 ∷ 0x00 ∷ 0x00 ∷ 0x01 ∷ 0x03 ∷ 0x00 ∷ 0x03 ∷ []
 
+-- case 1's list
+abbrev pub widthList : List ℕ
+widthList =
+    bytesOf "I\t00C000\t7\tC000\n"
+    ++ bytesOf "C000\t0\t0\tN\t0\t0\n"
+    ++ bytesOf "C003\t0\t0\tN\t0\t0\n"
+    ++ bytesOf "C004\t1\t0\tN\t0\t0\n"
+    ++ bytesOf "C006\t1\t0\tN\t0\t0\n"
+
 -- 'Image 20 04 C0 DB 60 at C000, marks 01 00 00 01 09'
 abbrev pub callImage : List ℕ
 callImage = 0x20 ∷ 0x04 ∷ 0xC0 ∷ 0xDB ∷ 0x60 ∷ []
@@ -34,82 +44,73 @@ callImage = 0x20 ∷ 0x04 ∷ 0xC0 ∷ 0xDB ∷ 0x60 ∷ []
 abbrev pub callMarks : List ℕ
 callMarks = 0x01 ∷ 0x00 ∷ 0x00 ∷ 0x01 ∷ 0x09 ∷ []
 
+-- 'C004 marked 01'
+abbrev pub marked : ℕ → ℕ → List ℕ → List ℕ
+marked address mark marks = set marks (address - 0xC000) mark
+
 module _ (v : Silent) where
-  -- 'RAM 512', the same in every case
-  abbrev pub ram : List ℕ
-  ram = listOf 512 (v .bytes)
+  -- 'RAM 512': so many bytes, whatever they are
+  abbrev pub ram : ℕ → List ℕ
+  ram size = listOf size (v .bytes)
 
-  -- 'From reset with A=0000'
-  abbrev pub fromReset : State
-  fromReset = stateAt v 0x0000 (v .s) 0xC000
+  -- at the reset address, with an A
+  abbrev pub fromReset : ℕ → State
+  fromReset a = stateAt v a (v .core .registers .s) (v .core .depth) 0xC000
 
-  -- 'Begun at C004, S=01FD': at an address, with an S
+  -- 'Begun at C004, S=01FD': with an S, at an address; with no open call, since case 9's 24 hangs on that, and cases 6
+  -- and 7 would be 25 with 64 open
   abbrev pub begun : ℕ → ℕ → State
-  begun s pc = stateAt v (v .a) s pc
+  begun s pc = stateAt v (v .core .registers .a) s 0 pc
 
   -- 1. 'Case 1 is accepted.'
   abbrev pub case1 : Row
-  case1 = row widthImage widthMarks Accepted []
+  case1 = row widthImage widthMarks Accepted (listed widthList ∷ [])
 
   -- 2. 'From reset with A=0000: A=1262, stop 22, 3 steps.'
   abbrev pub case2 : Row
-  case2 =
-      row widthImage widthMarks Accepted
-      (runs fromReset ram 1_000_000 22 3 0 (holdsA 0x1262 ∷ []) ∷
-      stages fromReset ram
-      (stage 0 0 (holdsA 0x1234 ∷ standsAt 0xC003 ∷ []) ∷
-      stage 0 0 (holdsA 0x1234 ∷ standsAt 0xC004 ∷ []) ∷
-      stage 0 0 (holdsA 0x1262 ∷ standsAt 0xC006 ∷ []) ∷
-      stage 22 0 (unchanged ∷ []) ∷ []) ∷ [])
+  case2 = row widthImage widthMarks Accepted (stops (fromReset 0x0000) (ram (v .size)) 22 3 0 (holdsA 0x1262 ∷ []) ∷ [])
 
   -- 3. 'Asked for 3 steps: end 0; asked for 0: end 0, nothing changed.'
   abbrev pub case3 : Row
   case3 =
       row widthImage widthMarks Accepted
-      (runs fromReset ram 3 0 3 0 (holdsA 0x1262 ∷ []) ∷
-      runs fromReset ram 0 0 0 0 (unchanged ∷ []) ∷ [])
+      (does (fromReset 0x0000) (ram (v .size)) 3 0 [] ∷
+      does (fromReset 0x0000) (ram (v .size)) 0 0 (unchanged ∷ []) ∷ [])
 
   -- 4. 'C004 marked 01: 9 at offset 3.'
   abbrev pub case4 : Row
-  case4 = row widthImage (0x01 ∷ 0x00 ∷ 0x00 ∷ 0x01 ∷ 0x01 ∷ 0x00 ∷ 0x03 ∷ []) (Refused 9 3) []
+  case4 = row widthImage (marked 0xC004 0x01 widthMarks) (Refused 9 3) []
 
   -- 5. 'C006 marked 00: 8 at offset 4.'
   abbrev pub case5 : Row
-  case5 = row widthImage (0x01 ∷ 0x00 ∷ 0x00 ∷ 0x01 ∷ 0x03 ∷ 0x00 ∷ 0x00 ∷ []) (Refused 8 4) []
+  case5 = row widthImage (marked 0xC006 0x00 widthMarks) (Refused 8 4) []
 
   -- 6. '.. accepted. RAM 512, S=01FF: 01FF holds C0, 01FE holds 03, stop 22 after 2 steps, 1 call.'
   abbrev pub case6 : Row
   case6 =
       row callImage callMarks Accepted
-      (runs (begun 0x01FF 0xC000) ram 1_000_000 22 2 1 (holdsByte 0x01FF 0xC0 ∷ holdsByte 0x01FE 0x03 ∷ []) ∷
-      stages (begun 0x01FF 0xC000) ram
-      (stage 0 1 (holdsByte 0x01FF 0xC0 ∷ holdsByte 0x01FE 0x03 ∷ standsAt 0xC004 ∷ []) ∷
-      stage 0 0 (standsAt 0xC003 ∷ []) ∷
-      stage 22 0 (unchanged ∷ []) ∷ []) ∷ [])
+      (stops (begun 0x01FF 0xC000) (ram 512) 22 2 1 (holdsByte 0x01FF 0xC0 ∷ holdsByte 0x01FE 0x03 ∷ []) ∷ [])
 
   -- 7. 'The same, S=0000: stop 23, nothing written.'
   abbrev pub case7 : Row
-  case7 =
-      row callImage callMarks Accepted
-      (runs (begun 0x0000 0xC000) ram 1_000_000 23 0 0 (unchanged ∷ []) ∷
-      stages (begun 0x0000 0xC000) ram (stage 23 0 (unchanged ∷ []) ∷ []) ∷ [])
+  case7 = row callImage callMarks Accepted (stops (begun 0x0000 0xC000) (ram 512) 23 0 0 (unchanged ∷ []) ∷ [])
 
   -- 8. 'The same, C004 marked 01: 9 at offset 0.'
   abbrev pub case8 : Row
-  case8 = row callImage (0x01 ∷ 0x00 ∷ 0x00 ∷ 0x01 ∷ 0x01 ∷ []) (Refused 9 0) []
+  case8 = row callImage (marked 0xC004 0x01 callMarks) (Refused 9 0) []
 
   -- 9. 'Begun at C004, S=01FD: 24; S=01FF: 23.'
   abbrev pub case9 : Row
   case9 =
       row callImage callMarks Accepted
-      (runs (begun 0x01FD 0xC004) ram 1_000_000 24 0 0 (unchanged ∷ []) ∷
-      stages (begun 0x01FD 0xC004) ram (stage 24 0 (unchanged ∷ []) ∷ []) ∷
-      runs (begun 0x01FF 0xC004) ram 1_000_000 23 0 0 (unchanged ∷ []) ∷
-      stages (begun 0x01FF 0xC004) ram (stage 23 0 (unchanged ∷ []) ∷ []) ∷ [])
+      (stops (begun 0x01FD 0xC004) (ram 512) 24 0 0 [] ∷
+      stops (begun 0x01FF 0xC004) (ram 512) 23 0 0 [] ∷ [])
 
   -- 10. '80 FE at C000, reset C000, with marks 01 00: accepted; n steps return to its start.'
   abbrev pub case10 : Row
-  case10 = row (0x80 ∷ 0xFE ∷ []) (0x01 ∷ 0x00 ∷ []) Accepted (returns (begun (v .s) 0xC000) ram ∷ [])
+  case10 =
+      row (0x80 ∷ 0xFE ∷ []) (0x01 ∷ 0x00 ∷ []) Accepted
+      (returns (fromReset (v .core .registers .a)) (ram (v .size)) ∷ [])
 
   abbrev pub table : List Row
   table = case1 ∷ case2 ∷ case3 ∷ case4 ∷ case5 ∷ case6 ∷ case7 ∷ case8 ∷ case9 ∷ case10 ∷ []

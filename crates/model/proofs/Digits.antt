@@ -6,10 +6,10 @@ use mathlib.Core.Bool.{Bool, true, false, _&&_}
 use mathlib.Core.List.{List, [], _∷_, _++_, append-assoc}
 use Prim.Native.Nat.{ℕ, zero, suc, _+_, _*_, _/_, _%_, _^_, _≤_, _<_}
 use native.Mathlib.Nat.{pow-zero, pow-suc, div-lt-iff-lt-mul, div-add-mod', mul-add-div-right, mul-add-mod-self-right}
-use native.Mathlib.Nat.{mod-eq-of-lt}
-use native.Mathlib.Nat.{div-eq-of-lt}
+use native.Mathlib.Nat.{div-eq-of-lt, mod-eq-of-lt, mod-lt, one-le-pow}
 use native.Mathlib.Omega.{arith}
 use borrow.Author.Tests.{ltb-true, ltb-false, lt-ltb, le-ltb, eqb-true, eq-eqb}
+use lib.Arith.{mod-mul}
 use lib.Dec.{eqb, ltb}
 use lib.ListN.{length, getD, take, drop, length-append}
 use lib.Seq.{getD-at, take-suc}
@@ -46,6 +46,24 @@ pub last-digit : (radix count n : ℕ) (rest : List ℕ)
 unfolding digits
 last-digit radix count n rest = append-assoc (digits radix count (n / radix)) (digit (n % radix) ∷ []) rest
 
+-- a number with one more digit behind it
+one-more : (radix v d : ℕ) → d < radix → ((v * radix + d) / radix ≡ v) × ((v * radix + d) % radix ≡ d)
+one-more radix v d small = (
+  mul-add-div-right (omega arith) v d ∙ rw (div-eq-of-lt small) (omega arith),
+  mul-add-mod-self-right v radix d ∙ mod-eq-of-lt small,
+)
+
+-- so many digits are those of the number that is left without the higher ones
+pub digits-low : (radix count n : ℕ) → 0 < radix → digits radix count (n % radix ^ count) ≡ digits radix count n
+unfolding digits
+digits-low radix zero n some = refl
+digits-low radix (suc count) n some =
+    let q = n / radix % radix ^ count in
+    let some-more = one-le-pow count radix some in
+    let low : n % radix ^ suc count ≡ q * radix + n % radix = rw pow-suc (mod-mul n some-more some) in
+    let parts = one-more radix q (n % radix) (mod-lt n some) in
+    rw (low, parts .0, parts .1, digits-low radix count (n / radix) some)
+
 -- what digits show is the number that they are of
 pub value-digits : (radix count n : ℕ) (rest : List ℕ) → 0 < radix → n < radix ^ count
     → value radix count (digits radix count n ++ rest) ≡ n
@@ -73,15 +91,10 @@ unfolding digits value
 digits-value radix zero text long all = refl
 digits-value radix (suc count) text long all =
     let last = all count (omega arith) in
-    let some : 0 < radix = omega (arith, last .small) in
-    let d = digitValue (getD text count 0) in
-    let v = value radix count text in
-    let quotient : (v * radix + d) / radix ≡ v = mul-add-div-right some v d ∙ rw (div-eq-of-lt (last .small)) (omega
-    arith) in
-    let remainder : (v * radix + d) % radix ≡ d = mul-add-mod-self-right v radix d ∙ mod-eq-of-lt (last .small) in
+    let parts = one-more radix (value radix count text) (digitValue (getD text count 0)) (last .small) in
     rw (
-      quotient,
-      remainder,
+      parts .0,
+      parts .1,
       last .same,
       take-suc text count 0 long,
       digits-value radix count text (omega arith) (λ i h. all i (omega arith)),

@@ -13,6 +13,7 @@ pub mod Digits
 pub mod MarkList
 pub mod ListAnswers
 pub mod RoundTrips
+pub mod ListForm
 pub mod Memory
 pub mod Status
 pub mod Step

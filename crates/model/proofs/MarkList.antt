@@ -62,16 +62,16 @@ lines-most address (mark ∷ marks) =
     ))
 
 -- the mark that fields show starts an instruction
-shown-start : (text : List ℕ) → isStart (fieldsMark text) ≡ true
+pub shown-start : (text : List ℕ) → isStart (fieldsMark text) ≡ true
 unfolding fieldsMark
 shown-start text = eq-eqb (fieldsMark text % 2) 1 (omega arith)
 
-record LineAt (address : ℕ) (text : List ℕ) : Type 0 where
-  inside : address < bankSize
-  begins : startsWith (line address (fieldsMark (drop 4 text))) text ≡ true
-  formed : isFormed (fieldsMark (drop 4 text)) ≡ true
+pub record LineAt (address : ℕ) (text : List ℕ) : Type 0 where
+  pub inside : address < bankSize
+  pub begins : startsWith (line address (fieldsMark (drop 4 text))) text ≡ true
+  pub formed : isFormed (fieldsMark (drop 4 text)) ≡ true
 
-line-at : (address : ℕ) (text : List ℕ) → isLine address text ≡ true → LineAt address text
+pub line-at : (address : ℕ) (text : List ℕ) → isLine address text ≡ true → LineAt address text
 unfolding isLine line
 line-at address text h =
     let mark = fieldsMark (drop 4 text) in
@@ -163,11 +163,16 @@ formed-mark mark h = by (eqb mark 0) (isStart mark) (ltb mark 128) refl refl ref
     by false true false ez es eb h = let z : _≡_ {A = ℕ} 0 1 = cc in absurd (omega arith)
     by false false b ez es eb h = let z : _≡_ {A = ℕ} 0 1 = cc in absurd (omega arith)
 
-fields-again : (mark : ℕ) (rest : List ℕ) → isStart mark ≡ true → mark < 128 → isFormed mark ≡ true
+fields-again : (mark : ℕ) (rest : List ℕ) → isStart mark ≡ true → isFormed mark ≡ true
     → fieldsMark (fields mark ++ rest) ≡ mark
 unfolding fieldsMark fields shownAgain
-fields-again mark rest started small formed =
-    eqb→eq (fieldsMark (fields mark)) mark (rw (started, formed) at (below-all shownAgain 128 all-again mark small))
+fields-again mark rest started formed =
+    eqb→eq (fieldsMark (fields mark)) mark
+    (rw (started, formed) at (below-all shownAgain 128 all-again mark (small (formed-mark mark formed))))
+  where
+    small : (mark ≡ 0) ⊎ ((isStart mark ≡ true) × (mark < 128)) → mark < 128
+    small (inl e) = omega arith
+    small (inr s) = s .1
 
 -- an address that a text begins with is the number of its first four digits
 line-address : (address : ℕ) (text : List ℕ) → isLine address text ≡ true → value 16 4 text ≡ address
@@ -180,7 +185,7 @@ line-address address text h =
     ∙ value-digits 16 4 address _ (omega arith) (l .inside)
 
 -- no line begins with an address that it does not have
-other-line : (address later mark : ℕ) (rest : List ℕ) → address < later → later < bankSize
+pub other-line : (address later mark : ℕ) (rest : List ℕ) → address < later → later < bankSize
     → isLine address (line later mark ++ rest) ≡ false
 unfolding line
 other-line address later mark rest before inside = by (isLine address (line later mark ++ rest)) refl
@@ -193,7 +198,7 @@ other-line address later mark rest before inside = by (isLine address (line late
         let same = rw (first, value-digits 16 4 later (fields mark ++ rest) (omega arith) inside) at shown in
         absurd (omega arith)
 
-no-line : (address : ℕ) → isLine address [] ≡ false
+pub no-line : (address : ℕ) → isLine address [] ≡ false
 no-line address = by (isLine address []) refl
   where
     by : (b : Bool) → isLine address [] ≡ b → b ≡ false
@@ -221,18 +226,17 @@ later-lines address later (mark ∷ marks) before inside =
     by false h = h
 
 -- a line shows its mark for its address
-own-line : (address mark : ℕ) (rest : List ℕ) → address < bankSize → isStart mark ≡ true → mark < 128
-    → isFormed mark ≡ true
+pub own-line : (address mark : ℕ) (rest : List ℕ) → address < bankSize → isStart mark ≡ true → isFormed mark ≡ true
     → markShown address (line address mark ++ rest) ≡ mark
 unfolding markShown isLine line
-own-line address mark rest inside started small formed =
+own-line address mark rest inside started formed =
     let fit = append-assoc (digits 16 4 address) (fields mark) rest in
     let behind : drop 4 (digits 16 4 address ++ (fields mark ++ rest)) ≡ fields mark ++ rest = drop-at (digits 16 4
     address) (fields mark ++ rest) 4 (length-digits 16 4 address) in
     rw (
       fit,
       behind,
-      fields-again mark rest started small formed,
+      fields-again mark rest started formed,
       lt-ltb address bankSize inside,
       starts-append (digits 16 4 address) (fields mark ++ rest),
       starts-append (fields mark) rest,
@@ -249,7 +253,7 @@ first-again address mark marks inside formed = by (formed-mark mark formed)
         → markShown address (lineOf address mark ++ lines (address + 1) marks) ≡ mark
     by (inl e) = rw (e, later-lines address (address + 1) marks (omega arith) (omega arith))
     by (inr s) =
-        rw (s .0) (own-line address mark (lines (address + 1) marks) (omega arith) (s .0) (s .1) formed)
+        rw (s .0) (own-line address mark (lines (address + 1) marks) (omega arith) (s .0) formed)
 
 -- the lines of marks show these marks and leave nothing
 pub lines-again : (address : ℕ) (marks : List ℕ) → address + length marks ≤ bankSize

@@ -30,7 +30,7 @@ use Rattle.model.proofs.Digits.{starts-split, starts-append}
 use Rattle.model.proofs.MarkList.{all-formed, shown-lines, lines-again, header-again}
 
 -- a text that is a list is the text of the first line and the marks that it shows
-nothing : (l : List ℕ) → eqb (length l) 0 ≡ true → l ≡ []
+pub nothing : (l : List ℕ) → eqb (length l) 0 ≡ true → l ≡ []
 nothing [] h = refl
 nothing (b ∷ l) h = absurd (omega (arith, eqb-true (length (b ∷ l)) 0 h))
 

@@ -11,6 +11,7 @@ pub mod Meaning
 pub mod Verdict
 pub mod Digits
 pub mod MarkList
+pub mod ListForm
 pub mod Status
 pub mod Memory
 pub mod Addressing

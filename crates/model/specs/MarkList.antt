@@ -150,7 +150,7 @@ unfoldable pub leftOf : Header → List ℕ → List ℕ
 leftOf h text = linesLeft (h .base % bankSize) (h .length) (linesText h text)
 
 -- 14: 'text is not a mark list' unless the first line is in form and the addresses in turn take all lines, so that
--- nothing is left
+-- nothing is left. That this is what 01 calls a mark list (ListForm.antt) is proved.
 unfoldable pub isList : Header → List ℕ → Bool
 isList h text = isHeader h text && eqb (length (leftOf h text)) 0
 

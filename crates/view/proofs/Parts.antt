@@ -68,7 +68,7 @@ module _ (α β : NamedLft) (d : View) where
   fields = (d .image, (d .marks, (d .base, tt)))
 
   -- what the view, its image and its marks own
-  abbrev Own : Fml
+  abbrev pub Own : Fml
   Own = T.the-row α β .own d (T′.lowered d ∷ [])
 
   abbrev pub OwnImage : Fml
@@ -85,6 +85,10 @@ module _ (α β : NamedLft) (d : View) where
         use1 W (given (T′.lowered d ∷ [] ≡ T′.lowered d ∷ []) (‵ (all-own (D α β .parts) (L α β) fields)))
         (own-open 𝓤 H A W (D α β) (L α β) fields (T′.lowered d)) $ learn ! (λ _.
         fsplit ! $ move ! (1 ∷ []) $ fsplit ! $ keep ! (2 ∷ 0 ∷ []) $ done !)
+
+    -- a view is copied
+    pub copied : ent 𝓤 (sem 𝓤 H A Own) (sep 𝓤 (sem 𝓤 H A Own) (sem 𝓤 H A Own))
+    copied = LL.copy (D α β) (T′.the-copy α β) 𝓤 H A W .twice d (T′.lowered d ∷ [])
 
     -- a view is made
     made : d .base < 2 ^ 32 → ent 𝓤 (sep 𝓤 (sem 𝓤 H A OwnImage) (sem 𝓤 H A OwnMarks)) (sem 𝓤 H A Own)

@@ -7,7 +7,7 @@ use model::code::Decoded;
 use model::rules::Verdict;
 ghost use mathlib.Core.Path.{_≡_};
 ghost use Rattle.codepages.specs.Packing.{numbers};
-ghost use Rattle.model.specs.Image.{markAt, startCount};
+ghost use Rattle.model.specs.Image.{startCount};
 ghost use Rattle.model.specs.Rules.{instructionAt};
 ghost use Rattle.model.specs.Verdict.{verdict};
 
@@ -36,13 +36,6 @@ impl<'i, 'm> View<'i, 'm> {
             ⌝ }
     {
         checker::check(self.image, self.marks, self.base, reset)
-    }
-
-    // The mark at an address, 0 outside the image.
-    pub fn mark_at(self, address: u64) -> u8
-        ensures { λ r. ⌜ r ≡ markAt (now (self .entry .marks)) (self .entry .base) address ⌝ }
-    {
-        image::mark_at(self.marks, self.base, address)
     }
 
     // How many instructions the marks start.

@@ -1,4 +1,4 @@
-// A view's functions for callers who have its parts: each makes the view and asks it.
+// A view's functions for callers who have its parts: each makes one view and asks it.
 use crate::View;
 use model::code::Decoded;
 use model::rules::Verdict;
@@ -8,18 +8,22 @@ ghost use Rattle.model.specs.Image.{startCount};
 ghost use Rattle.model.specs.Rules.{instructionAt};
 ghost use Rattle.model.specs.Verdict.{verdict};
 
-// The verdict of the check at a reset address.
-pub fn check(image: &[u8], marks: &[u8], base: u32, reset: u32) -> Verdict
-    ensures { λ r. ⌜ r ≡ verdict (now (image .entry)) (now (marks .entry)) base reset ⌝ }
-{
-    View { image, marks, base }.check(reset)
+// What the program says of an image: the check's verdict, and how many instructions the marks start.
+pub struct Judged {
+    pub verdict: Verdict,
+    pub starts: usize,
 }
 
-// How many instructions the marks start.
-pub fn count_starts(image: &[u8], marks: &[u8], base: u32) -> usize
-    ensures { λ r. ⌜ r ≡ startCount (now (marks .entry)) ⌝ }
+// The verdict at a reset address, and the number of starts, of one view.
+pub fn judge(image: &[u8], marks: &[u8], base: u32, reset: u32) -> Judged
+    ensures { λ r. ⌜ (r .verdict ≡ verdict (now (image .entry)) (now (marks .entry)) base reset)
+        × (r .starts ≡ startCount (now (marks .entry))) ⌝ }
 {
-    View { image, marks, base }.count_starts()
+    let view = View { image, marks, base };
+    Judged {
+        verdict: view.check(reset),
+        starts: view.count_starts(),
+    }
 }
 
 // What stands at an offset, at the widths marked there. The code pages are lent.

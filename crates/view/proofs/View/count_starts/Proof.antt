@@ -36,8 +36,8 @@ use Rattle.checker.proofs.count_starts.Symbol as callee-def
 use Rattle.checker.proofs.count_starts.Symbol.{name as #callee}
 use Rattle.checker.proofs.count_starts.Met as callee-thm
 use Rattle.view.specs.declared.View.{View}
-use Rattle.view.proofs.PlainFacts.{Begins, WalkAt, ends, token-beside, Contracted, calls, Stated, walked-meets}
-use Rattle.view.proofs.Locals.{local-at, gone}
+use Rattle.walks.proofs.PlainFacts.{Begins, WalkAt, ends, token-beside, Contracted, calls, Stated, walked-meets}
+use Rattle.walks.proofs.Locals.{local-at, gone}
 use Rattle.view.proofs.Parts.{marksVal, view-vals, view-tells, view-typed, OwnImage, OwnMarks, opened}
 use Rattle.view.proofs.View as T
 use Rattle.view.proofs.View.Laws as T′
@@ -91,12 +91,12 @@ module _ {M : Type 1} (𝓤 : URA M) (H : Heap 𝓤) (A : Atoms 𝓤) (W : Given
           move ! (6 ∷ []) $ use1 W (raw (Callee .pre to) ⊛ ‵ (flft κ q)) apart $ split ! $
           -- [what the callee asks; the image's token; _2; …; _1; …; room for _0; …]
           calls 𝓤 H A W callee.ended (callee.clauses 𝓤 H A mem run) to (φ d) (λ r ws. id⊢ 𝓤 _) ! fm known
-          (and-then ! (local-at ! 2 refl) (no-more !)) (λ u r is.
+          (and-then ! (local-at ! 2 refl) (no-more !)) (λ u r is said.
           land ! (from ! (stop !)) (init ! 6 refl (uint-lawful 𝓤 H A W w64 .typed r _ is .0)) $
           returns ! (look ! 6 refl) $
           gone ! 6 refl refl $ gone ! 4 refl refl $ gone ! 2 refl refl $ free0 ! $
-          by ! (via 𝓤 _ (token-beside 𝓤 H A W κ κ′ q q′ usize r u (φ d r))
-          (ends 𝓤 H A W here.signature entry (φ d) u r))))))
+          by ! (via 𝓤 _ (token-beside 𝓤 H A W κ κ′ q q′ usize r u)
+          (ends 𝓤 H A W here.signature entry (φ d) u r said))))))
 
   abbrev states : Stated 𝓤 H A W here.ended (here.clauses 𝓤 H A mem run)
   states = record {

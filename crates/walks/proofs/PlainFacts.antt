@@ -1,6 +1,7 @@
 -- Functions that change nothing behind a reference, and whose `ensures` is a plain fact of the result. What such a
--- function's parameters own need not be kept, so its walk may end with the tokens, the result and the fact alone
--- (`walked-meets`). A call of one gives the same, and shows that the machine value returned stands for the result (`calls`).
+-- function's parameters own need not be kept, so its walk may end with the tokens and the result alone, where the fact
+-- holds (`walked-meets`). A call of one gives these, and shows the fact, and that the machine value returned stands for
+-- the result (`calls`).
 -- Assumes `Given`.
 use Prim.Native.Nat.{ℕ}
 use mathlib.Core.List.{List, [], _∷_}
@@ -31,7 +32,7 @@ use denote.Triple.Entry.{Args, Res, alive, onEntry}
 use denote.Triple.Spec.{Back, Meets, tripleOf}
 use denote.Triple.Statement.{Contract, Triple}
 use denote.Triple.Table.{entered}
-use denote.Triple.Walked.{Stays, stay-dropped, fitsOf, hasOf, walkOf, Ending, ends-at, walked}
+use denote.Triple.Walked.{says, Stays, stay-dropped, fitsOf, hasOf, walkOf, Ending, ends-at, walked}
 use denote.Triple.Walked.{Silent, goes-dropped, AllGo, walk-meets}
 
 -- ---- nothing is had of any parameter at exit, and nothing is said of it
@@ -71,8 +72,8 @@ module _ {M : Type 1} (𝓤 : URA M) (H : Heap 𝓤) (A : Atoms 𝓤) (W : Given
     Begins = onEntry 𝓤 H A S (x .0) (x .1) (x .3) (x .4)
 
     module _ (φ : Res S (x .0) → Type 0) where
-      -- the tokens, the result, and a fact of it
-      abbrev pub Outcome : Val → Res S (x .0) → SProp 𝓤
+      -- the tokens and the result, of which a fact holds
+      abbrev Outcome : Val → Res S (x .0) → SProp 𝓤
       Outcome v r = sep 𝓤 (Back 𝓤 H A S x v r) (fact 𝓤 (φ r))
 
       abbrev pub Ends : Val → SProp 𝓤
@@ -82,32 +83,39 @@ module _ {M : Type 1} (𝓤 : URA M) (H : Heap 𝓤) (A : Atoms 𝓤) (W : Given
       abbrev pub WalkAt : Calls 𝓤 H → Loops 𝓤 H → Fn → Type 1
       WalkAt C Λ e = ent 𝓤 Begins (WpFn 𝓤 H C Λ e (passed 𝓤 H A S x) Ends)
 
-      pub ends : (v : Val) (r : Res S (x .0)) → ent 𝓤 (Outcome v r) (Ends v)
-      ends v r = via 𝓤 (ex 𝓤 (Outcome v)) (exI 𝓤 (Outcome v) r) (W .laws .⇛-intro (ex 𝓤 (Outcome v)))
+      pub ends : (v : Val) (r : Res S (x .0)) → φ r → ent 𝓤 (Back 𝓤 H A S x v r) (Ends v)
+      ends v r said =
+          via 𝓤 (Outcome v r) (qed W (raw (Back 𝓤 H A S x v r) ∷ []) ∵ says ! said $ done !)
+          (via 𝓤 (ex 𝓤 (Outcome v)) (exI 𝓤 (Outcome v) r) (W .laws .⇛-intro (ex 𝓤 (Outcome v))))
 
       abbrev R : RattleType
       R = typeAt (S .result) (x .0)
 
-      -- the same, and the machine value stands for the result
+      -- what is learnt of a call's result: the machine value stands for it, and the fact
+      abbrev Learnt : Val → Res S (x .0) → Type 0
+      Learnt v r = Is R r (v ∷ []) × φ r
+
       abbrev Told : Val → Res S (x .0) → SProp 𝓤
-      Told v r = guard 𝓤 (Is R r (v ∷ [])) (Outcome v r)
+      Told v r = guard 𝓤 (Learnt v r) (Back 𝓤 H A S x v r)
 
       told : (v : Val) (r : Res S (x .0)) → ent 𝓤 (Outcome v r) (Told v r)
       told v r =
+          let back = Back 𝓤 H A S x v r in
           let own = sem 𝓤 H A (R .own r (v ∷ [])) in
-          fact-use 𝓤 (Is R r (v ∷ []))
-          (via 𝓤 (Back 𝓤 H A S x v r) (fst∗ 𝓤 (Back 𝓤 H A S x v r) (fact 𝓤 (φ r)))
-          (via 𝓤 own (snd∗ 𝓤 (alive 𝓤 H A S (x .0) (x .1)) own) (shows 𝓤 H A R r (v ∷ []))))
-          (guardI 𝓤 (Is R r (v ∷ [])) (Outcome v r))
+          fact-use 𝓤 (φ r) (snd∗ 𝓤 back (fact 𝓤 (φ r))) (λ said.
+          via 𝓤 back (fst∗ 𝓤 back (fact 𝓤 (φ r)))
+          (fact-use 𝓤 (Is R r (v ∷ []))
+          (via 𝓤 own (snd∗ 𝓤 (alive 𝓤 H A S (x .0) (x .1)) own) (shows 𝓤 H A R r (v ∷ [])))
+          (λ is. guardI 𝓤 (Learnt v r) back (is, said))))
 
-  -- a token that a callee was not lent stands beside its outcome
-  pub token-beside : (κ κ′ : Lft) (q q′ : Share) (R : RattleType) (r : R .Denot) (v : Val) (φ : Type 0)
+  -- a token that a callee was not lent stands beside what it gives back
+  pub token-beside : (κ κ′ : Lft) (q q′ : Share) (R : RattleType) (r : R .Denot) (v : Val)
       → let own = sem 𝓤 H A (R .own r (v ∷ [])) in
-      ent 𝓤 (sep 𝓤 (sep 𝓤 (sep 𝓤 (toks 𝓤 A 1 (κ′, tt) (q′, tt)) own) (fact 𝓤 φ)) (A .lft κ q))
-      (sep 𝓤 (sep 𝓤 (toks 𝓤 A 2 (κ, (κ′, tt)) (q, (q′, tt))) own) (fact 𝓤 φ))
-  token-beside κ κ′ q q′ R r v φ =
-      qed W (((raw (toks 𝓤 A 1 (κ′, tt) (q′, tt)) ⊛ ‵ (R .own r (v ∷ []))) ⊛ raw (fact 𝓤 φ)) ∷ raw (A .lft κ q) ∷ []) ∵
-      split ! $ split ! $ move ! (3 ∷ 0 ∷ []) $ join ! $ join ! $ join ! $ done !
+      ent 𝓤 (sep 𝓤 (sep 𝓤 (toks 𝓤 A 1 (κ′, tt) (q′, tt)) own) (A .lft κ q))
+      (sep 𝓤 (toks 𝓤 A 2 (κ, (κ′, tt)) (q, (q′, tt))) own)
+  token-beside κ κ′ q q′ R r v =
+      qed W ((raw (toks 𝓤 A 1 (κ′, tt) (q′, tt)) ⊛ ‵ (R .own r (v ∷ []))) ∷ raw (A .lft κ q) ∷ []) ∵
+      split ! $ move ! (2 ∷ 0 ∷ []) $ join ! $ join ! $ done !
 
   module _ (T : Ended) (c : Clauses 𝓤 T) where
     -- the contract as a caller has it
@@ -133,13 +141,13 @@ module _ {M : Type 1} (𝓤 : URA M) (H : Heap 𝓤) (A : Atoms 𝓤) (W : Given
           → K → FmC 𝓤 H (W .laws) C → Triple 𝓤 (C f) Contracted
           → Opds K W (raw (Contracted .pre y) ∷ Γ) E xs (Contracted .args y)
           → ((v : Val) (r : Res (T .signature) (y .0 .0)) → Is (typeAt (T .signature .result) (y .0 .0)) r (v ∷ [])
-          → Seq K W (raw (Outcome (T .signature) (y .0) φ v r) ∷ Γ) (lands C Λ E d v rest q))
+          → φ r → Seq K W (raw (Back 𝓤 H A (T .signature) (y .0) v r) ∷ Γ) (lands C Λ E d v rest q))
           → Seq K W (raw (Contracted .pre y) ∷ Γ) (runs C Λ E (seq (call f xs d) rest) q)
       calls t fm met os k =
           calls-at t fm Contracted met y os (λ v.
           use1 W (later (some (λ (r : Res (T .signature) (y .0 .0)).
-          given (Is (typeAt (T .signature .result) (y .0 .0)) r (v ∷ [])) (raw (Outcome (T .signature) (y .0) φ v r)))))
-          (returned v) $ await t tt $ pick t (λ r. learn t (λ shown. k v r shown)))
+          given (Learnt (T .signature) (y .0) φ v r) (raw (Back 𝓤 H A (T .signature) (y .0) v r)))))
+          (returned v) $ await t tt $ pick t (λ r. learn t (λ l. k v r (l .0) (l .1))))
 
 -- ---- from a walk to the contract
 
@@ -150,7 +158,8 @@ pub record Stated {M : Type 1} (𝓤 : URA M) (H : Heap 𝓤) (A : Atoms 𝓤) (
   pub φ : (κs : Lfts (T .signature .lifetimes)) (a : Args (T .signature) κs) → Res (T .signature) κs → Type 0
   pub bound : (κs : Lfts (T .signature .lifetimes)) (a : Args (T .signature) κs) → Lasts T κs a
   pub silent : AllSilent 𝓤 H A W (T .signature .params) (T .kept)
-  pub is : (κs : Lfts (T .signature .lifetimes)) (a : Args (T .signature) κs) (g : c κs a .ghost) (r : Res (T .signature) κs)
+  pub is : (κs : Lfts (T .signature .lifetimes)) (a : Args (T .signature) κs) (g : c κs a .ghost)
+      (r : Res (T .signature) κs)
       → ent 𝓤 (fact 𝓤 (φ κs a r)) (c κs a .ensures g r (atExit T κs a (bound κs a)))
   pub spells : (κs : Lfts (T .signature .lifetimes)) → Spells (typesAt (T .signature .params) κs)
   pub tells : (κs : Lfts (T .signature .lifetimes))
@@ -180,7 +189,8 @@ module _ {M : Type 1} (𝓤 : URA M) (H : Heap 𝓤) (A : Atoms 𝓤) (W : Given
       (W .laws .⇛-trans _)
 
   -- the parameters' machine values
-  abbrev values : (κs : Lfts (T .signature .lifetimes)) → Args (T .signature) κs → Valss (typesAt (T .signature .params) κs)
+  abbrev values : (κs : Lfts (T .signature .lifetimes)) → Args (T .signature) κs
+      → Valss (typesAt (T .signature .params) κs)
   values κs a = valss (typesAt (T .signature .params) κs) (F .spells κs) a
 
   -- a walk of the code, whatever a call brings
@@ -206,7 +216,8 @@ module _ {M : Type 1} (𝓤 : URA M) (H : Heap 𝓤) (A : Atoms 𝓤) (W : Given
       (λ v. leaves ((κs, qs, bounds, a, values κs a), g) v))))
 
 -- a function whose code is walked meets its contract, as the routine that its name means
-module _ {M : Type 1} (𝓤 : URA M) (H : Heap 𝓤) (𝓜 : Model 𝓤 H) (𝓖 : GhostRules 𝓤 H) (𝓡 : Running 𝓤 H 𝓜) (γ : Routines) where
+module _ {M : Type 1} (𝓤 : URA M) (H : Heap 𝓤) (𝓜 : Model 𝓤 H) (𝓖 : GhostRules 𝓤 H) (𝓡 : Running 𝓤 H 𝓜)
+    (γ : Routines) where
   abbrev W : Given 𝓤 H (𝓖 .A)
   W = givenOf 𝓤 H 𝓜 𝓖
 

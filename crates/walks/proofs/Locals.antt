@@ -1,5 +1,5 @@
--- Two rules for a function's locals, where entry n of the context is a local's cell. The local is read as an operand; and at
--- a return it is given up whatever it holds, where the entry after it says that its room may be freed.
+-- Two rules for a function's locals, where entry n of the context is a local's cell. The local is read as an operand;
+-- and at a return it is given up whatever it holds, where the entry after it says that its room may be freed.
 -- Assumes `Given`.
 use mathlib.Core.Path.{_≡_, subst}
 use Prim.Native.Nat.{ℕ, zero}
