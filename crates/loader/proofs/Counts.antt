@@ -17,8 +17,7 @@ use Rattle.model.specs.Run.{stepLimit, isCompleted, isCall, Event, event, withR
 use Rattle.model.specs.Run.{admissionBy}
 use Rattle.model.specs.RunBytes.{bytesFit, ranBytesBy, ranBytes}
 use Rattle.model.specs.StateBytes.{stateOf}
-use Rattle.model.proofs.Run.{onward, by-first-step}
-use Rattle.runs.proofs.Admitted.{admitted}
+use Rattle.model.proofs.Run.{onward, by-first-step, admitted}
 use Rattle.loader.specs.Packed.{RunFits}
 
 one-call : (a : Answer) → bit (isCall a) ≤ bit (isCompleted a)

@@ -1,4 +1,4 @@
 -- The laws that the proofs of the exported functions cite.
 pub mod Answers
 pub mod Counts
-pub mod Guarantee
+pub mod Unpacked

@@ -1,6 +1,7 @@
--- The answers of the C interface as numbers.
+-- The answers of the C interface as numbers: how an answer is packed into a result, and the numbers that the macros of
+-- include/m7700.h take out of a result. That these are the numbers of the answer: proofs/Unpacked.antt.
 -- Assumes nothing.
-use Prim.Native.Nat.{ℕ, _+_, _*_, _≤_, _<_}
+use Prim.Native.Nat.{ℕ, _+_, _*_, _/_, _%_, _^_, _≤_, _<_}
 use Rattle.model.specs.declared.rules.Verdict.{Verdict}
 use Rattle.model.specs.declared.rules.Verdict.the-variants.{Accepted, Refused}
 use Rattle.model.specs.declared.lists.ListRead.{ListRead}
@@ -11,9 +12,10 @@ use Rattle.model.specs.declared.runs.RunAnswer.{RunAnswer}
 use Rattle.model.specs.declared.runs.RunAnswer.the-variants.{NotRun, Ended}
 use Rattle.model.specs.Image.{addressLimit, bankSize}
 use Rattle.model.specs.MarkList.{refusalNumber}
-use Rattle.model.specs.Run.{stepLimit}
+use Rattle.model.specs.Run.{stepLimit, runRefusalNumber, endNumber}
 
--- the check's answer: the number in the upper 16 bits, the offset in the lower; 0 is accepted
+-- ---- the check: the number in the upper 16 bits, the offset in the lower; 0 is accepted
+
 abbrev pub packedVerdict : Verdict → ℕ
 packedVerdict Accepted = 0
 packedVerdict (Refused number offset) = number * 65_536 + offset
@@ -23,8 +25,21 @@ abbrev pub Fits : Verdict → Type 0
 Fits Accepted = Unit {0}
 Fits (Refused number offset) = (number ≤ 10) × (offset < 65_536)
 
--- the reader's answer: the number in bits 0 to 7; where that is 0, the base in bits 8 to 31 and the reset address in
--- bits 32 to 55
+pub record CheckNumbers : Type 0 where
+  pub number : ℕ
+  pub offset : ℕ
+
+abbrev pub verdictNumbers : Verdict → CheckNumbers
+verdictNumbers Accepted = record { number = 0; offset = 0 }
+verdictNumbers (Refused number offset) = record { number = number; offset = offset }
+
+-- M7700_NUMBER, M7700_OFFSET
+abbrev pub checkNumbers : ℕ → CheckNumbers
+checkNumbers result = record { number = result / 2 ^ 16; offset = result % 2 ^ 16 }
+
+-- ---- the reader: the number in bits 0 to 7; where that is 0, the base in bits 8 to 31 and the reset address in bits
+-- 32 to 55
+
 abbrev pub packedRead : ListRead → ℕ
 packedRead (NotRead refusal) = refusalNumber refusal
 packedRead (Read h) = h .base * 256 + h .reset * 4_294_967_296
@@ -33,7 +48,25 @@ abbrev pub ReadFits : ListRead → Type 0
 ReadFits (NotRead refusal) = Unit {0}
 ReadFits (Read h) = (h .base < addressLimit) × (h .reset < bankSize)
 
--- the writer's answer: the number in bits 0 to 7; where that is 0, the list's length in bits 8 to 63
+pub record ReadNumbers : Type 0 where
+  pub number : ℕ
+  pub base : ℕ
+  pub reset : ℕ
+
+abbrev pub listReadNumbers : ListRead → ReadNumbers
+listReadNumbers (NotRead refusal) = record { number = refusalNumber refusal; base = 0; reset = 0 }
+listReadNumbers (Read h) = record { number = 0; base = h .base; reset = h .reset }
+
+-- M7700_LIST_NUMBER, M7700_LIST_BASE, M7700_LIST_RESET
+abbrev pub readNumbers : ℕ → ReadNumbers
+readNumbers result = record {
+  number = result % 2 ^ 8;
+  base = result / 2 ^ 8 % 2 ^ 24;
+  reset = result / 2 ^ 32 % 2 ^ 24;
+}
+
+-- ---- the writer: the number in bits 0 to 7; where that is 0, the list's length in bits 8 to 63
+
 abbrev pub packedWritten : ListWritten → ℕ
 packedWritten (NotWritten refusal) = refusalNumber refusal
 packedWritten (Written n) = n * 256
@@ -42,7 +75,44 @@ abbrev pub WrittenFits : ListWritten → Type 0
 WrittenFits (NotWritten refusal) = Unit {0}
 WrittenFits (Written n) = n < 72_057_594_037_927_936
 
--- a run's answer that fits its packing (model/specs/RunBytes.antt)
+pub record WrittenNumbers : Type 0 where
+  pub number : ℕ
+  pub length : ℕ
+
+abbrev pub listWrittenNumbers : ListWritten → WrittenNumbers
+listWrittenNumbers (NotWritten refusal) = record { number = refusalNumber refusal; length = 0 }
+listWrittenNumbers (Written n) = record { number = 0; length = n }
+
+-- M7700_LIST_NUMBER, M7700_LIST_LENGTH
+abbrev pub writtenNumbers : ℕ → WrittenNumbers
+writtenNumbers result = record { number = result % 2 ^ 8; length = result / 2 ^ 8 }
+
+-- ---- a run: the refusal in bits 0 to 7; where that is 0, the end in bits 8 to 15, the steps in bits 16 to 39 and the
+-- calls in bits 40 to 63
+
+abbrev pub packedRun : RunAnswer → ℕ
+packedRun (NotRun why) = runRefusalNumber why
+packedRun (Ended end steps calls) = 256 * endNumber end + 65_536 * steps + 1_099_511_627_776 * calls
+
 abbrev pub RunFits : RunAnswer → Type 0
 RunFits (NotRun why) = Unit {0}
 RunFits (Ended end steps calls) = (steps ≤ stepLimit) × (calls ≤ stepLimit)
+
+pub record RunNumbers : Type 0 where
+  pub refusal : ℕ
+  pub end : ℕ
+  pub steps : ℕ
+  pub calls : ℕ
+
+abbrev pub answerNumbers : RunAnswer → RunNumbers
+answerNumbers (NotRun why) = record { refusal = runRefusalNumber why; end = 0; steps = 0; calls = 0 }
+answerNumbers (Ended end steps calls) = record { refusal = 0; end = endNumber end; steps = steps; calls = calls }
+
+-- M7700_RUN_REFUSAL, M7700_RUN_END, M7700_RUN_STEPS, M7700_RUN_CALLS
+abbrev pub runNumbers : ℕ → RunNumbers
+runNumbers result = record {
+  refusal = result % 2 ^ 8;
+  end = result / 2 ^ 8 % 2 ^ 8;
+  steps = result / 2 ^ 16 % 2 ^ 24;
+  calls = result / 2 ^ 40;
+}

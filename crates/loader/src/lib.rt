@@ -12,10 +12,11 @@ use model::rules::Verdict;
 use runs::bytes::run;
 ghost use mathlib.Core.Path.{_≡_};
 ghost use Rattle.model.specs.Memory.{memory};
-ghost use Rattle.model.specs.RunBytes.{ranBytes, packedRun};
+ghost use Rattle.model.specs.RunBytes.{ranBytes};
 ghost use Rattle.model.specs.Verdict.{verdict};
 ghost use Rattle.model.specs.MarkList.{readList, marksRead, writeList, pageWritten};
 ghost use Rattle.loader.specs.Packed.{packedVerdict, Fits, packedRead, ReadFits, packedWritten, WrittenFits};
+ghost use Rattle.loader.specs.Packed.{packedRun};
 
 fn pack(answer: Verdict) -> u32
     requires { ⌜ Fits answer ⌝ }

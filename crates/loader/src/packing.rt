@@ -5,9 +5,8 @@ use model::runs::RunAnswer;
 use model::runs::RunRefusal;
 ghost use mathlib.Core.Path.{_≡_};
 ghost use Rattle.model.specs.Run.{runRefusalNumber, endNumber};
-ghost use Rattle.model.specs.RunBytes.{packedRun};
 ghost use Rattle.model.specs.Step.{stopNumber};
-ghost use Rattle.loader.specs.Packed.{RunFits};
+ghost use Rattle.loader.specs.Packed.{packedRun, RunFits};
 
 fn stop_number(stop: Stop) -> u8
     ensures { λ r. ⌜ r ≡ stopNumber stop ⌝ }

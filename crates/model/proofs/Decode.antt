@@ -18,6 +18,7 @@ use Rattle.model.specs.declared.code.Decoded.{Decoded}
 use Rattle.model.specs.declared.code.Decoded.the-variants.{Whole, NotCarried, CutOff}
 use Rattle.model.specs.Choice.{pick}
 use Rattle.model.specs.CodeMap.{prefixBytes, entryAt, lengthAt}
+use Rattle.model.specs.Image.{AllBytes}
 use Rattle.model.specs.Decode.{number, pageOf, operandOf, judged, decodeOn, decode}
 use Rattle.model.proofs.CodeMap.{carried-length}
 
@@ -95,10 +96,6 @@ unfolding decode
 decoded-entry bytes m x i h =
     let p = passed (pageOf (getD bytes 0 0)) bytes m x i h in
     (p .entry, rw (p .entry) (p .long))
-
--- every element is a byte; past the end `getD` gives 0, which is one too
-abbrev pub AllBytes : List ℕ → Type 0
-AllBytes l = (k : ℕ) → getD l k 0 < 256
 
 pub bytes-drop : (n : ℕ) (l : List ℕ) → AllBytes l → AllBytes (drop n l)
 bytes-drop n l small k = rw getD-drop (small (n + k))

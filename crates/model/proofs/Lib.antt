@@ -17,8 +17,9 @@ pub mod ListForm
 pub mod Memory
 pub mod Status
 pub mod Step
+pub mod Effects
 pub mod StateBytes
 pub mod Run
 pub mod Guarantee
+pub mod Keeps
 pub mod RunBytes
-pub mod GuaranteeBytes

@@ -6,10 +6,12 @@ use mathlib.Core.Path.{_≡_, refl, sym, ap, _∙_}
 use mathlib.Core.Logic.{_↔_}
 use mathlib.Core.Bool.{Bool, true, false, not}
 use mathlib.Core.List.{List, [], _∷_}
-use Prim.Native.Nat.{ℕ, zero, suc, _+_}
+use Prim.Native.Nat.{ℕ, zero, suc, _+_, _≤_}
 use native.Mathlib.Nat.{zero-add, add-zero, add-assoc}
 use native.Mathlib.Omega.{arith}
+use lib.Dec.{leb}
 use lib.ListN.{length}
+use borrow.Author.Tests.{leb-true}
 use Rattle.model.specs.declared.code.Instruction.{Instruction}
 use Rattle.model.specs.declared.code.Decoded.{Decoded}
 use Rattle.model.specs.declared.code.Decoded.the-variants.{Whole, NotCarried, CutOff}
@@ -22,19 +24,25 @@ use Rattle.model.specs.declared.machine.Stop.{Stop}
 use Rattle.model.specs.declared.machine.Answer.{Answer}
 use Rattle.model.specs.declared.machine.Answer.the-variants.{Completed, Called, Stopped}
 use Rattle.model.specs.declared.runs.RunRefusal.{RunRefusal}
+use Rattle.model.specs.declared.runs.RunRefusal.the-variants.{WrongLength, WrongBase, WrongRam}
+use Rattle.model.specs.declared.runs.RunRefusal.the-variants.{WrongState, ManySteps}
 use Rattle.model.specs.declared.runs.Admission.the-variants.{Admitted, Refused}
 use Rattle.model.specs.declared.runs.End.{End}
 use Rattle.model.specs.declared.runs.End.the-variants.{Done, AtStop}
 use Rattle.model.specs.declared.runs.RunAnswer.{RunAnswer}
 use Rattle.model.specs.declared.runs.RunAnswer.the-variants.{NotRun, Ended}
 use Rattle.model.specs.Choice.{pick}
+use Rattle.model.specs.Image.{imageLimit, addressLimit, lengthFits, baseFits}
 use Rattle.model.specs.Status.{bit}
 use Rattle.model.specs.Memory.{Memory, memory, served}
 use Rattle.model.specs.Step.{Change, Plan, stops, changes, answerOf, onServed, finish, plan, fetched, onDecoded}
 use Rattle.model.specs.Step.{step}
 use Rattle.model.specs.Run.{isCompleted, isCall, Event, event, withRam, history, completedSteps}
 use Rattle.model.specs.Run.{endAfter, endOf, endNumber, stateLeft, ramLeft, Ran}
-use Rattle.model.specs.Run.{admission, admittedHistory, runHistory, played, ran, oneStep}
+use Rattle.model.specs.Run.{stepLimit, ramFits, admissionBy, admission, admittedHistory, runHistory, played}
+use Rattle.model.specs.Run.{ran, oneStep}
+use Rattle.model.specs.Guarantee.{Every}
+use Rattle.model.proofs.Image.{right-length, base-whole}
 use Rattle.model.proofs.Step.{stop-range}
 
 -- ---- what a history goes on with after its first step
@@ -173,7 +181,7 @@ pub state-passes : (s : State) (e : Event) (h : List Event) → isCompleted (e .
     → stateLeft s (e ∷ h) ≡ stateLeft (e .result .state) h
 state-passes s e h c = ap (λ b. stateLeft (pick b (e .result .state) s) h) c
 
-ram-passes : (ram : List ℕ) (e : Event) (h : List Event) → isCompleted (e .result .answer) ≡ true
+pub ram-passes : (ram : List ℕ) (e : Event) (h : List Event) → isCompleted (e .result .answer) ≡ true
     → ramLeft ram (e ∷ h) ≡ ramLeft (e .result .ram) h
 ram-passes ram e h c = ap (λ b. ramLeft (pick b (e .result .ram) ram) h) c
 
@@ -222,6 +230,40 @@ module _ (m : Memory) (s : State) (n : ℕ) where
   unfolding ran admittedHistory
   refused-ran why a = (rw a refl, rw a refl)
 
+-- what a run that is not refused is given
+pub record Bounds (m : Memory) (fits : Bool) (asked : ℕ) : Type 0 where
+  pub whole : m .base + length (m .image) ≤ addressLimit
+  pub few : length (m .image) ≤ imageLimit
+  pub taken : fits ≡ true
+  pub steps : asked ≤ stepLimit
+
+refused-admits : (why : RunRefusal) → Refused why ≡ Admitted → ⊥
+refused-admits why e = let z : _≡_ {A = ℕ} 0 1 = cc in absurd (omega arith)
+
+pub admitted : (m : Memory) (fits : Bool) (asked : ℕ) → admissionBy m fits asked ≡ Admitted → Bounds m fits asked
+unfolding admissionBy
+admitted m fits asked =
+    by (lengthFits (length (m .image)) (length (m .image))) (baseFits (m .base) (length (m .image)))
+    (ramFits (length (m .ram)) (m .base)) fits (leb asked stepLimit) refl refl refl refl
+  where
+    by : (a b c d e : Bool) → lengthFits (length (m .image)) (length (m .image)) ≡ a
+        → baseFits (m .base) (length (m .image)) ≡ b → fits ≡ d → leb asked stepLimit ≡ e
+        → pick a (pick b (pick c (pick d (pick e Admitted (Refused ManySteps)) (Refused WrongState)) (Refused
+        WrongRam))
+        (Refused WrongBase)) (Refused WrongLength) ≡ Admitted
+        → Bounds m fits asked
+    by false b c d e p q r s h = absurd (refused-admits WrongLength h)
+    by true false c d e p q r s h = absurd (refused-admits WrongBase h)
+    by true true false d e p q r s h = absurd (refused-admits WrongRam h)
+    by true true true false e p q r s h = absurd (refused-admits WrongState h)
+    by true true true true false p q r s h = absurd (refused-admits ManySteps h)
+    by true true true true true p q r s h = record {
+      whole = base-whole (m .base) (length (m .image)) q;
+      few = right-length (length (m .image)) (length (m .image)) p .few;
+      taken = r;
+      steps = leb-true asked stepLimit s;
+    }
+
 pub completed-stops : true ≡ false → ⊥
 completed-stops e = let z : _≡_ {A = ℕ} 0 1 = cc in absurd (omega arith)
 
@@ -254,9 +296,9 @@ module _ (m : Memory) (s : State) where
       by (Whole i) e = planned-so i (plan m s i) e
 
   -- a run of one step answers as the step ended, and leaves what it left
-  pub one-step : admission m s 1 ≡ Admitted → ran m s 1 ≡ oneStep (step m s)
+  pub played-one : played m s 1 ≡ oneStep (step m s)
   unfolding history
-  one-step a = admitted-ran m s 1 a .1 ∙ by (isCompleted (step m s .answer)) refl
+  played-one = by (isCompleted (step m s .answer)) refl
     where
       stays : (t : Answer) → isCompleted t ≡ false → bit (isCall t) ≡ 0
       stays Completed c = absurd (completed-stops c)
@@ -266,4 +308,28 @@ module _ (m : Memory) (s : State) where
       by : (b : Bool) → isCompleted (step m s .answer) ≡ b → played m s 1 ≡ oneStep (step m s)
       by true c = rw (goes-on m s 0 c, c) (simp add-zero)
       by false c =
-          rw (stops-there m s 0 c, c, stays (step m s .answer) c, stopped-leaves c .0, stopped-leaves c .1) (simp add-zero)
+          rw (stops-there m s 0 c, c, stays (step m s .answer) c, stopped-leaves c .0, stopped-leaves c .1)
+          (simp add-zero)
+
+-- each stopped step of a history leaves what it began from
+pub stops-leave : (n : ℕ) (m : Memory) (s : State)
+    → Every (λ e. isCompleted (e .result .answer) ≡ false → (e .result .state ≡ e .state) × (e .result .ram ≡ e .ram))
+    (history m s n)
+unfolding history
+stops-leave zero m s = tt
+stops-leave (suc n) m s =
+    by-first-step m s n (Every _)
+    (λ _. (stopped-leaves m s, stops-leave n (withRam (step m s .ram) m) (step m s .state)))
+    (λ _. (stopped-leaves m s, tt))
+
+-- a history without a completed step leaves state and RAM
+pub none-completed : (s : State) (ram : List ℕ) (h : List Event) → completedSteps h ≡ 0
+    → (stateLeft s h ≡ s) × (ramLeft ram h ≡ ram)
+none-completed s ram [] z = (refl, refl)
+none-completed s ram (e ∷ rest) z = by (isCompleted (e .result .answer)) (none-completed s ram rest) z
+  where
+    by : (b : Bool) → (completedSteps rest ≡ 0 → (stateLeft s rest ≡ s) × (ramLeft ram rest ≡ ram))
+        → bit b + completedSteps rest ≡ 0
+        → (stateLeft (pick b (e .result .state) s) rest ≡ s) × (ramLeft (pick b (e .result .ram) ram) rest ≡ ram)
+    by true more z = absurd (omega arith)
+    by false more z = more (omega arith)

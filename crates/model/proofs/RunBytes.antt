@@ -1,30 +1,37 @@
 -- A run of a state given as bytes is the run of the state that they say: its answer, and the bytes of what it leaves.
 -- Assumes nothing.
-use mathlib.Core.Path.{_≡_, refl, sym, ap}
+use mathlib.Core.Path.{_≡_, refl, sym, ap, _∙_}
 use mathlib.Core.Bool.{false}
 use mathlib.Core.List.{List}
 use Prim.Native.Nat.{ℕ}
+use native.Mathlib.Omega.{arith}
+use lib.Dec.{eqb}
 use lib.ListN.{length}
-use borrow.Author.Tests.{eq-eqb, ne-eqb}
+use borrow.Author.Tests.{eq-eqb, ne-eqb, eqb-true}
+use Rattle.model.specs.declared.runs.RunRefusal.{RunRefusal}
+use Rattle.model.specs.declared.runs.End.{End}
 use Rattle.model.specs.declared.runs.Admission.{Admission}
 use Rattle.model.specs.declared.runs.Admission.the-variants.{Admitted, Refused}
-use Rattle.model.specs.declared.runs.RunAnswer.the-variants.{NotRun}
+use Rattle.model.specs.declared.runs.RunAnswer.the-variants.{NotRun, Ended}
 use Rattle.model.specs.Memory.{Memory}
-use Rattle.model.specs.Run.{admissionBy, admission, ran}
-use Rattle.model.specs.StateBytes.{stateSize, stateOf}
+use Rattle.model.specs.Run.{history, completedSteps, callsAmong, endOf, stateFits, admissionBy, admission}
+use Rattle.model.specs.Run.{runHistory, played, ran}
+use Rattle.model.specs.StateBytes.{stateSize, stateOf, bytesOf}
 use Rattle.model.specs.RunBytes.{bytesFit, asBytes, ranBytesBy, ranBytes}
-use Rattle.model.proofs.Decode.{AllBytes}
-use Rattle.model.proofs.Run.{admitted-ran, refused-ran}
-use Rattle.model.proofs.StateBytes.{bytes-state}
+use Rattle.model.specs.Image.{AllBytes}
+use Rattle.model.proofs.Verdict.{both-true}
+use Rattle.model.proofs.Run.{admitted-ran, refused-ran, admitted, none-completed}
+use Rattle.model.proofs.StateBytes.{state-bytes, bytes-state, bytes-length}
+use Rattle.model.proofs.Keeps.{InBytes, run-keeps, given-keeps}
 
 module _ (m : Memory) (bytes : List ℕ) (asked : ℕ) where
-  module _ (long : length bytes ≡ stateSize) (small : AllBytes bytes) where
-    same-admission : admissionBy m (bytesFit bytes) asked ≡ admission m (stateOf bytes) asked
-    same-admission = rw (eq-eqb (length bytes) stateSize long) refl
+  same-admission : length bytes ≡ stateSize → admissionBy m (bytesFit bytes) asked ≡ admission m (stateOf bytes) asked
+  same-admission long = rw (eq-eqb (length bytes) stateSize long) refl
 
+  module _ (long : length bytes ≡ stateSize) (small : AllBytes bytes) where
     pub bytes-ran : ranBytes m bytes asked ≡ asBytes (ran m (stateOf bytes) asked)
     unfolding ranBytes
-    bytes-ran = rw same-admission (by (admission m (stateOf bytes) asked) refl)
+    bytes-ran = rw (same-admission long) (by (admission m (stateOf bytes) asked) refl)
       where
         by : (a : Admission) → admission m (stateOf bytes) asked ≡ a
             → ranBytesBy a m bytes asked ≡ asBytes (ran m (stateOf bytes) asked)
@@ -33,7 +40,68 @@ module _ (m : Memory) (bytes : List ℕ) (asked : ℕ) where
             rw (refused-ran m (stateOf bytes) asked why e .1)
             (λ j. record { answer = NotRun why; state = sym (bytes-state bytes long small) j; ram = m .ram })
 
+    -- what the bytes of a run say is what the run of the state that they say comes to
+    module _ (in-image : AllBytes (m .image)) (in-ram : AllBytes (m .ram)) where
+      keeps : InBytes (ran m (stateOf bytes) asked .state) (ran m (stateOf bytes) asked .ram)
+      keeps = run-keeps m (stateOf bytes) asked in-image (given-keeps bytes small, in-ram)
+
+      pub said-left : stateOf (ranBytes m bytes asked .state) ≡ ran m (stateOf bytes) asked .state
+      said-left = rw bytes-ran (state-bytes (ran m (stateOf bytes) asked .state) (keeps .0))
+
+      pub long-left : length (ranBytes m bytes asked .state) ≡ stateSize
+      long-left = rw bytes-ran (bytes-length (ran m (stateOf bytes) asked .state) (keeps .0 .calls))
+
   -- bytes of another length are refused as a state is that no run takes
-  pub bytes-refused : (length bytes ≡ stateSize → ⊥) → ranBytes m bytes asked ≡ ranBytesBy (admissionBy m false asked) m bytes asked
+  pub bytes-refused : (length bytes ≡ stateSize → ⊥)
+      → ranBytes m bytes asked ≡ ranBytesBy (admissionBy m false asked) m bytes asked
   unfolding ranBytes
   bytes-refused other = rw (ne-eqb (length bytes) stateSize other) refl
+
+  -- ---- a run of bytes that is not refused is the run of the state that they say
+
+  pub record Taken : Type 0 where
+    pub long : length bytes ≡ stateSize
+    pub history-is : runHistory m (stateOf bytes) asked ≡ history m (stateOf bytes) asked
+    pub ran-is : ranBytes m bytes asked ≡ asBytes (played m (stateOf bytes) asked)
+
+  pub taken : (end : End) (steps calls : ℕ) → ranBytes m bytes asked .answer ≡ Ended end steps calls → Taken
+  unfolding ranBytes
+  taken end steps calls = by (admissionBy m (bytesFit bytes) asked) refl
+    where
+      by : (a : Admission) → admissionBy m (bytesFit bytes) asked ≡ a
+          → ranBytesBy a m bytes asked .answer ≡ Ended end steps calls → Taken
+      by Admitted e told =
+          let fits = both-true (eqb (length bytes) stateSize) (stateFits (stateOf bytes))
+          (admitted m (bytesFit bytes) asked e .taken) in
+          let long = eqb-true (length bytes) stateSize (fits .0) in
+          record {
+            long = long;
+            history-is = admitted-ran m (stateOf bytes) asked (sym (same-admission long) ∙ e) .0;
+            ran-is = rw e refl;
+          }
+      by (Refused why) e told = let z : _≡_ {A = ℕ} 0 1 = cc in absurd (omega arith)
+
+  -- ---- 'A refusal leaves every buffer and the state as given', and so does a run that completes no step
+
+  pub refused-leaves : (why : RunRefusal) → ranBytes m bytes asked .answer ≡ NotRun why
+      → (ranBytes m bytes asked .state ≡ bytes) × (ranBytes m bytes asked .ram ≡ m .ram)
+  unfolding ranBytes
+  refused-leaves why = by (admissionBy m (bytesFit bytes) asked)
+    where
+      by : (a : Admission) → ranBytesBy a m bytes asked .answer ≡ NotRun why
+          → (ranBytesBy a m bytes asked .state ≡ bytes) × (ranBytesBy a m bytes asked .ram ≡ m .ram)
+      by Admitted e = let z : _≡_ {A = ℕ} 0 1 = cc in absurd (omega arith)
+      by (Refused other) e = (refl, refl)
+
+  pub none-leaves : AllBytes bytes → (end : End) (calls : ℕ) → ranBytes m bytes asked .answer ≡ Ended end 0 calls
+      → (ranBytes m bytes asked .state ≡ bytes) × (ranBytes m bytes asked .ram ≡ m .ram)
+  none-leaves small end calls told =
+      let t = taken end 0 calls told in
+      let same = t .ran-is in
+      let h = history m (stateOf bytes) asked in
+      let none : Ended (endOf h) (completedSteps h) (callsAmong h) ≡ Ended end 0 calls =
+      sym (ap (λ r. r .answer) same) ∙ told in
+      let left = none-completed (stateOf bytes) (m .ram) h cc in (
+        ap (λ r. r .state) same ∙ ap bytesOf (left .0) ∙ bytes-state bytes (t .long) small,
+        ap (λ r. r .ram) same ∙ left .1,
+      )

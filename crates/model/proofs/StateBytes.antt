@@ -8,6 +8,7 @@ use native.Mathlib.Nat.{div-add-mod, div-lt-iff-lt-mul, mul-suc, mul-zero, pow-s
 use native.Mathlib.Omega.{arith}
 use lib.ListN.{length, getD, take, drop, length-append, length-drop}
 use lib.Seq.{drop-drop, drop-at, take-add, take-all, take-at}
+use Rattle.model.specs.declared.machine.Core.{Core}
 use Rattle.model.specs.declared.machine.State.{State}
 use Rattle.model.specs.declared.machine.Status.{Status}
 use Rattle.model.specs.Decode.{number}
@@ -15,7 +16,8 @@ use Rattle.model.specs.Status.{statusOf, numberOf}
 use Rattle.model.specs.Step.{callLimit}
 use Rattle.model.specs.StateBytes.{headSize, entrySize, stateSize, lowBytes, joined, parted, fieldAt}
 use Rattle.model.specs.StateBytes.{coreOf, stateOf, headOf, bytesOf, Keeps}
-use Rattle.model.proofs.Decode.{AllBytes, bytes-drop}
+use Rattle.model.specs.Image.{AllBytes}
+use Rattle.model.proofs.Decode.{bytes-drop}
 use Rattle.model.proofs.Status.{status-number, number-status, status-bound}
 
 -- ---- a number and its low bytes
@@ -101,13 +103,13 @@ module _ (s : State) (k : Keeps s) where
   core-head = λ j. record {
     registers =
         record {
-          a = number-low 2 (s .core .registers .a) (k .a) j;
-          b = number-low 2 (s .core .registers .b) (k .b) j;
-          x = number-low 2 (s .core .registers .x) (k .x) j;
-          y = number-low 2 (s .core .registers .y) (k .y) j;
-          s = number-low 2 (s .core .registers .s) (k .s) j;
-          dpr = number-low 2 (s .core .registers .dpr) (k .dpr) j;
-          dt = number-low 1 (s .core .registers .dt) (k .dt) j;
+          a = number-low 2 (s .core .registers .a) (k .registers .a) j;
+          b = number-low 2 (s .core .registers .b) (k .registers .b) j;
+          x = number-low 2 (s .core .registers .x) (k .registers .x) j;
+          y = number-low 2 (s .core .registers .y) (k .registers .y) j;
+          s = number-low 2 (s .core .registers .s) (k .registers .s) j;
+          dpr = number-low 2 (s .core .registers .dpr) (k .registers .dpr) j;
+          dt = number-low 1 (s .core .registers .dt) (k .registers .dt) j;
           status = same-status j;
         };
     pc = number-low 2 (s .core .pc) (k .pc) j;
@@ -119,7 +121,7 @@ module _ (s : State) (k : Keeps s) where
       given = s .core .registers .status
 
       same-status : statusOf (number (lowBytes 2 (numberOf given))) ≡ given
-      same-status = ap statusOf (number-low 2 (numberOf given) (status-bound given (k .level))) ∙ number-status given
+      same-status = ap statusOf (number-low 2 (numberOf given) (status-bound given (k .registers .level))) ∙ number-status given
 
   pub state-bytes : stateOf (bytesOf s) ≡ s
   unfolding stateOf
@@ -186,3 +188,19 @@ bytes-state bytes long small =
       ← take-add headSize (entrySize * callLimit) bytes,
     )
     (take-all stateSize bytes (omega arith))
+
+-- ---- how many bytes a state has
+
+head-length : (c : Core) → length (headOf c) ≡ headSize
+unfolding headOf joined lowBytes
+head-length c = refl
+
+pub bytes-length : (s : State) → length (s .calls) ≡ callLimit → length (bytesOf s) ≡ stateSize
+unfolding bytesOf
+bytes-length s whole =
+    rw (
+      length-append (headOf (s .core)) (joined entrySize (s .calls)),
+      head-length (s .core),
+      length-joined entrySize (s .calls),
+      whole,
+    )

@@ -1,6 +1,6 @@
 -- 01, 'Image and marks': the image's limits, the fields and the form of a mark, the mark at an address.
 -- Assumes nothing.
-use Prim.Native.Nat.{ℕ, _+_, _-_, _*_, _/_, _%_}
+use Prim.Native.Nat.{ℕ, _+_, _-_, _*_, _/_, _%_, _<_}
 use mathlib.Core.Bool.{Bool, not, _&&_, _||_}
 use mathlib.Core.List.{List, [], _∷_}
 use lib.Dec.{eqb, ltb, leb}
@@ -14,6 +14,10 @@ imageLimit = 16_384
 -- 'within one bank (64 KiB)'
 abbrev pub bankSize : ℕ
 bankSize = 65_536
+
+-- every element is a byte, as in a lent buffer; past the end `getD` gives 0, which is one too
+abbrev pub AllBytes : List ℕ → Type 0
+AllBytes l = (k : ℕ) → getD l k 0 < 256
 
 -- addresses have 24 bits
 abbrev pub addressLimit : ℕ

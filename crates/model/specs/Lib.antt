@@ -22,4 +22,3 @@ pub mod StateBytes
 pub mod Run
 pub mod Guarantee
 pub mod RunBytes
-pub mod GuaranteeBytes

@@ -1,6 +1,6 @@
 -- A run of a state that is given as bytes: INTERFACE, `m7700_run` and `m7700_step`.
 -- Assumes nothing.
-use Prim.Native.Nat.{ℕ, _+_, _*_}
+use Prim.Native.Nat.{ℕ}
 use mathlib.Core.Bool.{Bool, _&&_}
 use mathlib.Core.List.{List}
 use lib.Dec.{eqb}
@@ -8,9 +8,9 @@ use lib.ListN.{length}
 use Rattle.model.specs.declared.runs.Admission.{Admission}
 use Rattle.model.specs.declared.runs.Admission.the-variants.{Admitted, Refused}
 use Rattle.model.specs.declared.runs.RunAnswer.{RunAnswer}
-use Rattle.model.specs.declared.runs.RunAnswer.the-variants.{NotRun, Ended}
+use Rattle.model.specs.declared.runs.RunAnswer.the-variants.{NotRun}
 use Rattle.model.specs.Memory.{Memory}
-use Rattle.model.specs.Run.{stateFits, admissionBy, runRefusalNumber, endNumber, Ran, played}
+use Rattle.model.specs.Run.{stateFits, admissionBy, Ran, played}
 use Rattle.model.specs.StateBytes.{stateSize, stateOf, bytesOf}
 
 -- number 12: 'A buffer of another length is refused with 12'
@@ -34,8 +34,3 @@ ranBytesBy (Refused why) m bytes asked = record { answer = NotRun why; state = b
 
 unfoldable pub ranBytes : Memory → List ℕ → ℕ → RanBytes
 ranBytes m bytes asked = ranBytesBy (admissionBy m (bytesFit bytes) asked) m bytes asked
-
--- 'bits 0-7 refusal; on 0: bits 8-15 end (0 or the stop), 16-39 steps completed, 40-63 calls'
-abbrev pub packedRun : RunAnswer → ℕ
-packedRun (NotRun why) = runRefusalNumber why
-packedRun (Ended end steps calls) = 256 * endNumber end + 65_536 * steps + 1_099_511_627_776 * calls

@@ -79,16 +79,20 @@ headOf c =
 unfoldable pub bytesOf : State → List ℕ
 bytesOf s = headOf (s .core) ++ joined entrySize (s .calls)
 
+-- every register within its width
+pub record InWidth (r : Registers) : Type 0 where
+  pub a : r .a < 65_536
+  pub b : r .b < 65_536
+  pub x : r .x < 65_536
+  pub y : r .y < 65_536
+  pub s : r .s < 65_536
+  pub dpr : r .dpr < 65_536
+  pub dt : r .dt < 256
+  pub level : r .status .level < 256
+
 -- A state that its bytes keep whole: each field is below the bound of its bytes, and there are as many entries as fit.
 pub record Keeps (state : State) : Type 0 where
-  pub a : state .core .registers .a < 65_536
-  pub b : state .core .registers .b < 65_536
-  pub x : state .core .registers .x < 65_536
-  pub y : state .core .registers .y < 65_536
-  pub s : state .core .registers .s < 65_536
-  pub dpr : state .core .registers .dpr < 65_536
-  pub dt : state .core .registers .dt < 256
-  pub level : state .core .registers .status .level < 256
+  pub registers : InWidth (state .core .registers)
   pub pc : state .core .pc < 65_536
   pub pg : state .core .pg < 256
   pub depth : state .core .depth < 65_536

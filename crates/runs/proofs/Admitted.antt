@@ -1,10 +1,9 @@
 -- What a run that is taken up may count on, and that what is left of it as bytes is the definition's.
 -- Assumes nothing.
 use mathlib.Core.Path.{_≡_, refl}
-use mathlib.Core.Bool.{Bool, true, false, _&&_}
+use mathlib.Core.Bool.{Bool, true, _&&_}
 use mathlib.Core.List.{List}
-use Prim.Native.Nat.{ℕ, _+_, _≤_}
-use native.Mathlib.Omega.{arith}
+use Prim.Native.Nat.{ℕ, _≤_}
 use lib.Dec.{eqb, ltb, leb}
 use lib.ListN.{length}
 use borrow.Author.Tests.{leb-true, eqb-true}
@@ -12,51 +11,14 @@ use Rattle.model.specs.declared.machine.Core.{Core}
 use Rattle.model.specs.declared.runs.Admission.{Admission}
 use Rattle.model.specs.declared.runs.Admission.the-variants.{Admitted, Refused}
 use Rattle.model.specs.declared.runs.RunRefusal.{RunRefusal}
-use Rattle.model.specs.declared.runs.RunRefusal.the-variants.{WrongLength, WrongBase, WrongRam, WrongState, ManySteps}
 use Rattle.model.specs.declared.runs.RunAnswer.the-variants.{NotRun}
-use Rattle.model.specs.Choice.{pick}
-use Rattle.model.specs.Image.{addressLimit, imageLimit, lengthFits, baseFits}
 use Rattle.model.specs.Memory.{Memory}
 use Rattle.model.specs.Step.{callLimit}
-use Rattle.model.specs.Run.{stepLimit, ramFits, levelLimit, callsFit, stateFits, admissionBy, Ran, played}
+use Rattle.model.specs.Run.{levelLimit, callsFit, stateFits, admissionBy, Ran, played}
 use Rattle.model.specs.RunBytes.{bytesFit, asBytes, ranBytes}
 use Rattle.model.specs.StateBytes.{stateSize, stateOf}
-use Rattle.model.proofs.Image.{right-length, base-whole}
 use Rattle.model.proofs.Verdict.{both-true}
 use Rattle.machine.specs.Turns.{state}
-
-pub record Bounds (m : Memory) (fits : Bool) (asked : ℕ) : Type 0 where
-  pub whole : m .base + length (m .image) ≤ addressLimit
-  pub few : length (m .image) ≤ imageLimit
-  pub taken : fits ≡ true
-  pub steps : asked ≤ stepLimit
-
-refused-admits : (why : RunRefusal) → Refused why ≡ Admitted → ⊥
-refused-admits why e = let z : _≡_ {A = ℕ} 0 1 = cc in absurd (omega arith)
-
-pub admitted : (m : Memory) (fits : Bool) (asked : ℕ) → admissionBy m fits asked ≡ Admitted → Bounds m fits asked
-unfolding admissionBy
-admitted m fits asked =
-    by (lengthFits (length (m .image)) (length (m .image))) (baseFits (m .base) (length (m .image)))
-    (ramFits (length (m .ram)) (m .base)) fits (leb asked stepLimit) refl refl refl refl
-  where
-    by : (a b c d e : Bool) → lengthFits (length (m .image)) (length (m .image)) ≡ a
-        → baseFits (m .base) (length (m .image)) ≡ b → fits ≡ d → leb asked stepLimit ≡ e
-        → pick a (pick b (pick c (pick d (pick e Admitted (Refused ManySteps)) (Refused WrongState)) (Refused
-        WrongRam))
-        (Refused WrongBase)) (Refused WrongLength) ≡ Admitted
-        → Bounds m fits asked
-    by false b c d e p q r s h = absurd (refused-admits WrongLength h)
-    by true false c d e p q r s h = absurd (refused-admits WrongBase h)
-    by true true false d e p q r s h = absurd (refused-admits WrongRam h)
-    by true true true false e p q r s h = absurd (refused-admits WrongState h)
-    by true true true true false p q r s h = absurd (refused-admits ManySteps h)
-    by true true true true true p q r s h = record {
-      whole = base-whole (m .base) (length (m .image)) q;
-      few = right-length (length (m .image)) (length (m .image)) p .few;
-      taken = r;
-      steps = leb-true asked stepLimit s;
-    }
 
 -- a state that a run takes
 module _ (bytes : ℕ) (c : Core) (calls : List ℕ) (taken : (eqb bytes stateSize && stateFits (state c calls)) ≡ true)

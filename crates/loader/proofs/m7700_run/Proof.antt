@@ -1,7 +1,7 @@
 -- The run's answer fits its packing.
 -- Assumes nothing.
 use mathlib.Core.Path.{_∙_, ap}
-use Rattle.model.specs.RunBytes.{packedRun}
+use Rattle.loader.specs.Packed.{packedRun}
 use Rattle.model.specs.Memory.{memory}
 use Rattle.loader.proofs.Counts.{run-fits}
 use borrow.Author.Needs.{needs}

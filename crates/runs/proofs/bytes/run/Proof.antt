@@ -1,6 +1,7 @@
 -- A refused run changes nothing; one that is taken up keeps the bounds that the steps need, and its state is written back.
 -- Assumes nothing.
-use Rattle.runs.proofs.Admitted.{admitted, long, shallow, run-refused, run-taken}
+use Rattle.model.proofs.Run.{admitted}
+use Rattle.runs.proofs.Admitted.{long, shallow, run-refused, run-taken}
 use Rattle.model.specs.Memory.{memory}
 use lib.ListN.{length}
 use mathlib.Core.Path.{sym, ap, _∙_}

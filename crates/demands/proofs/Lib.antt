@@ -1,0 +1,3 @@
+-- That the three conditions hold.
+pub mod Calls
+pub mod Demands

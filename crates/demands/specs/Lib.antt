@@ -1,0 +1,3 @@
+-- The customer's three conditions: the page, and what a call is.
+pub mod Calls
+pub mod Demands
