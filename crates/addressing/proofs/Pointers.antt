@@ -28,18 +28,19 @@ use Rattle.model.specs.declared.machine.Residence.{Residence}
 use Rattle.model.specs.declared.machine.Residence.the-variants.{Memory as InMemory, Instruction, Register}
 use Rattle.model.specs.Memory.{Memory, Act, ret, _>>=_, Outcome, done, unmapped, come}
 use Rattle.model.specs.Memory.{readWord, readLong, readData}
-use Rattle.model.specs.Addressing.{size, low, dataAt, addressOf, residenceOf, operandBy, dataOf}
+use Rattle.model.specs.AnyWidth.{size, low}
+use Rattle.model.specs.Addressing.{bits, dataAt, addressOf, residenceOf, operandBy, dataOf}
 use Rattle.model.specs.declared.machine.Data.{Data}
 use Rattle.model.proofs.machine.Access.{the-type}
 use Rattle.model.proofs.Memory.{onDone, come-bind, after-done, after-unmapped}
 
-most : (short : Bool) → size short ≤ 65_536
+most : (short : Bool) → size (bits short) ≤ 65_536
 most true = omega arith
 most false = omega arith
 
 -- an index: what a width holds of a register
-pub indexed : (short wanted : Bool) (v x r : ℕ) → short ≡ wanted → v ≡ x → (r ≡ low short v) × (r < size short)
-    → (r ≡ low wanted x) × (r ≤ 65_535)
+pub indexed : (short wanted : Bool) (v x r : ℕ) → short ≡ wanted → v ≡ x
+    → (r ≡ low (bits short) v) × (r < size (bits short)) → (r ≡ low (bits wanted) x) × (r ≤ 65_535)
 indexed short wanted v x r e e′ h = (rw (← e, ← e′) (h .0), omega (arith, most short))
 
 module _ (m : Memory) (at : ℕ) (f : ℕ → ℕ) where

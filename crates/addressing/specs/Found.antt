@@ -16,7 +16,8 @@ use Rattle.model.specs.declared.machine.Data.{Data}
 use Rattle.model.specs.declared.machine.Registers.{Registers}
 use Rattle.model.specs.declared.machine.Residence.{Residence}
 use Rattle.model.specs.declared.machine.Residence.the-variants.{Memory, Instruction, Register}
-use Rattle.model.specs.Addressing.{dataAt, low, accumulatorOf, addressOf, residenceOf, inMemory}
+use Rattle.model.specs.AnyWidth.{low}
+use Rattle.model.specs.Addressing.{bits, dataAt, accumulatorOf, addressOf, residenceOf, inMemory}
 use Rattle.model.specs.Choice.{pick}
 use Rattle.model.specs.Memory.{Act, ret, _>>=_, Outcome, done, unmapped}
 
@@ -55,5 +56,5 @@ reachedBy false mode r short operand = inMemory mode r short operand
 -- what a mode names, by where it lies
 abbrev pub foundAt : Residence → Bool → Mode → Named → Registers → Bool → ℕ → Act Data
 foundAt Memory alone mode register r short operand = reachedBy alone mode r short operand
-foundAt Instruction alone mode register r short operand = ret (dataAt 0 (low short operand))
-foundAt Register alone mode register r short operand = ret (dataAt 0 (low short (accumulatorOf register r)))
+foundAt Instruction alone mode register r short operand = ret (dataAt 0 (low (bits short) operand))
+foundAt Register alone mode register r short operand = ret (dataAt 0 (low (bits short) (accumulatorOf register r)))

@@ -5,10 +5,10 @@ use mathlib.Core.Bool.{Bool}
 use Prim.Native.Nat.{ℕ, zero, suc, _+_, _-_, _*_, _/_, _%_, _≤_}
 use native.Mathlib.Nat.{div-div-eq-div-mul}
 use native.Mathlib.Omega.{arith}
-use lib.Dec.{eqb, leb}
+use lib.Dec.{eqb}
 use Rattle.model.specs.declared.machine.Status.{Status}
-use Rattle.model.specs.Addressing.{low}
-use Rattle.model.specs.Arithmetic.{half, withCarry, withDisable, withOverflow, withWidths, withResult}
+use Rattle.model.specs.AnyWidth.{low, isNegative}
+use Rattle.model.specs.Arithmetic.{withCarry, withDisable, withOverflow, withWidths, withResult}
 use Rattle.model.specs.Status.{bit, isSet, statusOf, numberOf}
 use Rattle.model.proofs.Status.{status-number, number-status}
 
@@ -50,9 +50,9 @@ widths-changed m x n h h′ =
     changed n _ (withWidths (eqb m 1) (eqb x 1) (statusOf n))
     (omega (arith, width-bits n, bit-small m h, bit-small x h′))
 
-pub result-changed : (short : Bool) (v n : ℕ)
+pub result-changed : (bits v n : ℕ)
     → statusOf
-    (n - (n / 2 % 2 * 2 + n / 128 % 2 * 128) + 2 * bit (eqb (low short v) 0)
-    + 128 * bit (leb (half short) (low short v)))
-    ≡ withResult short v (statusOf n)
-result-changed short v n = changed n _ (withResult short v (statusOf n)) (omega (arith, bit-of 2 n, bit-of 128 n))
+    (n - (n / 2 % 2 * 2 + n / 128 % 2 * 128) + 2 * bit (eqb (low bits v) 0)
+    + 128 * bit (isNegative bits (low bits v)))
+    ≡ withResult bits v (statusOf n)
+result-changed bits v n = changed n _ (withResult bits v (statusOf n)) (omega (arith, bit-of 2 n, bit-of 128 n))

@@ -8,19 +8,17 @@ use native.Mathlib.Omega.{arith}
 use lib.Dec.{ltb, leb}
 use lib.Pow.{pow-mono}
 use borrow.Author.Tests.{lt-ltb, le-ltb, le-leb, lt-leb, leb-true, leb-false}
-use Rattle.model.specs.Addressing.{size}
-use Rattle.model.specs.Arithmetic.{half, isOutside}
+use Rattle.model.specs.AnyWidth.{size, half, isOutside}
 
-pub below-half : (short : Bool) (v : ℕ) → v < half short → true ≡ isOutside short v
-below-half short v h = rw (lt-leb (half short) v h) refl
+pub below-half : (n v : ℕ) → v < half n → true ≡ isOutside n v
+below-half n v h = rw (lt-leb (half n) v h) refl
 
-pub from-half : (short : Bool) (v : ℕ) → half short ≤ v → leb (half short + size short) v ≡ isOutside short v
-from-half short v h = rw (le-leb (half short) v h) (by (leb (half short + size short) v) refl)
+pub from-half : (n v : ℕ) → half n ≤ v → leb (half n + size n) v ≡ isOutside n v
+from-half n v h = rw (le-leb (half n) v h) (by (leb (half n + size n) v) refl)
   where
-    by : (b : Bool) → leb (half short + size short) v ≡ b → leb (half short + size short) v ≡ not (ltb v (half short + size
-        short))
-    by true e = rw (e, le-ltb v (half short + size short) (leb-true (half short + size short) v e)) refl
-    by false e = rw (e, lt-ltb v (half short + size short) (leb-false (half short + size short) v e)) refl
+    by : (b : Bool) → leb (half n + size n) v ≡ b → leb (half n + size n) v ≡ not (ltb v (half n + size n))
+    by true e = rw (e, le-ltb v (half n + size n) (leb-true (half n + size n) v e)) refl
+    by false e = rw (e, lt-ltb v (half n + size n) (leb-false (half n + size n) v e)) refl
 
 pub shifted-bound : (v k : ℕ) → v ≤ 65_535 → k < 16 → v * 2 ^ k ≤ 65_535 * 32_768
 shifted-bound v k h h′ = mul-le-mul h (pow-mono {i = k} {j = 15} (omega arith))

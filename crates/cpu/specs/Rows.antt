@@ -8,9 +8,9 @@ use lib.ListN.{getD}
 use Rattle.model.specs.declared.machine.Status.{Status}
 use Rattle.model.specs.declared.machine.Residence.{Residence}
 use Rattle.model.specs.declared.machine.Residence.the-variants.{Memory, Instruction, Register}
-use Rattle.model.specs.Addressing.{low, pulledAt}
-use Rattle.model.specs.Arithmetic.{merged, withCarry, withResult, withStatus, withS, sum, sumStatus, difference}
-use Rattle.model.specs.Arithmetic.{differenceStatus, isPast, rotated}
+use Rattle.model.specs.AnyWidth.{low, merged, sum, difference, isPast, rotated}
+use Rattle.model.specs.Addressing.{bits, pulledAt}
+use Rattle.model.specs.Arithmetic.{withCarry, withResult, withStatus, withS, sumStatus, differenceStatus}
 use Rattle.model.specs.Effects.{Effect, effect, only, storesOf, bytes}
 use Rattle.model.specs.Status.{statusOf}
 use Rattle.cpu.specs.File.{registersOf, put}
@@ -26,36 +26,39 @@ module _ (file : List ℕ) where
   leaving s = only (withStatus s (registersOf file))
 
   module _ (to : ℕ) (short : Bool) where
+    abbrev n : ℕ
+    n = bits short
+
     abbrev pub old : ℕ
     old = getD file to 0
 
     abbrev pub lowOld : ℕ
-    lowOld = low short old
+    lowOld = low n old
 
     -- data with N and Z
     abbrev pub loading : ℕ → Status → Effect
-    loading v s = putting to (merged short old v) (withResult short v s)
+    loading v s = putting to (merged n old v) (withResult n v s)
 
     abbrev pub adding : ℕ → Effect
-    adding v = loading (sum lowOld v (status .carry)) (sumStatus short lowOld v status)
+    adding v = loading (sum lowOld v (status .carry)) (sumStatus n lowOld v status)
 
     abbrev pub subtracting : ℕ → Effect
-    subtracting v = loading (difference short lowOld v (status .carry)) (differenceStatus short lowOld v status)
+    subtracting v = loading (difference n lowOld v (status .carry)) (differenceStatus n lowOld v status)
 
     abbrev pub comparing : ℕ → Effect
     comparing v =
         leaving
-        (withResult short (difference short lowOld v true)
-        (withCarry (isPast short (difference short lowOld v true)) status))
+        (withResult n (difference n lowOld v true)
+        (withCarry (isPast n (difference n lowOld v true)) status))
 
     abbrev pub rotating : ℕ → Effect
-    rotating n = putting to (merged short old (rotated short lowOld n)) status
+    rotating k = putting to (merged n old (rotated n lowOld k)) status
 
     -- a result goes where the data came from, with C, N and Z
     abbrev pub modifying : Residence → ℕ → Bool → ℕ → Effect
     modifying Memory address carry v =
-        effect (withStatus (withResult short v (withCarry carry status)) (registersOf file))
-        (storesOf short address (low short v)) false
+        effect (withStatus (withResult n v (withCarry carry status)) (registersOf file))
+        (storesOf short address (low n v)) false
     modifying Instruction address carry v = loading v (withCarry carry status)
     modifying Register address carry v = loading v (withCarry carry status)
 
@@ -67,9 +70,9 @@ module _ (file : List ℕ) where
   abbrev pub swapping : Bool → Effect
   swapping short =
       only
-      (withStatus (withResult short (getD file 1 0) status)
-      (put 1 (merged short (getD file 1 0) (getD file 0 0))
-      (put 0 (merged short (getD file 0 0) (getD file 1 0)) (registersOf file))))
+      (withStatus (withResult (bits short) (getD file 1 0) status)
+      (put 1 (merged (bits short) (getD file 1 0) (getD file 0 0))
+      (put 0 (merged (bits short) (getD file 0 0) (getD file 1 0)) (registersOf file))))
 
   abbrev pub storing : Bool → ℕ → ℕ → Effect
   storing short address v = effect (registersOf file) (storesOf short address v) false

@@ -28,6 +28,7 @@ use model::machine::Residence;
 use model::machine::Status;
 ghost use mathlib.Core.Path.{_≡_};
 ghost use Prim.Native.Nat.{_<_};
+ghost use Rattle.model.specs.Addressing.{bits};
 ghost use Rattle.model.specs.Arithmetic as arithmetic;
 ghost use Rattle.model.specs.Status.{statusOf};
 ghost use Rattle.cpu.specs.File.{registersOf, fileSize};
@@ -51,7 +52,7 @@ pub fn loads(to: usize, short: bool, v: u64, status: u16, registers: &[u16; FILE
 
 // The status after a sum.
 fn sum_status(short: bool, a: u16, v: u16, status: u16) -> u16
-    ensures { λ r. ⌜ statusOf r ≡ arithmetic.sumStatus short a v (statusOf status) ⌝ }
+    ensures { λ r. ⌜ statusOf r ≡ arithmetic.sumStatus (bits short) a v (statusOf status) ⌝ }
 {
     let carry = is_set(Status::C, status);
     let carried = with_carry(is_past(short, sum(a, v, carry)), status);
@@ -60,7 +61,7 @@ fn sum_status(short: bool, a: u16, v: u16, status: u16) -> u16
 
 // The status after a difference.
 fn difference_status(short: bool, a: u16, v: u16, status: u16) -> u16
-    ensures { λ r. ⌜ statusOf r ≡ arithmetic.differenceStatus short a v (statusOf status) ⌝ }
+    ensures { λ r. ⌜ statusOf r ≡ arithmetic.differenceStatus (bits short) a v (statusOf status) ⌝ }
 {
     let carry = is_set(Status::C, status);
     let carried = with_carry(is_past(short, difference(short, a, v, carry)), status);

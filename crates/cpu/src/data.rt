@@ -1,8 +1,8 @@
 // Data of 8 or 16 bits: `short` says which.
 ghost use mathlib.Core.Path.{_≡_};
-ghost use Prim.Native.Nat.{_*_, _^_, _<_, _≤_};
-ghost use Rattle.model.specs.Addressing as addressing;
-ghost use Rattle.model.specs.Arithmetic as spec;
+ghost use Prim.Native.Nat.{_*_, _%_, _^_, _<_, _≤_};
+ghost use Rattle.model.specs.Addressing.{bits};
+ghost use Rattle.model.specs.AnyWidth as spec;
 ghost use Rattle.model.specs.Status.{bit};
 
 // Data where a larger number is wanted.
@@ -14,14 +14,14 @@ pub fn wide(v: u16) -> u64
 
 // How many numbers data of a width can be.
 pub fn size(short: bool) -> u64
-    ensures { λ r. ⌜ (r ≡ addressing.size short) × (0 < r) × (r ≤ 65_536) ⌝ }
+    ensures { λ r. ⌜ (r ≡ spec.size (bits short)) × (0 < r) × (r ≤ 65_536) ⌝ }
 {
     if short { 256 } else { 65_536 }
 }
 
 // The part of a number that data of a width holds.
 pub fn low(short: bool, v: u64) -> u16
-    ensures { λ r. ⌜ (r ≡ addressing.low short v) × (r < addressing.size short) ⌝ }
+    ensures { λ r. ⌜ (r ≡ spec.low (bits short) v) × (r < spec.size (bits short)) ⌝ }
 {
     if short {
         return (v % 256) as u16;
@@ -31,14 +31,14 @@ pub fn low(short: bool, v: u64) -> u16
 
 // The lowest number with the sign bit.
 pub fn half(short: bool) -> u64
-    ensures { λ r. ⌜ (r ≡ spec.half short) × (r ≤ 32_768) ⌝ }
+    ensures { λ r. ⌜ (r ≡ spec.half (bits short)) × (r ≤ 32_768) ⌝ }
 {
     if short { 128 } else { 32_768 }
 }
 
 // A flag as the sign bit.
 pub fn top_bit(short: bool, flag: bool) -> u64
-    ensures { λ r. ⌜ (r ≡ spec.topBit short flag) × (r ≤ 32_768) ⌝ }
+    ensures { λ r. ⌜ (r ≡ spec.topBit (bits short) flag) × (r ≤ 32_768) ⌝ }
 {
     if flag {
         return half(short);
@@ -48,7 +48,7 @@ pub fn top_bit(short: bool, flag: bool) -> u64
 
 // A register with data put into it.
 pub fn merged(short: bool, old: u16, v: u64) -> u16
-    ensures { λ r. ⌜ r ≡ spec.merged short old v ⌝ }
+    ensures { λ r. ⌜ r ≡ spec.merged (bits short) old v ⌝ }
 {
     if short {
         return old / 256 * 256 + (v % 256) as u16;
@@ -71,14 +71,14 @@ pub fn sum(a: u16, v: u16, carry: bool) -> u64
 
 // What a number below the size lacks to the highest number.
 fn complement(short: bool, v: u64) -> u64
-    requires { ⌜ v < addressing.size short ⌝ }
-    ensures { λ r. ⌜ (r ≡ spec.complement short v) × (r ≤ 65_535) ⌝ }
+    requires { ⌜ v < spec.size (bits short) ⌝ }
+    ensures { λ r. ⌜ (r ≡ spec.complement (bits short) v) × (r ≤ 65_535) ⌝ }
 {
     size(short) - 1 - v
 }
 
 pub fn difference(short: bool, a: u16, v: u16, carry: bool) -> u64
-    ensures { λ r. ⌜ r ≡ spec.difference short a v carry ⌝ }
+    ensures { λ r. ⌜ r ≡ spec.difference (bits short) a v carry ⌝ }
 {
     let taken = low(short, v as u64);
     a as u64 + complement(short, taken as u64) + bit_of(carry)
@@ -86,14 +86,14 @@ pub fn difference(short: bool, a: u16, v: u16, carry: bool) -> u64
 
 // Data counted from the lowest signed number on.
 fn signed(short: bool, v: u16) -> u64
-    ensures { λ r. ⌜ (r ≡ spec.signed short v) × (r < addressing.size short) × (r ≤ 65_535) ⌝ }
+    ensures { λ r. ⌜ (r ≡ spec.signed (bits short) v) × (r < spec.size (bits short)) × (r ≤ 65_535) ⌝ }
 {
     let turned = v as u64 + half(short);
     low(short, turned) as u64
 }
 
 fn is_outside(short: bool, v: u64) -> bool
-    ensures { λ r. ⌜ r ≡ spec.isOutside short v ⌝ }
+    ensures { λ r. ⌜ r ≡ spec.isOutside (bits short) v ⌝ }
 {
     if v < half(short) {
         return true;
@@ -102,13 +102,13 @@ fn is_outside(short: bool, v: u64) -> bool
 }
 
 pub fn sum_overflows(short: bool, a: u16, v: u16, carry: bool) -> bool
-    ensures { λ r. ⌜ r ≡ spec.sumOverflows short a v carry ⌝ }
+    ensures { λ r. ⌜ r ≡ spec.sumOverflows (bits short) a v carry ⌝ }
 {
     is_outside(short, signed(short, a) + signed(short, v) + bit_of(carry))
 }
 
 pub fn difference_overflows(short: bool, a: u16, v: u16, carry: bool) -> bool
-    ensures { λ r. ⌜ r ≡ spec.differenceOverflows short a v carry ⌝ }
+    ensures { λ r. ⌜ r ≡ spec.differenceOverflows (bits short) a v carry ⌝ }
 {
     is_outside(
         short,
@@ -118,14 +118,14 @@ pub fn difference_overflows(short: bool, a: u16, v: u16, carry: bool) -> bool
 
 // Whether a number passes the width.
 pub fn is_past(short: bool, v: u64) -> bool
-    ensures { λ r. ⌜ r ≡ spec.isPast short v ⌝ }
+    ensures { λ r. ⌜ r ≡ spec.isPast (bits short) v ⌝ }
 {
     size(short) <= v
 }
 
 // Data with the bits of a mask cleared.
 pub fn cleared_by(short: bool, mask: u16, v: u16) -> u16
-    ensures { λ r. ⌜ r ≡ spec.clearedBy short mask v ⌝ }
+    ensures { λ r. ⌜ r ≡ spec.clearedBy (bits short) mask v ⌝ }
 {
     let kept = complement(short, low(short, mask as u64) as u64);
     v & kept as u16
@@ -133,7 +133,7 @@ pub fn cleared_by(short: bool, mask: u16, v: u16) -> u16
 
 // How far data of a width is rotated by a count.
 fn rotation(short: bool, n: u16) -> u16
-    ensures { λ r. ⌜ (r ≡ spec.rotation short n) × (r < 16) ⌝ }
+    ensures { λ r. ⌜ (r ≡ n % bits short) × (r < 16) ⌝ }
 {
     if short { n % 8 } else { n % 16 }
 }
@@ -148,7 +148,7 @@ fn shifted(v: u16, n: u16) -> u64
 
 // Data rotated to the left.
 pub fn rotated(short: bool, v: u16, n: u16) -> u64
-    ensures { λ r. ⌜ r ≡ spec.rotated short v n ⌝ }
+    ensures { λ r. ⌜ r ≡ spec.rotated (bits short) v n ⌝ }
 {
     let moved = shifted(v, rotation(short, n));
     if short {

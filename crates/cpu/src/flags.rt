@@ -7,6 +7,7 @@ ghost use mathlib.Core.Path.{_≡_};
 ghost use Prim.Native.Nat.{_≤_, _<_};
 ghost use mathlib.Core.Bool.{not, _&&_, _||_};
 ghost use lib.Dec.{eqb};
+ghost use Rattle.model.specs.Addressing.{bits};
 ghost use Rattle.model.specs.Arithmetic as spec;
 ghost use Rattle.model.specs.Status.{isSet, bit, statusOf};
 
@@ -53,7 +54,7 @@ pub fn with_widths(m: u8, x: u8, status: u16) -> u16
 
 // N and Z of a result.
 pub fn with_result(short: bool, v: u64, status: u16) -> u16
-    ensures { λ r. ⌜ statusOf r ≡ spec.withResult short v (statusOf status) ⌝ }
+    ensures { λ r. ⌜ statusOf r ≡ spec.withResult (bits short) v (statusOf status) ⌝ }
 {
     let result = low(short, v);
     let zero = Status::Z * bit_of(result == 0) as u16;

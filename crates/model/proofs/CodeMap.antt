@@ -4,11 +4,13 @@
 -- Assumes nothing.
 use mathlib.Core.Path.{_≡_, refl}
 use mathlib.Core.Bool.{Bool, true, false, not, _&&_, _||_}
-use mathlib.Core.List.{List, []}
+use mathlib.Core.List.{List, [], _∷_}
 use Prim.Native.Nat.{ℕ, zero, suc, _≤_, _<_, _/_, _%_}
 use native.Mathlib.Omega.{arith}
 use lib.Dec.{T, leb, leb→le, ltb, eqb, eqb·suc-zero}
 use lib.ListN.{getD}
+use Rattle.model.specs.declared.code.Operation.{Operation}
+use Rattle.model.specs.declared.code.Operation.the-variants.{CLP, SEP}
 use Rattle.model.specs.declared.code.Entry.{Entry}
 use Rattle.model.specs.declared.code.Kind.{Kind}
 use Rattle.model.specs.declared.code.Flow.{Flow}
@@ -17,6 +19,10 @@ use Rattle.model.specs.declared.code.WidthEffect.{WidthEffect}
 use Rattle.model.specs.declared.code.WidthEffect.the-variants.{KeepWidths, SetM, ClearM, SetBits, ClearBits}
 use Rattle.model.specs.declared.code.LengthRule.{LengthRule}
 use Rattle.model.specs.declared.code.LengthRule.the-variants.{Fixed, MoreByM, MoreByX}
+use Rattle.model.specs.declared.machine.Residence.{Residence}
+use Rattle.model.specs.declared.machine.Residence.the-variants.{Memory, Instruction, Register}
+use Rattle.model.specs.Operations.{isIn}
+use Rattle.model.specs.Addressing.{residenceOf}
 use Rattle.model.specs.CodePages.{Form, none, plain, behind42, behind89, pages}
 use Rattle.model.specs.CodeMap.{prefixBytes, entryOf, entryAt, moreBytes, lengthAt}
 use Rattle.model.proofs.Choice.{one-or-none}
@@ -112,6 +118,30 @@ module _ (page code : ℕ) (kind : Kind) where
 
   pub return-keeps : entry .flow ≡ Return kind → entry .effect ≡ KeepWidths
   return-keeps h = kept (entry .effect) (kept-by (Return kind) h)
+
+-- the data of SEP and CLP stands behind the code
+abbrev isBehind : Residence → Bool
+isBehind Memory = false
+isBehind Instruction = true
+isBehind Register = false
+
+abbrev behindCode : ℕ → Entry → Bool
+behindCode prefix e = not (isIn (SEP ∷ CLP ∷ []) (e .operation)) || isBehind (residenceOf (e .mode))
+
+all-behind : T (every (page-test behindCode) 0 pages)
+unfolding pages plain behind42 behind89
+all-behind = tt
+
+is-behind : (r : Residence) → T (isBehind r) → r ≡ Instruction
+is-behind Memory t = absurd t
+is-behind Instruction t = refl
+is-behind Register t = absurd t
+
+pub data-behind : (page code : ℕ) (operation : Operation) → entryAt page code .operation ≡ operation
+    → isIn (SEP ∷ CLP ∷ []) operation ≡ true → residenceOf (entryAt page code .mode) ≡ Instruction
+data-behind page code operation same one =
+    is-behind (residenceOf (entryAt page code .mode))
+    (rw (same, one) at (tested-at behindCode (λ p. tt) all-behind page code))
 
 -- a length hangs on no more of a width than whether it is 0
 narrow : ℕ → ℕ

@@ -38,9 +38,10 @@ use Rattle.model.specs.Choice.{pick}
 use Rattle.model.specs.Image.{AllBytes}
 use Rattle.model.specs.Memory.{Memory, inRam, inImage, byteAt, Act, ret, load, _>>=_, Outcome, done, unmapped}
 use Rattle.model.specs.Memory.{onByte, come, dataFrom}
-use Rattle.model.specs.Addressing.{low, direct, addressOf, residenceOf, accumulatorOf, dataAt, pulledAt}
+use Rattle.model.specs.AnyWidth.{low, merged}
+use Rattle.model.specs.Addressing.{bits, direct, addressOf, residenceOf, accumulatorOf, dataAt, pulledAt}
 use Rattle.model.specs.Addressing.{operandBy, dataOf}
-use Rattle.model.specs.Arithmetic.{merged, withA, withB, withS, withDpr, withDt, withStatus}
+use Rattle.model.specs.Arithmetic.{withA, withB, withS, withDpr, withDt, withStatus}
 use Rattle.model.specs.Arithmetic.{loads, loadsA, loadsB, loadsX, loadsY}
 use Rattle.model.specs.Effects.{Effect, storesOf, pushOf, pushes, popped, modifiesBy, effectOf}
 use Rattle.model.specs.Step.{next, short}
@@ -90,7 +91,7 @@ module _ (m : Memory) (in-ram : AllBytes (m .ram)) (in-image : AllBytes (m .imag
 abbrev pub SmallData : Data → Type 0
 SmallData d = d .value < 65_536
 
-low-small : (short : Bool) (v : ℕ) → low short v < 65_536
+low-small : (short : Bool) (v : ℕ) → low (bits short) v < 65_536
 low-small true v = omega arith
 low-small false v = omega arith
 
@@ -118,7 +119,7 @@ module _ (mode : Mode) (named : Accumulator) (r : Registers) (short : Bool) (ope
 
 -- ---- what an operation leaves
 
-merged-small : (short : Bool) (old v : ℕ) → old < 65_536 → merged short old v < 65_536
+merged-small : (short : Bool) (old v : ℕ) → old < 65_536 → merged (bits short) old v < 65_536
 merged-small true old v h = omega arith
 merged-small false old v h = omega arith
 
@@ -142,25 +143,25 @@ module _ (r : Registers) (h : InWidth r) where
   in-dt n v = omega arith
 
   module _ (short : Bool) (n : ℕ) where
-    in-a : InWidth (withA (merged short (r .a) n) r)
+    in-a : InWidth (withA (merged (bits short) (r .a) n) r)
     in-a = omega (arith, merged-small short (r .a) n (h .a))
 
-    in-b : InWidth (withB (merged short (r .b) n) r)
+    in-b : InWidth (withB (merged (bits short) (r .b) n) r)
     in-b = omega (arith, merged-small short (r .b) n (h .b))
 
-    loads-a : InWidth (loadsA short n r)
+    loads-a : InWidth (loadsA (bits short) n r)
     loads-a = omega (arith, merged-small short (r .a) n (h .a))
 
-    loads-b : InWidth (loadsB short n r)
+    loads-b : InWidth (loadsB (bits short) n r)
     loads-b = omega (arith, merged-small short (r .b) n (h .b))
 
-    loads-x : InWidth (loadsX short n r)
+    loads-x : InWidth (loadsX (bits short) n r)
     loads-x = omega (arith, merged-small short (r .x) n (h .x))
 
-    loads-y : InWidth (loadsY short n r)
+    loads-y : InWidth (loadsY (bits short) n r)
     loads-y = omega (arith, merged-small short (r .y) n (h .y))
 
-    loads-in : (named : Accumulator) → InWidth (loads named short n r)
+    loads-in : (named : Accumulator) → InWidth (loads named (bits short) n r)
     loads-in Unnamed = loads-a
     loads-in A = loads-a
     loads-in B = loads-b
@@ -191,7 +192,7 @@ module _ (mode : Mode) (named : Accumulator) (short : Bool) (operand next : ℕ)
   modified carry v = by (residenceOf mode)
     where
       by : (p : Residence) → Fine (modifiesBy p named short (d .address) carry v r)
-      by InMemory = (flags _ (h .level), stores-small short (d .address) (low short v))
+      by InMemory = (flags _ (h .level), stores-small short (d .address) (low (bits short) v))
       by Immediate = (loads-in _ (flags _ (h .level)) short v named, tt)
       by Register = (loads-in _ (flags _ (h .level)) short v named, tt)
 

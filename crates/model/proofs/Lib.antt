@@ -16,8 +16,11 @@ pub mod RoundTrips
 pub mod ListForm
 pub mod Memory
 pub mod Status
+pub mod Differences
+pub mod AnyWidth
 pub mod Step
 pub mod Effects
+pub mod StatusBits
 pub mod StateBytes
 pub mod Run
 pub mod Guarantee

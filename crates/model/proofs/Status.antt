@@ -2,7 +2,7 @@
 -- and what is left above them; flags are the bits of a number made of them: a division by 2 takes the lowest away.
 -- Assumes nothing.
 use mathlib.Core.Path.{_≡_, refl, _∙_}
-use mathlib.Core.Bool.{Bool, true, false}
+use mathlib.Core.Bool.{Bool, true, false, not}
 use mathlib.Core.List.{List, [], _∷_, _++_}
 use Prim.Native.Nat.{ℕ, zero, suc, _+_, _*_, _/_, _%_, _^_, _≤_, _<_}
 use native.Mathlib.Nat.{div-add-mod, div-div-eq-div-mul, div-one, mod-lt, mul-comm, pow-suc, pow-zero}
@@ -13,7 +13,11 @@ use lib.ListN.{length}
 use Rattle.model.specs.declared.machine.Status.{Status}
 use Rattle.model.specs.Status.{bit, statusOf, numberOf, levelUnit}
 
-remainder-bit : (k : ℕ) → bit (eqb (k % 2) 1) ≡ k % 2
+pub bit-not : (f : Bool) → bit f + bit (not f) ≡ 1
+bit-not true = refl
+bit-not false = refl
+
+pub remainder-bit : (k : ℕ) → bit (eqb (k % 2) 1) ≡ k % 2
 remainder-bit k = small (k % 2) (mod-lt k (omega arith))
   where
     small : (r : ℕ) → r < 2 → bit (eqb r 1) ≡ r
@@ -46,13 +50,17 @@ status-number n =
     (halved n 32) (halved n 64) (halved n 128) ∙ div-one n)
 
 -- flags as bits, the lowest first, and a number above them
-abbrev stacked : List Bool → ℕ → ℕ
+abbrev pub stacked : List Bool → ℕ → ℕ
 stacked [] level = level
 stacked (f ∷ fs) level = bit f + 2 * stacked fs level
 
-without-lowest : (f : Bool) (q : ℕ) → (bit f + 2 * q) / 2 ≡ q
+pub without-lowest : (f : Bool) (q : ℕ) → (bit f + 2 * q) / 2 ≡ q
 without-lowest true q = omega arith
 without-lowest false q = omega arith
+
+pub lowest-bit : (f : Bool) (q : ℕ) → (bit f + 2 * q) % 2 ≡ bit f
+lowest-bit true q = omega arith
+lowest-bit false q = omega arith
 
 lowest : (f : Bool) (q : ℕ) → eqb ((bit f + 2 * q) % 2) 1 ≡ f
 lowest true q = eq-eqb ((1 + 2 * q) % 2) 1 (omega arith)
@@ -73,6 +81,21 @@ from (f ∷ before) after level =
 flag-at : (before : List Bool) (f : Bool) (after : List Bool) (level n : ℕ) → n ≡ stacked (before ++ f ∷ after) level
     → eqb (n / 2 ^ length before % 2) 1 ≡ f
 flag-at before f after level n e = rw (e, from before (f ∷ after) level) (lowest f (stacked after level))
+
+-- a status as such a number
+abbrev pub flagsOf : Status → List Bool
+flagsOf s =
+    s .carry ∷ s .zero ∷ s .disable ∷ s .decimal ∷ s .x ∷ s .m ∷ s .overflow ∷ s .negative ∷ []
+
+pub number-stacked : (s : Status) → numberOf s ≡ stacked (flagsOf s) (s .level)
+number-stacked s =
+    added (bit (s .carry)) (bit (s .zero)) (bit (s .disable)) (bit (s .decimal)) (bit (s .x)) (bit (s .m))
+    (bit (s .overflow)) (bit (s .negative)) (s .level)
+  where
+    added : (b₀ b₁ b₂ b₃ b₄ b₅ b₆ b₇ l : ℕ)
+        → 1 * b₀ + 2 * b₁ + 4 * b₂ + 8 * b₃ + 16 * b₄ + 32 * b₅ + 64 * b₆ + 128 * b₇ + 256 * l
+        ≡ b₀ + 2 * (b₁ + 2 * (b₂ + 2 * (b₃ + 2 * (b₄ + 2 * (b₅ + 2 * (b₆ + 2 * (b₇ + 2 * l)))))))
+    added b₀ b₁ b₂ b₃ b₄ b₅ b₆ b₇ l = omega arith
 
 pub number-status : (s : Status) → statusOf (numberOf s) ≡ s
 number-status s = λ j. record {
@@ -111,13 +134,8 @@ number-status s = λ j. record {
     n : Bool
     n = s .negative
 
-    added : (b₀ b₁ b₂ b₃ b₄ b₅ b₆ b₇ l : ℕ)
-        → 1 * b₀ + 2 * b₁ + 4 * b₂ + 8 * b₃ + 16 * b₄ + 32 * b₅ + 64 * b₆ + 128 * b₇ + 256 * l
-        ≡ b₀ + 2 * (b₁ + 2 * (b₂ + 2 * (b₃ + 2 * (b₄ + 2 * (b₅ + 2 * (b₆ + 2 * (b₇ + 2 * l)))))))
-    added b₀ b₁ b₂ b₃ b₄ b₅ b₆ b₇ l = omega arith
-
-    whole : numberOf s ≡ stacked (c ∷ z ∷ i ∷ d ∷ x ∷ m ∷ v ∷ n ∷ []) (s .level)
-    whole = added (bit c) (bit z) (bit i) (bit d) (bit x) (bit m) (bit v) (bit n) (s .level)
+    whole : numberOf s ≡ stacked (flagsOf s) (s .level)
+    whole = number-stacked s
 
     at : (before : List Bool) (f : Bool) (after : List Bool) → numberOf s ≡ stacked (before ++ f ∷ after) (s .level)
         → eqb (numberOf s / 2 ^ length before % 2) 1 ≡ f

@@ -10,6 +10,7 @@ use Rattle.model.specs.declared.code.WidthEffect.the-variants.{KeepWidth
 use Rattle.model.specs.declared.code.Kind.{Kind}
 use Rattle.model.specs.declared.code.Kind.the-variants.{ByRts, ByRtl}
 use Rattle.model.specs.Image.{markM, markX, markKind, returnM, returnX, markOf}
+use Rattle.model.specs.Status.{maskX, maskM}
 use Rattle.model.specs.Rules.{mAfter, xAfter, kindNumber, lastByte}
 use Rattle.model.proofs.Choice.{one-of}
 use Rattle.model.proofs.Table.{below-all}
@@ -19,16 +20,16 @@ unfolding mAfter
 m-after-bit KeepWidths m operand h = h
 m-after-bit SetM m operand h = omega arith
 m-after-bit ClearM m operand h = omega arith
-m-after-bit SetBits m operand h = one-of (eqb (operand / 32 % 2) 1) 1 m (omega arith) h
-m-after-bit ClearBits m operand h = one-of (eqb (operand / 32 % 2) 1) 0 m (omega arith) h
+m-after-bit SetBits m operand h = one-of (eqb (operand / maskM % 2) 1) 1 m (omega arith) h
+m-after-bit ClearBits m operand h = one-of (eqb (operand / maskM % 2) 1) 0 m (omega arith) h
 
 pub x-after-bit : (e : WidthEffect) (x operand : ℕ) → x ≤ 1 → xAfter e x operand ≤ 1
 unfolding xAfter
 x-after-bit KeepWidths x operand h = h
 x-after-bit SetM x operand h = h
 x-after-bit ClearM x operand h = h
-x-after-bit SetBits x operand h = one-of (eqb (operand / 16 % 2) 1) 1 x (omega arith) h
-x-after-bit ClearBits x operand h = one-of (eqb (operand / 16 % 2) 1) 0 x (omega arith) h
+x-after-bit SetBits x operand h = one-of (eqb (operand / maskX % 2) 1) 1 x (omega arith) h
+x-after-bit ClearBits x operand h = one-of (eqb (operand / maskX % 2) 1) 0 x (omega arith) h
 
 pub kind-bits : (k : Kind) → kindNumber k ≤ 3
 kind-bits ByRts = omega arith

@@ -33,6 +33,7 @@ use Rattle.model.specs.declared.machine.Data.{Data}
 use Rattle.model.specs.Choice.{pick}
 use Rattle.model.specs.Image.{bankSize, addressLimit}
 use Rattle.model.specs.Operations.{isIn}
+use Rattle.model.specs.AnyWidth.{low}
 use Rattle.model.specs.Memory.{Act, ret, _>>=_, wordFrom, longFrom, dataFrom, readWord, readLong}
 use Rattle.model.specs.Memory.{readData}
 
@@ -64,20 +65,16 @@ isShort ByX m x = x
 isShort Byte m x = true
 isShort Word m x = false
 
--- how many numbers data of 8 or of 16 bits can be
-abbrev pub size : Bool → ℕ
-size short = pick short 256 65_536
-
--- the part of a number that data of a width holds
-abbrev pub low : Bool → ℕ → ℕ
-low short v = v % size short
+-- data has 8 bits or 16
+abbrev pub bits : Bool → ℕ
+bits short = pick short 8 16
 
 -- 'Under x=1 only the low byte of X or Y enters an address'
 abbrev pub indexX : Registers → ℕ
-indexX r = low (r .status .x) (r .x)
+indexX r = low (bits (r .status .x)) (r .x)
 
 abbrev pub indexY : Registers → ℕ
-indexY r = low (r .status .x) (r .y)
+indexY r = low (bits (r .status .x)) (r .y)
 
 -- a direct address: the byte behind the code, added to DPR
 abbrev pub direct : Registers → ℕ → ℕ
@@ -210,8 +207,8 @@ inMemory mode r short operand = do
 -- the data that a mode names
 unfoldable pub operandBy : Residence → Mode → Named → Registers → Bool → ℕ → Act Data
 operandBy Memory mode register r short operand = inMemory mode r short operand
-operandBy Instruction mode register r short operand = ret (dataAt 0 (low short operand))
-operandBy Register mode register r short operand = ret (dataAt 0 (low short (accumulatorOf register r)))
+operandBy Instruction mode register r short operand = ret (dataAt 0 (low (bits short) operand))
+operandBy Register mode register r short operand = ret (dataAt 0 (low (bits short) (accumulatorOf register r)))
 
 abbrev pub operandOf : Mode → Named → Registers → Bool → ℕ → Act Data
 operandOf mode = operandBy (residenceOf mode) mode

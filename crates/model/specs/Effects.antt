@@ -1,11 +1,11 @@
 -- What each operation does with its data: manual 4.2, a line an instruction. The place of execution, the widths and the open
 -- calls are not the operation's: they go by its flow and its width effect (Step).
 -- Assumes nothing.
-use Prim.Native.Nat.{ℕ, _+_, _-_, _*_, _/_, _%_}
+use Prim.Native.Nat.{ℕ, _+_, _-_, _/_, _%_}
 use mathlib.Core.Bool.{Bool, true, false, not}
 use mathlib.Core.List.{List, [], _∷_}
 use lib.Bits.{bitAnd, bitOr}
-use lib.Dec.{eqb, leb}
+use lib.Dec.{eqb}
 use Rattle.model.specs.declared.code.Operation.{Operation}
 use Rattle.model.specs.declared.code.Operation.the-variants.{Unassigned}
 use Rattle.model.specs.declared.code.Operation.the-variants.{ADC, AND, ASL, BBC, BBS, BCC, BCS, BEQ, BMI}
@@ -41,12 +41,13 @@ use Rattle.model.specs.declared.machine.Data.{Data}
 use Rattle.model.specs.declared.machine.Store.{Store}
 use Rattle.model.specs.Choice.{pick}
 use Rattle.model.specs.Image.{bankSize}
-use Rattle.model.specs.Status.{numberOf, bit}
-use Rattle.model.specs.Addressing.{size, low, residenceOf, accumulatorOf, pulledAt}
-use Rattle.model.specs.Arithmetic.{half, topBit, withCarry, withDisable, withOverflow, withFlagsSet, withFlagsCleared}
+use Rattle.model.specs.Status.{numberOf}
+use Rattle.model.specs.AnyWidth.{low, isNegative, decremented, clearedBy, shiftedLeft, shiftedRight, isOdd}
+use Rattle.model.specs.Addressing.{bits, residenceOf, accumulatorOf, pulledAt}
+use Rattle.model.specs.Arithmetic.{withCarry, withDisable, withOverflow, withFlagsSet, withFlagsCleared}
 use Rattle.model.specs.Arithmetic.{withS, withDpr, withDt, withStatus, flagged, loadsA, loadsB, loadsX, loadsY}
 use Rattle.model.specs.Arithmetic.{loads, adds, subtracts, compares, ands, ors, exclusiveOrs}
-use Rattle.model.specs.Arithmetic.{rotatesA, swaps, clearedBy}
+use Rattle.model.specs.Arithmetic.{rotatesA, swaps}
 
 -- The registers after, the bytes to be stored in their order, and whether a branch is taken.
 pub record Effect : Type 0 where
@@ -101,9 +102,12 @@ popped short r = withS (pulledAt r (bytes short)) r
 -- a result goes where the data came from, with C, N and Z
 abbrev pub modifiesBy : Residence → Accumulator → Bool → ℕ → Bool → ℕ → Registers → Effect
 modifiesBy Memory named short address carry v r =
-    effect (flagged short v (withStatus (withCarry carry (r .status)) r)) (storesOf short address (low short v)) false
-modifiesBy Instruction named short address carry v r = only (loads named short v (withStatus (withCarry carry (r .status)) r))
-modifiesBy Register named short address carry v r = only (loads named short v (withStatus (withCarry carry (r .status)) r))
+    effect (flagged (bits short) v (withStatus (withCarry carry (r .status)) r))
+    (storesOf short address (low (bits short) v)) false
+modifiesBy Instruction named short address carry v r =
+    only (loads named (bits short) v (withStatus (withCarry carry (r .status)) r))
+modifiesBy Register named short address carry v r =
+    only (loads named (bits short) v (withStatus (withCarry carry (r .status)) r))
 
 -- SEB, CLB, BBS, BBC and LDM have immediate data behind an address of one byte or of two: how many numbers that address can be
 abbrev pub addressSize : Mode → ℕ
@@ -137,16 +141,19 @@ addressSize StackPointerRelativeIndirectIndexedY = 1
 addressSize BlockTransfer = 1
 
 abbrev pub behindAddress : Mode → Bool → ℕ → ℕ
-behindAddress mode short operand = low short (operand / addressSize mode)
+behindAddress mode short operand = low (bits short) (operand / addressSize mode)
 
--- An operation at its data: `named` is the accumulator that the entry names, `short` the width of its data, `operand` the number
--- behind its code, `next` the address after the instruction, `v` the data and `address` its place.
+-- An operation at its data: `named` is the accumulator that the entry names, `short` the width of its data, which has `n` bits,
+-- `operand` the number behind its code, `next` the address after the instruction, `v` the data and `address` its place.
 module _ (mode : Mode) (named : Accumulator) (short : Bool) (operand next : ℕ) (d : Data) (r : Registers) where
   abbrev pub v : ℕ
   v = d .value
 
   abbrev pub address : ℕ
   address = d .address
+
+  abbrev pub n : ℕ
+  n = bits short
 
   abbrev pub acc : ℕ
   acc = accumulatorOf named r
@@ -160,11 +167,11 @@ module _ (mode : Mode) (named : Accumulator) (short : Bool) (operand next : ℕ)
   -- operations of other flows, SEM, CLM and NOP leave the registers as they are, and so does what is not carried
   unfoldable pub effectOf : Operation → Effect
   effectOf Unassigned = only r
-  effectOf ADC = only (adds named short v r)
-  effectOf AND = only (ands named short v r)
-  effectOf ASL = modifies (leb (half short) v) (2 * v)
+  effectOf ADC = only (adds named n v r)
+  effectOf AND = only (ands named n v r)
+  effectOf ASL = modifies (isNegative n v) (shiftedLeft v false)
   effectOf BBC = branchesIf (eqb (bitAnd v behind) 0) r
-  effectOf BBS = branchesIf (eqb (clearedBy short v behind) 0) r
+  effectOf BBS = branchesIf (eqb (clearedBy n v behind) 0) r
   effectOf BCC = branchesIf (not (r .status .carry)) r
   effectOf BCS = branchesIf (r .status .carry) r
   effectOf BEQ = branchesIf (r .status .zero) r
@@ -175,36 +182,36 @@ module _ (mode : Mode) (named : Accumulator) (short : Bool) (operand next : ℕ)
   effectOf BRK = only r
   effectOf BVC = branchesIf (not (r .status .overflow)) r
   effectOf BVS = branchesIf (r .status .overflow) r
-  effectOf CLB = storesTo short address (clearedBy short behind v) r
+  effectOf CLB = storesTo short address (clearedBy n behind v) r
   effectOf CLC = only (withStatus (withCarry false (r .status)) r)
   effectOf CLI = only (withStatus (withDisable false (r .status)) r)
   effectOf CLM = only r
   effectOf CLP = only (withStatus (withFlagsCleared v (r .status)) r)
   effectOf CLV = only (withStatus (withOverflow false (r .status)) r)
-  effectOf CMP = only (compares short acc v r)
-  effectOf CPX = only (compares short (r .x) v r)
-  effectOf CPY = only (compares short (r .y) v r)
-  effectOf DEC = modifies (r .status .carry) (v + size short - 1)
-  effectOf DEX = only (loadsX short (r .x + 65_535) r)
-  effectOf DEY = only (loadsY short (r .y + 65_535) r)
+  effectOf CMP = only (compares n acc v r)
+  effectOf CPX = only (compares n (r .x) v r)
+  effectOf CPY = only (compares n (r .y) v r)
+  effectOf DEC = modifies (r .status .carry) (decremented n v)
+  effectOf DEX = only (loadsX n (decremented n (r .x)) r)
+  effectOf DEY = only (loadsY n (decremented n (r .y)) r)
   effectOf DIV = only r
-  effectOf EOR = only (exclusiveOrs named short v r)
+  effectOf EOR = only (exclusiveOrs named n v r)
   effectOf INC = modifies (r .status .carry) (v + 1)
-  effectOf INX = only (loadsX short (r .x + 1) r)
-  effectOf INY = only (loadsY short (r .y + 1) r)
+  effectOf INX = only (loadsX n (r .x + 1) r)
+  effectOf INY = only (loadsY n (r .y + 1) r)
   effectOf JMP = only r
   effectOf JSR = only r
-  effectOf LDA = only (loads named short v r)
+  effectOf LDA = only (loads named n v r)
   effectOf LDM = storesTo short address behind r
   effectOf LDT = only (withDt (v % 256) r)
-  effectOf LDX = only (loadsX short v r)
-  effectOf LDY = only (loadsY short v r)
-  effectOf LSR = modifies (eqb (v % 2) 1) (v / 2)
+  effectOf LDX = only (loadsX n v r)
+  effectOf LDY = only (loadsY n v r)
+  effectOf LSR = modifies (isOdd v) (shiftedRight n v false)
   effectOf MPY = only r
   effectOf MVN = only r
   effectOf MVP = only r
   effectOf NOP = only r
-  effectOf ORA = only (ors named short v r)
+  effectOf ORA = only (ors named n v r)
   effectOf PEA = pushes short operand r
   effectOf PEI = pushes short v r
   effectOf PER = pushes short (next + operand) r
@@ -216,22 +223,22 @@ module _ (mode : Mode) (named : Accumulator) (short : Bool) (operand next : ℕ)
   effectOf PHT = pushes short (r .dt) r
   effectOf PHX = pushes short (r .x) r
   effectOf PHY = pushes short (r .y) r
-  effectOf PLA = only (loadsA short v (popped short r))
-  effectOf PLB = only (loadsB short v (popped short r))
+  effectOf PLA = only (loadsA n v (popped short r))
+  effectOf PLB = only (loadsB n v (popped short r))
   effectOf PLD = only (withDpr v (popped short r))
   effectOf PLP = only r
-  effectOf PLT = only (flagged short v (withDt (v % 256) (popped short r)))
-  effectOf PLX = only (loadsX short v (popped short r))
-  effectOf PLY = only (loadsY short v (popped short r))
+  effectOf PLT = only (flagged n v (withDt (v % 256) (popped short r)))
+  effectOf PLX = only (loadsX n v (popped short r))
+  effectOf PLY = only (loadsY n v (popped short r))
   effectOf PSH = only r
   effectOf PUL = only r
-  effectOf RLA = only (rotatesA short v r)
-  effectOf ROL = modifies (leb (half short) v) (2 * v + bit (r .status .carry))
-  effectOf ROR = modifies (eqb (v % 2) 1) (v / 2 + topBit short (r .status .carry))
+  effectOf RLA = only (rotatesA n v r)
+  effectOf ROL = modifies (isNegative n v) (shiftedLeft v (r .status .carry))
+  effectOf ROR = modifies (isOdd v) (shiftedRight n v (r .status .carry))
   effectOf RTI = only r
   effectOf RTL = only r
   effectOf RTS = only r
-  effectOf SBC = only (subtracts named short v r)
+  effectOf SBC = only (subtracts named n v r)
   effectOf SEB = storesTo short address (bitOr v behind) r
   effectOf SEC = only (withStatus (withCarry true (r .status)) r)
   effectOf SEI = only (withStatus (withDisable true (r .status)) r)
@@ -243,23 +250,23 @@ module _ (mode : Mode) (named : Accumulator) (short : Bool) (operand next : ℕ)
   effectOf STY = storesTo short address (r .y) r
   effectOf TAD = only (withDpr (r .a) r)
   effectOf TAS = only (withS (r .a) r)
-  effectOf TAX = only (loadsX short (r .a) r)
-  effectOf TAY = only (loadsY short (r .a) r)
+  effectOf TAX = only (loadsX n (r .a) r)
+  effectOf TAY = only (loadsY n (r .a) r)
   effectOf TBD = only (withDpr (r .b) r)
   effectOf TBS = only (withS (r .b) r)
-  effectOf TBX = only (loadsX short (r .b) r)
-  effectOf TBY = only (loadsY short (r .b) r)
-  effectOf TDA = only (loadsA short (r .dpr) r)
-  effectOf TDB = only (loadsB short (r .dpr) r)
-  effectOf TSA = only (loadsA short (r .s) r)
-  effectOf TSB = only (loadsB short (r .s) r)
-  effectOf TSX = only (loadsX short (r .s) r)
-  effectOf TXA = only (loadsA short (r .x) r)
-  effectOf TXB = only (loadsB short (r .x) r)
+  effectOf TBX = only (loadsX n (r .b) r)
+  effectOf TBY = only (loadsY n (r .b) r)
+  effectOf TDA = only (loadsA n (r .dpr) r)
+  effectOf TDB = only (loadsB n (r .dpr) r)
+  effectOf TSA = only (loadsA n (r .s) r)
+  effectOf TSB = only (loadsB n (r .s) r)
+  effectOf TSX = only (loadsX n (r .s) r)
+  effectOf TXA = only (loadsA n (r .x) r)
+  effectOf TXB = only (loadsB n (r .x) r)
   effectOf TXS = only (withS (r .x) r)
-  effectOf TXY = only (loadsY short (r .x) r)
-  effectOf TYA = only (loadsA short (r .y) r)
-  effectOf TYB = only (loadsB short (r .y) r)
-  effectOf TYX = only (loadsX short (r .y) r)
+  effectOf TXY = only (loadsY n (r .x) r)
+  effectOf TYA = only (loadsA n (r .y) r)
+  effectOf TYB = only (loadsB n (r .y) r)
+  effectOf TYX = only (loadsX n (r .y) r)
   effectOf WIT = only r
-  effectOf XAB = only (swaps short r)
+  effectOf XAB = only (swaps n r)

@@ -13,11 +13,13 @@ pub mod Digits
 pub mod MarkList
 pub mod ListForm
 pub mod Status
+pub mod AnyWidth
 pub mod Memory
 pub mod Addressing
 pub mod Arithmetic
 pub mod Effects
 pub mod Step
+pub mod StatusBits
 pub mod StateBytes
 pub mod Run
 pub mod Guarantee

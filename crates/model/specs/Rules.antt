@@ -21,6 +21,7 @@ use Rattle.model.specs.declared.rules.Want.{Want}
 use Rattle.model.specs.declared.rules.Owed.{Owed}
 use Rattle.model.specs.declared.rules.Owed.the-variants.{Nothing, One, Two}
 use Rattle.model.specs.Choice.{pick}
+use Rattle.model.specs.Status.{maskX, maskM}
 use Rattle.model.specs.Image.{addressLimit, isStart, markM, markX, markKind, returnM, returnX}
 use Rattle.model.specs.Image.{markOf, isFormed, lengthFits, baseFits, markAt, inBankOf, resetFits}
 use Rattle.model.specs.Decode.{decode}
@@ -50,8 +51,8 @@ targetOf Offset16 address n operand = offsetBy 32_768 (nextAddress address n) op
 targetOf Address16 address n operand = inBankOf address operand
 targetOf Address24 address n operand = operand
 
--- 'the widths in force after the instruction. Only SEM, CLM, SEP and CLP change them, by their fixed bits': m is bit 5 of
--- the status register, x is bit 4
+-- 'the widths in force after the instruction. Only SEM, CLM, SEP and CLP change them, by their fixed bits': the places of m
+-- and x in the status register
 abbrev pub setBit : ℕ → ℕ → ℕ
 setBit width bit = pick (eqb bit 1) 1 width
 
@@ -62,15 +63,15 @@ unfoldable pub mAfter : WidthEffect → ℕ → ℕ → ℕ
 mAfter KeepWidths m operand = m
 mAfter SetM m operand = 1
 mAfter ClearM m operand = 0
-mAfter SetBits m operand = setBit m (operand / 32 % 2)
-mAfter ClearBits m operand = clearBit m (operand / 32 % 2)
+mAfter SetBits m operand = setBit m (operand / maskM % 2)
+mAfter ClearBits m operand = clearBit m (operand / maskM % 2)
 
 unfoldable pub xAfter : WidthEffect → ℕ → ℕ → ℕ
 xAfter KeepWidths x operand = x
 xAfter SetM x operand = x
 xAfter ClearM x operand = x
-xAfter SetBits x operand = setBit x (operand / 16 % 2)
-xAfter ClearBits x operand = clearBit x (operand / 16 % 2)
+xAfter SetBits x operand = setBit x (operand / maskX % 2)
+xAfter ClearBits x operand = clearBit x (operand / maskX % 2)
 
 -- kinds as a mark has them
 abbrev pub kindNumber : Kind → ℕ

@@ -2,10 +2,9 @@
 -- register's own, and a result that goes where the data came from goes by where that was.
 -- Assumes nothing.
 use mathlib.Core.Path.{_≡_, refl, sym, ap, _∙_}
-use mathlib.Core.Bool.{Bool}
+use mathlib.Core.Bool.{Bool, false}
 use mathlib.Core.List.{List}
-use Prim.Native.Nat.{ℕ, _+_, _-_, _*_, _/_, _%_}
-use lib.Dec.{eqb, leb}
+use Prim.Native.Nat.{ℕ, _+_}
 use lib.ListN.{getD}
 use Rattle.model.specs.declared.code.Operation.{Operation}
 use Rattle.model.specs.declared.code.Operation.the-variants.{Unassigned}
@@ -26,10 +25,10 @@ use Rattle.model.specs.declared.code.Accumulator.the-variants.{Unnamed, A, B}
 use Rattle.model.specs.declared.machine.Data.{Data}
 use Rattle.model.specs.declared.machine.Residence.{Residence}
 use Rattle.model.specs.declared.machine.Residence.the-variants.{Memory, Instruction, Register}
-use Rattle.model.specs.Addressing.{residenceOf, size}
-use Rattle.model.specs.Arithmetic.{half, topBit}
+use Rattle.model.specs.AnyWidth.{isNegative, decremented, shiftedLeft, shiftedRight, isOdd}
+use Rattle.model.specs.Addressing.{bits, residenceOf}
 use Rattle.model.specs.Effects.{effectOf, modifiesBy, pushes}
-use Rattle.model.specs.Status.{maskC, isSet, bit}
+use Rattle.model.specs.Status.{maskC, isSet}
 use Rattle.model.proofs.Status.{status-number}
 use Rattle.codepages.specs.Packing.{unpacked}
 use Rattle.actions.specs.Tasks.{taskOf, acc, packed, unpackedTask}
@@ -64,8 +63,8 @@ by-task mode Unnamed short operand next d file AND = refl
 by-task mode A short operand next d file AND = refl
 by-task mode B short operand next d file AND = refl
 by-task mode named short operand next d file ASL =
-    modified (residenceOf mode) named short (d .address) (leb (half short) (d .value))
-    (2 * d .value) file
+    modified (residenceOf mode) named short (d .address) (isNegative (bits short) (d .value))
+    (shiftedLeft (d .value) false) file
 by-task mode named short operand next d file BBC = refl
 by-task mode named short operand next d file BBS = refl
 by-task mode named short operand next d file BCC = refl
@@ -91,7 +90,7 @@ by-task mode named short operand next d file CPX = refl
 by-task mode named short operand next d file CPY = refl
 by-task mode named short operand next d file DEC =
     modified (residenceOf mode) named short (d .address) (isSet maskC (getD file 7 0))
-    (d .value + size short - 1) file
+    (decremented (bits short) (d .value)) file
 by-task mode named short operand next d file DEX = refl
 by-task mode named short operand next d file DEY = refl
 by-task mode named short operand next d file DIV = refl
@@ -113,8 +112,8 @@ by-task mode named short operand next d file LDT = refl
 by-task mode named short operand next d file LDX = refl
 by-task mode named short operand next d file LDY = refl
 by-task mode named short operand next d file LSR =
-    modified (residenceOf mode) named short (d .address) (eqb (d .value % 2) 1)
-    (d .value / 2) file
+    modified (residenceOf mode) named short (d .address) (isOdd (d .value))
+    (shiftedRight (bits short) (d .value) false) file
 by-task mode named short operand next d file MPY = refl
 by-task mode named short operand next d file MVN = refl
 by-task mode named short operand next d file MVP = refl
@@ -145,11 +144,11 @@ by-task mode named short operand next d file PSH = refl
 by-task mode named short operand next d file PUL = refl
 by-task mode named short operand next d file RLA = refl
 by-task mode named short operand next d file ROL =
-    modified (residenceOf mode) named short (d .address) (leb (half short) (d .value))
-    (2 * d .value + bit (isSet maskC (getD file 7 0))) file
+    modified (residenceOf mode) named short (d .address) (isNegative (bits short) (d .value))
+    (shiftedLeft (d .value) (isSet maskC (getD file 7 0))) file
 by-task mode named short operand next d file ROR =
-    modified (residenceOf mode) named short (d .address) (eqb (d .value % 2) 1)
-    (d .value / 2 + topBit short (isSet maskC (getD file 7 0))) file
+    modified (residenceOf mode) named short (d .address) (isOdd (d .value))
+    (shiftedRight (bits short) (d .value) (isSet maskC (getD file 7 0))) file
 by-task mode named short operand next d file RTI = refl
 by-task mode named short operand next d file RTL = refl
 by-task mode named short operand next d file RTS = refl

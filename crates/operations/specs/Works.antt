@@ -1,10 +1,10 @@
 -- What each action does: the operations of model/specs/Effects.antt, those that differ in their registers alone in one line.
 -- Assumes nothing.
-use Prim.Native.Nat.{ℕ, _+_, _-_, _*_, _/_, _%_}
-use mathlib.Core.Bool.{Bool, not}
+use Prim.Native.Nat.{ℕ, _+_, _/_, _%_}
+use mathlib.Core.Bool.{Bool, false, not}
 use mathlib.Core.List.{List}
 use lib.Bits.{bitAnd, bitOr, bitXor}
-use lib.Dec.{eqb, leb}
+use lib.Dec.{eqb}
 use lib.ListN.{getD}
 use Rattle.actions.specs.declared.Action.{Action}
 use Rattle.actions.specs.declared.Action.the-variants.{Leave, Add, And, ShiftLeft, BranchBitsClear, BranchBitsSet, BranchCarry, BranchZero}
@@ -17,12 +17,12 @@ use Rattle.actions.specs.Tasks.{Task}
 use Rattle.model.specs.declared.code.Mode.{Mode}
 use Rattle.model.specs.declared.machine.Data.{Data}
 use Rattle.model.specs.Choice.{pick}
-use Rattle.model.specs.Addressing.{residenceOf, size}
-use Rattle.model.specs.Arithmetic.{half, topBit, merged, clearedBy, withCarry, withDisable, withOverflow, withResult}
-use Rattle.model.specs.Arithmetic.{withFlagsSet, withFlagsCleared}
+use Rattle.model.specs.AnyWidth.{merged, isNegative, decremented, clearedBy, shiftedLeft, shiftedRight, isOdd}
+use Rattle.model.specs.Addressing.{bits, residenceOf}
+use Rattle.model.specs.Arithmetic.{withCarry, withDisable, withOverflow, withResult, withFlagsSet, withFlagsCleared}
 use Rattle.model.specs.Effects.{Effect, only, pushes, behindAddress}
 use Rattle.model.specs.Image.{bankSize}
-use Rattle.model.specs.Status.{maskC, maskZ, maskV, maskN, isSet, bit}
+use Rattle.model.specs.Status.{maskC, maskZ, maskV, maskN, isSet}
 use Rattle.cpu.specs.File.{registersOf}
 use Rattle.cpu.specs.Rows.{status, lowOld, putting, leaving, loading, adding, subtracting, comparing, rotating, modifying}
 use Rattle.cpu.specs.Rows.{pulling, swapping, storing, branching}
@@ -37,6 +37,9 @@ module _ (mode : Mode) (short : Bool) (operand next : ℕ) (d : Data) (file : Li
 
   abbrev address : ℕ
   address = d .address
+
+  abbrev n : ℕ
+  n = bits short
 
   abbrev behind : ℕ
   behind = behindAddress mode short operand
@@ -54,28 +57,28 @@ module _ (mode : Mode) (short : Bool) (operand next : ℕ) (d : Data) (file : Li
   byAction Leave source to = only (registersOf file)
   byAction Add source to = adding file to short v
   byAction And source to = loading file to short (bitAnd (lowOld file to short) v) (status file)
-  byAction ShiftLeft source to = modifies to (leb (half short) v) (2 * v)
+  byAction ShiftLeft source to = modifies to (isNegative n v) (shiftedLeft v false)
   byAction BranchBitsClear source to = branching file (eqb (bitAnd v behind) 0)
-  byAction BranchBitsSet source to = branching file (eqb (clearedBy short v behind) 0)
+  byAction BranchBitsSet source to = branching file (eqb (clearedBy n v behind) 0)
   byAction BranchCarry source to = branchesOn source maskC
   byAction BranchZero source to = branchesOn source maskZ
   byAction BranchNegative source to = branchesOn source maskN
   byAction BranchOverflow source to = branchesOn source maskV
-  byAction ClearBits source to = storing file short address (clearedBy short behind v)
+  byAction ClearBits source to = storing file short address (clearedBy n behind v)
   byAction SetCarry source to = leaving file (withCarry (eqb source 1) (status file))
   byAction SetDisable source to = leaving file (withDisable (eqb source 1) (status file))
   byAction ClearFlags source to = leaving file (withFlagsCleared v (status file))
   byAction SetOverflow source to = leaving file (withOverflow (eqb source 1) (status file))
   byAction Compare source to = comparing file source short v
-  byAction Decrement source to = modifies to carry (v + size short - 1)
-  byAction CountDown source to = loading file to short (getD file to 0 + 65_535) (status file)
+  byAction Decrement source to = modifies to carry (decremented n v)
+  byAction CountDown source to = loading file to short (decremented n (getD file to 0)) (status file)
   byAction ExclusiveOr source to = loading file to short (bitXor (lowOld file to short) v) (status file)
   byAction Increment source to = modifies to carry (v + 1)
   byAction CountUp source to = loading file to short (getD file to 0 + 1) (status file)
   byAction Load source to = loading file to short v (status file)
   byAction StoreImmediate source to = storing file short address behind
   byAction LoadBank source to = putting file 6 v (status file)
-  byAction ShiftRight source to = modifies to (eqb (v % 2) 1) (v / 2)
+  byAction ShiftRight source to = modifies to (isOdd v) (shiftedRight n v false)
   byAction Or source to = loading file to short (bitOr (lowOld file to short) v) (status file)
   byAction PushOperand source to = pushes short operand (registersOf file)
   byAction PushData source to = pushes short v (registersOf file)
@@ -84,12 +87,12 @@ module _ (mode : Mode) (short : Bool) (operand next : ℕ) (d : Data) (file : Li
   byAction PushProgramBank source to = pushes short (next / bankSize) (registersOf file)
   byAction PushStatus source to = pushes short (getD file 7 0) (registersOf file)
   byAction PushDataBank source to = pushes short (getD file 6 0 % 256) (registersOf file)
-  byAction Pull source to = pulling file to short (merged short (getD file to 0) v) (withResult short v (status file))
+  byAction Pull source to = pulling file to short (merged n (getD file to 0) v) (withResult n v (status file))
   byAction PullPage source to = pulling file 5 short v (status file)
-  byAction PullBank source to = pulling file 6 short v (withResult short v (status file))
+  byAction PullBank source to = pulling file 6 short v (withResult n v (status file))
   byAction Rotate source to = rotating file to short v
-  byAction RotateLeft source to = modifies to (leb (half short) v) (2 * v + bit carry)
-  byAction RotateRight source to = modifies to (eqb (v % 2) 1) (v / 2 + topBit short carry)
+  byAction RotateLeft source to = modifies to (isNegative n v) (shiftedLeft v carry)
+  byAction RotateRight source to = modifies to (isOdd v) (shiftedRight n v carry)
   byAction Subtract source to = subtracting file to short v
   byAction SetBits source to = storing file short address (bitOr v behind)
   byAction SetFlags source to = leaving file (withFlagsSet v (status file))

@@ -33,16 +33,18 @@ use model::code::Mode;
 use model::machine::Data;
 use model::machine::Status;
 ghost use mathlib.Core.Path.{_≡_};
-ghost use Prim.Native.Nat.{_+_, _-_, _*_, _/_, _%_, _<_};
+ghost use mathlib.Core.Bool.{false};
+ghost use Prim.Native.Nat.{_+_, _/_, _%_, _<_};
 ghost use lib.Bits.{bitAnd, bitOr, bitXor};
-ghost use lib.Dec.{eqb, leb};
+ghost use lib.Dec.{eqb};
 ghost use lib.ListN.{getD};
-ghost use Rattle.model.specs.Addressing.{residenceOf, size};
+ghost use Rattle.model.specs.Addressing.{bits, residenceOf};
+ghost use Rattle.model.specs.AnyWidth as width;
 ghost use Rattle.model.specs.Arithmetic as arithmetic;
 ghost use Rattle.model.specs.Decode.{operandLimit};
 ghost use Rattle.model.specs.Effects as spec;
 ghost use Rattle.model.specs.Image.{addressLimit, bankSize};
-ghost use Rattle.model.specs.Status.{maskC, maskZ, maskV, maskN, isSet, bit};
+ghost use Rattle.model.specs.Status.{maskC, maskZ, maskV, maskN, isSet};
 ghost use Rattle.cpu.specs.File.{registersOf, fileSize};
 ghost use Rattle.cpu.specs.Rows as rows;
 ghost use Rattle.cpu.specs.View.{viewed, Placed};
@@ -122,7 +124,7 @@ pub fn shift_left(
     ensures { λ r. ⌜
         (viewed r (registersOf (now (registers .entry)))
         ≡ rows.modifying (now (registers .entry)) to short (residenceOf mode) (given .address)
-        (leb (arithmetic.half short) (given .value)) (2 * given .value))
+        (width.isNegative (bits short) (given .value)) (width.shiftedLeft (given .value) false))
         × Placed r
         ⌝ }
 {
@@ -150,7 +152,7 @@ pub fn shift_right(
     ensures { λ r. ⌜
         (viewed r (registersOf (now (registers .entry)))
         ≡ rows.modifying (now (registers .entry)) to short (residenceOf mode) (given .address)
-        (eqb (given .value % 2) 1) (given .value / 2))
+        (width.isOdd (given .value)) (width.shiftedRight (bits short) (given .value) false))
         × Placed r
         ⌝ }
 {
@@ -178,8 +180,8 @@ pub fn rotate_left(
     ensures { λ r. ⌜
         (viewed r (registersOf (now (registers .entry)))
         ≡ rows.modifying (now (registers .entry)) to short (residenceOf mode) (given .address)
-        (leb (arithmetic.half short) (given .value))
-        (2 * given .value + bit (isSet maskC (getD (now (registers .entry)) 7 0))))
+        (width.isNegative (bits short) (given .value))
+        (width.shiftedLeft (given .value) (isSet maskC (getD (now (registers .entry)) 7 0))))
         × Placed r
         ⌝ }
 {
@@ -208,8 +210,8 @@ pub fn rotate_right(
     ensures { λ r. ⌜
         (viewed r (registersOf (now (registers .entry)))
         ≡ rows.modifying (now (registers .entry)) to short (residenceOf mode) (given .address)
-        (eqb (given .value % 2) 1)
-        (given .value / 2 + arithmetic.topBit short (isSet maskC (getD (now (registers .entry)) 7 0))))
+        (width.isOdd (given .value))
+        (width.shiftedRight (bits short) (given .value) (isSet maskC (getD (now (registers .entry)) 7 0))))
         × Placed r
         ⌝ }
 {
@@ -267,7 +269,7 @@ pub fn decrement(
     ensures { λ r. ⌜
         (viewed r (registersOf (now (registers .entry)))
         ≡ rows.modifying (now (registers .entry)) to short (residenceOf mode) (given .address)
-        (isSet maskC (getD (now (registers .entry)) 7 0)) (given .value + size short - 1))
+        (isSet maskC (getD (now (registers .entry)) 7 0)) (width.decremented (bits short) (given .value)))
         × Placed r
         ⌝ }
 {
@@ -315,8 +317,8 @@ pub fn count_down(to: usize, short: bool, registers: &[u16; FILE_SIZE]) -> Effec
     requires { ⌜ to < fileSize ⌝ }
     ensures { λ r. ⌜
         (viewed r (registersOf (now (registers .entry)))
-        ≡ rows.loading (now (registers .entry)) to short (getD (now (registers .entry)) to 0 + 65_535)
-        (rows.status (now (registers .entry))))
+        ≡ rows.loading (now (registers .entry)) to short
+        (width.decremented (bits short) (getD (now (registers .entry)) to 0)) (rows.status (now (registers .entry))))
         × Placed r
         ⌝ }
 {
@@ -514,7 +516,7 @@ pub fn branch_bits_set(
     ensures { λ r. ⌜
         (viewed r (registersOf (now (registers .entry)))
         ≡ rows.branching (now (registers .entry))
-        (eqb (arithmetic.clearedBy short v (spec.behindAddress mode short operand)) 0))
+        (eqb (width.clearedBy (bits short) v (spec.behindAddress mode short operand)) 0))
         × Placed r
         ⌝ }
 {
@@ -571,7 +573,7 @@ pub fn clear_bits(
     ensures { λ r. ⌜
         (viewed r (registersOf (now (registers .entry)))
         ≡ rows.storing (now (registers .entry)) short (given .address)
-        (arithmetic.clearedBy short (spec.behindAddress mode short operand) (given .value)))
+        (width.clearedBy (bits short) (spec.behindAddress mode short operand) (given .value)))
         × Placed r
         ⌝ }
 {
@@ -665,8 +667,8 @@ pub fn pull(to: usize, short: bool, v: u16, registers: &[u16; FILE_SIZE]) -> Eff
     ensures { λ r. ⌜
         (viewed r (registersOf (now (registers .entry)))
         ≡ rows.pulling (now (registers .entry)) to short
-        (arithmetic.merged short (getD (now (registers .entry)) to 0) v)
-        (arithmetic.withResult short v (rows.status (now (registers .entry)))))
+        (width.merged (bits short) (getD (now (registers .entry)) to 0) v)
+        (arithmetic.withResult (bits short) v (rows.status (now (registers .entry)))))
         × Placed r
         ⌝ }
 {
@@ -691,7 +693,7 @@ pub fn pull_bank(short: bool, v: u16, registers: &[u16; FILE_SIZE]) -> Effect
     ensures { λ r. ⌜
         (viewed r (registersOf (now (registers .entry)))
         ≡ rows.pulling (now (registers .entry)) 6 short v
-        (arithmetic.withResult short v (rows.status (now (registers .entry)))))
+        (arithmetic.withResult (bits short) v (rows.status (now (registers .entry)))))
         × Placed r
         ⌝ }
 {

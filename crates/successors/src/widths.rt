@@ -1,7 +1,13 @@
 // The widths after an instruction, for the check and the machine alike.
 use model::code::WidthEffect;
+use model::machine::Status;
 ghost use mathlib.Core.Path.{_≡_};
 ghost use Rattle.model.specs.Rules as rules;
+
+// The places of m and x in the status register.
+const M: u64 = Status::M as u64;
+
+const X: u64 = Status::X as u64;
 
 // A width after a bit of a number that sets it.
 fn set_bit(width: u8, bit: u64) -> u8
@@ -24,8 +30,8 @@ pub fn m_after(effect: WidthEffect, m: u8, operand: u64) -> u8
         WidthEffect::KeepWidths => m,
         WidthEffect::SetM => 1,
         WidthEffect::ClearM => 0,
-        WidthEffect::SetBits => set_bit(m, operand / 32 % 2),
-        WidthEffect::ClearBits => clear_bit(m, operand / 32 % 2),
+        WidthEffect::SetBits => set_bit(m, operand / M % 2),
+        WidthEffect::ClearBits => clear_bit(m, operand / M % 2),
     }
 }
 
@@ -36,7 +42,7 @@ pub fn x_after(effect: WidthEffect, x: u8, operand: u64) -> u8
         WidthEffect::KeepWidths => x,
         WidthEffect::SetM => x,
         WidthEffect::ClearM => x,
-        WidthEffect::SetBits => set_bit(x, operand / 16 % 2),
-        WidthEffect::ClearBits => clear_bit(x, operand / 16 % 2),
+        WidthEffect::SetBits => set_bit(x, operand / X % 2),
+        WidthEffect::ClearBits => clear_bit(x, operand / X % 2),
     }
 }

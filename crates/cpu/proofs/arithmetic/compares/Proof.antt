@@ -1,6 +1,7 @@
 -- The flags of a difference, and nothing else.
 -- Assumes nothing.
 use Rattle.cpu.proofs.Steps.{through}
+use Rattle.model.specs.Addressing.{bits}
 use Rattle.model.specs.Arithmetic.{withResult}
 use Rattle.cpu.specs.Rows.{leaving}
 use mathlib.Core.Path.{refl, ap, _∙_}
@@ -13,7 +14,7 @@ returns : tie.Need-returns
 returns c =
     let start = c .before .before .before .before .before .before .before .before .before in
     rw (c .leaves .ensures) (
-      ap (leaving (start .args .registers .now)) (through (withResult (start .args .short) (c
+      ap (leaving (start .args .registers .now)) (through (withResult (bits (start .args .short)) (c
           .before .before .before .before .before .difference .result)) (c .before .with-result .ensures) (c .before
           .before .with-carry .ensures)) ∙ rw (
             c .before .before .before .before .is-past .ensures,

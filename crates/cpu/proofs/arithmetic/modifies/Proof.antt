@@ -5,6 +5,7 @@ use mathlib.Core.Bool.{false}
 use Rattle.memory.specs.Listed.{listed}
 use Rattle.cpu.specs.File.{registersOf}
 use Rattle.model.specs.Effects.{effect}
+use Rattle.model.specs.Addressing.{bits}
 use Rattle.model.specs.Arithmetic.{withResult, withStatus}
 use Rattle.cpu.specs.Rows.{loading}
 use mathlib.Core.Path.{refl, ap, _∙_}
@@ -19,8 +20,8 @@ returns c =
     rw (c .stores-to .ensures .0, c .before .before .before .enum-told .given .1) (
       ap (λ s. effect (withStatus s
           (registersOf (start .args .registers .now))) (listed (c .stores-to .result .stores)) false) (through (withResult
-          (start .args .short) (start .args .v)) (c .before .with-result .ensures) (c .before .before .before .before
-          .before .with-carry .ensures)) ∙ rw (
+          (bits (start .args .short)) (start .args .v)) (c .before .with-result .ensures) (c .before .before .before
+          .before .before .with-carry .ensures)) ∙ rw (
             c .stores-to .ensures .1,
             c .before .before .low .ensures .0,
             c .before

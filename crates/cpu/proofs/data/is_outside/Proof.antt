@@ -1,5 +1,6 @@
 -- The two ends of the signed range, one after the other.
 -- Assumes nothing.
+use Rattle.model.specs.Addressing.{bits}
 use Rattle.cpu.proofs.Outside.{below-half, from-half}
 use borrow.Author.Needs.{needs}
 use Rattle.cpu.proofs.data.is_outside.Statement.{statement}
@@ -7,14 +8,14 @@ use Rattle.cpu.proofs.data.is_outside.Tie as tie
 
 returns : tie.Need-returns
 returns c =
-    below-half (c .before .before .args .short) (c .before .before .args .v) (rw (← c .before .half .ensures .0) (c
-    .if1 .taken))
+    below-half (bits (c .before .before .args .short)) (c .before .before .args .v)
+    (rw (← c .before .half .ensures .0) (c .if1 .taken))
 
 returns-2 : tie.Need-returns-2
 returns-2 c =
-    rw (c .before .half2 .ensures .0, c .size .ensures .0) (from-half (c .before .before .before .before .args .short)
-    (c .before .before .before .before .args .v) (rw (← c .before .before .before .half .ensures .0) (c .before
-    .before .if1 .left)))
+    rw (c .before .half2 .ensures .0, c .size .ensures .0)
+    (from-half (bits (c .before .before .before .before .args .short)) (c .before .before .before .before .args .v)
+    (rw (← c .before .before .before .half .ensures .0) (c .before .before .if1 .left)))
 
 pub is-outside-spec : {M : Type 1} → statement M
 is-outside-spec =

@@ -1,5 +1,6 @@
 -- By the width.
 -- Assumes nothing.
+use native.Mathlib.Omega.{arith}
 use mathlib.Core.Path.{refl}
 use borrow.Author.Needs.{needs}
 use Rattle.cpu.proofs.data.merged.Statement.{statement}
@@ -9,7 +10,7 @@ returns : tie.Need-returns
 returns c = rw (c .if1 .taken) refl
 
 returns-2 : tie.Need-returns-2
-returns-2 c = rw (c .if1 .left) refl
+returns-2 c = rw (c .if1 .left) (omega arith)
 
 pub merged-spec : {M : Type 1} → statement M
 merged-spec =

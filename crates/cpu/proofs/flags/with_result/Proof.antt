@@ -1,5 +1,6 @@
 -- N and Z of the part that the width holds are taken away and put anew.
 -- Assumes nothing.
+use Rattle.model.specs.Addressing.{bits}
 use Rattle.cpu.proofs.Numbers.{result-changed}
 use borrow.Author.Needs.{needs}
 use Rattle.cpu.proofs.flags.with_result.Statement.{statement}
@@ -13,7 +14,7 @@ returns c =
       c .before .half .ensures .0,
       c .before .before .before .low .ensures .0,
     )
-    (let args = c .before .before .before .before .args in result-changed (args .short) (args .v) (args .status))
+    (let args = c .before .before .before .before .args in result-changed (bits (args .short)) (args .v) (args .status))
 
 pub with-result-spec : {M : Type 1} → statement M
 with-result-spec =

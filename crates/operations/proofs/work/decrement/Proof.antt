@@ -4,12 +4,13 @@ use Prim.Native.Nat.{ℕ, _+_, _-_}
 use mathlib.Core.Path.{_≡_, refl, _∙_}
 use mathlib.Core.Bool.{Bool}
 use borrow.Author.Needs.{needs}
-use Rattle.model.specs.Addressing.{size}
+use Rattle.model.specs.AnyWidth.{size, decremented}
+use Rattle.model.specs.Addressing.{bits}
 use Rattle.operations.proofs.work.decrement.Statement.{statement}
 use Rattle.operations.proofs.work.decrement.Tie as tie
 
 -- one below, at the width of the data
-lowered : (v n : ℕ) (short : Bool) → n ≡ size short → v + n - 1 ≡ v + size short - 1
+lowered : (v n : ℕ) (short : Bool) → n ≡ size (bits short) → v + n - 1 ≡ decremented (bits short) v
 lowered v n short sized = rw (sized) refl
 
 returns : tie.Need-returns

@@ -5,6 +5,7 @@ use mathlib.Core.Path.{_≡_, ap, _∙_}
 use mathlib.Core.Bool.{Bool}
 use mathlib.Core.List.{List}
 use borrow.Author.Needs.{needs}
+use Rattle.model.specs.Addressing.{bits}
 use Rattle.model.specs.Arithmetic.{withResult}
 use Rattle.model.specs.Effects.{Effect}
 use Rattle.model.specs.declared.machine.Status.{Status}
@@ -15,9 +16,10 @@ use Rattle.operations.proofs.work.pull_bank.Tie as tie
 -- the status that is put is the one with N and Z of the data
 flagged :
     (file : List ℕ) (short : Bool) (v : ℕ) {n : ℕ} {e : Effect} {s : Status} → e ≡ pulling file 6 short v s →
-    n ≡ v → s ≡ withResult short n (status file) → e ≡ pulling file 6 short v (withResult short v (status file))
+    n ≡ v → s ≡ withResult (bits short) n (status file)
+    → e ≡ pulling file 6 short v (withResult (bits short) v (status file))
 flagged file short v put given flags =
-    put ∙ ap (pulling file 6 short v) (flags ∙ ap (λ m. withResult short m (status file)) given)
+    put ∙ ap (pulling file 6 short v) (flags ∙ ap (λ m. withResult (bits short) m (status file)) given)
 
 returns : tie.Need-returns
 returns c = (

@@ -1,13 +1,14 @@
 -- The definition's steps, one call each.
 -- Assumes nothing.
 use mathlib.Core.Path.{refl, _∙_}
+use native.Mathlib.Nat.{add-zero}
 use borrow.Author.Needs.{needs}
 use Rattle.operations.proofs.work.shift_left.Statement.{statement}
 use Rattle.operations.proofs.work.shift_left.Tie as tie
 
 returns : tie.Need-returns
 returns c = (
-  c .modifies .ensures .0 ∙ rw (c .before .before .residence-of .ensures, c .before .half .ensures .0) refl,
+  c .modifies .ensures .0 ∙ rw (c .before .before .residence-of .ensures, c .before .half .ensures .0, add-zero) refl,
   c .modifies .ensures .1,
 )
 

@@ -1,0 +1,32 @@
+-- SEP and CLP as steps. Their flags (Arithmetic) and their widths (Rules) go together: the number of the status after the
+-- step is its number before, bitwise with the byte behind the code. IPL, above that byte, stays.
+-- Assumes nothing.
+use mathlib.Core.Path.{_≡_}
+use Prim.Native.Nat.{ℕ, _<_}
+use lib.Bits.{bitOr}
+use Rattle.model.specs.declared.code.Operation.the-variants.{CLP, SEP}
+use Rattle.model.specs.declared.code.Instruction.{Instruction}
+use Rattle.model.specs.declared.code.Decoded.the-variants.{Whole}
+use Rattle.model.specs.declared.machine.State.{State}
+use Rattle.model.specs.Status.{numberOf}
+use Rattle.model.specs.AnyWidth.{size, low, clearedBy}
+use Rattle.model.specs.Memory.{Memory}
+use Rattle.model.specs.Step.{fetched, step}
+
+abbrev pub ps : State → ℕ
+ps s = numberOf (s .core .registers .status)
+
+abbrev pub byteBehind : Instruction → ℕ
+byteBehind i = low 8 (i .operand)
+
+-- manual, SEP: PSL ← PSL ∨ IMM
+abbrev pub SepSets : Type 0
+SepSets =
+    (m : Memory) (s : State) (i : Instruction) → fetched m (s .core) ≡ Whole i → i .entry .operation ≡ SEP
+    → ps (step m s .state) ≡ bitOr (ps s) (byteBehind i)
+
+-- manual, CLP: PSL ← PSL ∧ not IMM, as CLB clears bits of data
+abbrev pub ClpClears : Type 0
+ClpClears =
+    (m : Memory) (s : State) (i : Instruction) → fetched m (s .core) ≡ Whole i → i .entry .operation ≡ CLP
+    → ps s < size 16 → ps (step m s .state) ≡ clearedBy 16 (byteBehind i) (ps s)
