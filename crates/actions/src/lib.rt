@@ -557,15 +557,18 @@ const BY_B: [u16; 128] = [
     LEAVE,
 ];
 
+// The tasks: a row for each accumulator that a form names, in it a task for each operation.
+pub type TaskTable = [[u16; 128]; 4];
+
 // The tasks, made once by whoever lends them on: a constant array is copied at each use.
-pub fn tasks() -> [[u16; 128]; 4]
+pub fn tasks() -> TaskTable
     ensures { λ r. ⌜ r ≡ numbers ⌝ }
 {
     [BY_A, BY_A, BY_B, BY_A]
 }
 
 // The task of an entry: its row by the accumulator, its column by the operation.
-pub fn task_at(tasks: &[[u16; 128]; 4], n: u32) -> u16
+pub fn task_at(tasks: &TaskTable, n: u32) -> u16
     requires { ⌜ now tasks ≡ numbers ⌝ }
     ensures { λ r. ⌜ r ≡ packed (taskOf (unpacked n .accumulator) (unpacked n .operation)) ⌝ }
 {

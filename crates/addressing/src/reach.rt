@@ -17,6 +17,9 @@ use memory::reads::WordRead;
 use memory::reads::data_from;
 use memory::reads::long_from;
 use memory::reads::word_from;
+use model::addresses::BANK_SIZE;
+use model::addresses::low_long;
+use model::addresses::low_word;
 use model::code::Accumulator;
 use model::code::Mode;
 use model::machine::Access;
@@ -71,19 +74,13 @@ fn direct(registers: &[u16; FILE_SIZE], operand: u64) -> u32
 fn absolute(registers: &[u16; FILE_SIZE], operand: u64) -> u32
     ensures { λ r. ⌜ (r ≡ spec.absolute (registersOf (now (registers .entry))) operand) × (r < addressLimit) ⌝ }
 {
-    (registers[DT] % 256) as u32 * 65_536 + (operand % 65_536) as u32
+    (registers[DT] % 256) as u32 * BANK_SIZE + low_word(operand)
 }
 
 fn stack_relative(registers: &[u16; FILE_SIZE], operand: u64) -> u32
     ensures { λ r. ⌜ (r ≡ spec.stackRelative (registersOf (now (registers .entry))) operand) × (r ≤ 65_790) ⌝ }
 {
     word(registers[S]) + (operand % 256) as u32
-}
-
-fn long(operand: u64) -> u32
-    ensures { λ r. ⌜ (r ≡ spec.long operand) × (r < addressLimit) ⌝ }
-{
-    (operand % 16_777_216) as u32
 }
 
 // The address in the data bank that the word at a place holds.
@@ -99,7 +96,7 @@ fn by_word(
     let read = word_from(ram, image, base, at as u64, at as u64 + 1);
     match read {
         WordRead::Word(pointer) => AddressRead::At(
-            (registers[DT] % 256) as u32 * 65_536 + pointer as u32,
+            (registers[DT] % 256) as u32 * BANK_SIZE + pointer as u32,
         ),
         WordRead::Unmapped => AddressRead::Unmapped,
     }
@@ -118,7 +115,7 @@ fn by_word_y(
     let read = word_from(ram, image, base, at as u64, at as u64 + 1);
     match read {
         WordRead::Word(pointer) => AddressRead::At(
-            (registers[DT] % 256) as u32 * 65_536 + pointer as u32 + index_y(registers),
+            (registers[DT] % 256) as u32 * BANK_SIZE + pointer as u32 + index_y(registers),
         ),
         WordRead::Unmapped => AddressRead::Unmapped,
     }
@@ -202,8 +199,8 @@ pub fn address_of(
         Mode::AbsoluteIndexedY => AddressRead::At(
             absolute(registers, operand) + index_y(registers),
         ),
-        Mode::AbsoluteLong => AddressRead::At(long(operand)),
-        Mode::AbsoluteLongIndexedX => AddressRead::At(long(operand) + index_x(registers)),
+        Mode::AbsoluteLong => AddressRead::At(low_long(operand)),
+        Mode::AbsoluteLongIndexedX => AddressRead::At(low_long(operand) + index_x(registers)),
         Mode::AbsoluteIndirect => AddressRead::At(0),
         Mode::AbsoluteIndirectLong => AddressRead::At(0),
         Mode::AbsoluteIndexedXIndirect => AddressRead::At(0),

@@ -9,12 +9,12 @@ use native.Mathlib.Omega.{arith}
 use borrow.Author.Tests.{le-leb, lt-leb}
 use lib.ListN.{length}
 use Rattle.model.specs.declared.lists.Header.{Header}
-use Rattle.model.specs.declared.lists.Refusal.{Refusal}
+use Rattle.model.specs.declared.refusals.Refusal.{Refusal}
 use Rattle.model.specs.declared.lists.ListRead.the-variants.{NotRead, Read}
 use Rattle.model.specs.declared.rules.Verdict.the-variants.{Accepted}
 use Rattle.model.specs.Image.{imageLimit, isStart, startCount}
 use Rattle.model.specs.Verdict.{verdict}
-use Rattle.model.specs.MarkList.{refusalNumber, readList, marksRead, marksBy, marksOf}
+use Rattle.model.specs.MarkList.{readList, marksRead, marksBy, marksOf}
 use Rattle.model.proofs.Choice.{one-or-none}
 use Rattle.model.proofs.Image.{right-length}
 use Rattle.model.proofs.Verdict.{accepted-rules}
@@ -34,10 +34,9 @@ accepted-few image marks base reset e =
     omega (arith, starts-most marks, fits .few, fits .same)
 
 module _ (image text marks : List ℕ) (alike : length marks ≡ length image) where
-  pub list-refused : (refusal : Refusal) → readList text marks ≡ NotRead refusal
-      → Refused (refusalNumber refusal) 0 ≡ listAnswer image text
+  pub list-refused : (why : Refusal) → readList text marks ≡ NotRead why → Refused why 0 ≡ listAnswer image text
   unfolding listAnswer answerOf readList
-  list-refused refusal e = rw (← alike, e)
+  list-refused why e = rw (← alike, e)
 
   pub list-taken : (h : Header) → readList text marks ≡ Read h
       → verdictAnswer image (marksRead text marks) (h .base) (h .reset) ≡ listAnswer image text

@@ -11,9 +11,10 @@ use Rattle.model.specs.declared.lists.ListRead.{ListRead}
 use Rattle.model.specs.declared.lists.ListRead.the-variants.{NotRead, Read}
 use Rattle.model.specs.Choice.{pick}
 use Rattle.model.specs.Digits.{digits}
+use Rattle.model.specs.Refusals.{refusalNumber}
 use Rattle.model.specs.Image.{imageLimit, startCount}
 use Rattle.model.specs.Verdict.{verdict}
-use Rattle.model.specs.MarkList.{refusalNumber, tab, lineEnd, decimalDigits, headerShown, marksOf, readAs}
+use Rattle.model.specs.MarkList.{tab, lineEnd, decimalDigits, headerShown, marksOf, readAs}
 use Rattle.answer.specs.declared.answers.Answer.{Answer}
 use Rattle.answer.specs.declared.answers.Answer.the-variants.{Unread, Accepted, Refused}
 
@@ -24,14 +25,14 @@ listLimit = 61_440
 -- 'A and the number of starts', or 'R, number, offset'
 unfoldable pub answerBy : verdicts.Verdict → List ℕ → Answer
 answerBy verdicts.the-variants.Accepted marks = Accepted (startCount marks)
-answerBy (verdicts.the-variants.Refused number offset) marks = Refused number offset
+answerBy (verdicts.the-variants.Refused why offset) marks = Refused why offset
 
 unfoldable pub verdictAnswer : List ℕ → List ℕ → ℕ → ℕ → Answer
 verdictAnswer image marks base reset = answerBy (verdict image marks base reset) marks
 
 -- a list that is refused has no offset ('0 where none is given'); else its marks, base and reset are the check's
 unfoldable pub answerOf : ListRead → List ℕ → List ℕ → Answer
-answerOf (NotRead refusal) image text = Refused (refusalNumber refusal) 0
+answerOf (NotRead why) image text = Refused why 0
 answerOf (Read h) image text = verdictAnswer image (marksOf h text) (h .base) (h .reset)
 
 -- the list is read for as many marks as the image has bytes
@@ -62,7 +63,7 @@ unreadLine = 0x4C ∷ lineEnd ∷ []
 unfoldable pub lineFor : Answer → List ℕ
 lineFor Unread = unreadLine
 lineFor (Accepted count) = letterField 0x41 count lineEnd
-lineFor (Refused number offset) = refusedLine number offset
+lineFor (Refused why offset) = refusedLine (refusalNumber why) offset
 
 -- the line for the bytes of an image file and of a list file
 unfoldable pub answerLine : List ℕ → List ℕ → List ℕ

@@ -1,8 +1,8 @@
 // The answer for the bytes of two files.
 use image::IMAGE_LIMIT;
 use marklist::reader::read_list;
-use marklist::refusal_number;
 use model::lists::ListRead;
+use model::refusals::Refusal;
 use model::rules::Verdict;
 use view::plain::judge;
 ghost use mathlib.Core.Path.{_≡_};
@@ -12,11 +12,11 @@ ghost use Rattle.answer.specs.AnswerLine as spec;
 // The most bytes of a list file.
 pub const LIST_LIMIT: usize = 61_440;
 
-// A file is not read; an image is accepted, with its number of starts; or a refusal has its number and its offset.
+// A file is not read; an image is accepted, with its number of starts; or refused, with an offset.
 pub enum Answer {
     Unread,
     Accepted(u32),
-    Refused { number: u8, offset: u32 },
+    Refused { why: Refusal, offset: u32 },
 }
 
 // The check's answer on the view of an image, with the number of starts where it accepts.
@@ -27,7 +27,7 @@ fn verdict_answer(image: &[u8], marks: &[u8], base: u32, reset: u32) -> Answer
     let verdict = judged.verdict;
     match verdict {
         Verdict::Accepted => Answer::Accepted(judged.starts as u32),
-        Verdict::Refused { number, offset } => Answer::Refused { number, offset },
+        Verdict::Refused { why, offset } => Answer::Refused { why, offset },
     }
 }
 
@@ -37,10 +37,7 @@ fn list_answer(image: &[u8], text: &[u8], marks: &mut [u8]) -> Answer
     ensures { λ r. ⌜ r ≡ spec.listAnswer (now (image .entry)) (now (text .entry)) ⌝ }
 {
     match read_list(text, marks) {
-        ListRead::NotRead(refusal) => Answer::Refused {
-            number: refusal_number(refusal),
-            offset: 0,
-        },
+        ListRead::NotRead(why) => Answer::Refused { why, offset: 0 },
         ListRead::Read(h) => verdict_answer(image, marks, h.base, h.reset),
     }
 }

@@ -4,6 +4,7 @@ use marklist::header::decimal_digits;
 use marklist::header::put_field;
 use marklist::lines::LINE_END;
 use marklist::lines::TAB;
+use model::refusals::refusal_number;
 ghost use Prim.Native.Nat.{_≤_};
 ghost use lib.ListN.{length};
 ghost use Rattle.answer.specs.AnswerLine as spec;
@@ -56,6 +57,6 @@ pub fn put_answer(page: &mut [u8], answer: Answer) -> usize
     match answer {
         Answer::Unread => put_unread(page),
         Answer::Accepted(count) => put_letter(page, b'A', count, LINE_END),
-        Answer::Refused { number, offset } => put_refused(page, number, offset),
+        Answer::Refused { why, offset } => put_refused(page, refusal_number(why), offset),
     }
 }

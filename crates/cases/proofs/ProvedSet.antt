@@ -12,15 +12,16 @@ use lib.Dec.{ltb}
 use lib.ListN.{length}
 use Rattle.model.specs.declared.machine.State.{State}
 use Rattle.model.specs.declared.machine.Answer.the-variants.{Completed}
-use Rattle.model.specs.declared.runs.Admission.the-variants.{Admitted}
+use Rattle.model.specs.declared.refusals.TestResult.the-variants.{Passed}
 use Rattle.model.specs.CodePages.{plain, pages}
 use Rattle.model.specs.CodeMap.{entryAt}
 use Rattle.model.specs.Decode.{judged, decodeOn, decode}
 use Rattle.model.specs.Image.{isFormed, lengthFits, baseFits, markAt, resetFits}
 use Rattle.model.specs.Rules.{targetOf, mAfter, xAfter, markOfRoutine, markOnReturn, markAfter, owedBy, owedAt}
 use Rattle.model.specs.Rules.{returnsBy, returnFits}
-use Rattle.model.specs.Verdict.{firstFrom, isClear, wantsStart, allStarts, wantsMark, allMarks, owedNumber}
-use Rattle.model.specs.Verdict.{wholeNumber, decodedNumber, startNumber, badMark, badStart, startsVerdict, verdict}
+use Rattle.model.specs.Refusals.{firstRefusal}
+use Rattle.model.specs.Verdict.{firstFrom, isClear, wantsStart, allStarts, wantsMark, allMarks}
+use Rattle.model.specs.Verdict.{decodedResult, startResult, badMark, badStart, startsVerdict, verdict}
 use Rattle.model.specs.Digits.{digit, digits, digitValue, value, startsWith}
 use Rattle.model.specs.MarkList.{decimalDigits, headerText, kindLetter, fields, lengthDigitsShown, headerShown}
 use Rattle.model.specs.MarkList.{isHeader, bitShown, kindShown, fieldsMark, isLine, markShown, lineSize, marksShown}
@@ -29,7 +30,7 @@ use Rattle.model.specs.Memory.{Memory, memory, byteAt, servedAt}
 use Rattle.model.specs.Addressing.{operandBy, dataOf}
 use Rattle.model.specs.Effects.{effectOf}
 use Rattle.model.specs.Step.{bytesFrom, operates, calls, returnsTo, planBy, stepped, step}
-use Rattle.model.specs.Run.{stepLimit, levelLimit, history, ramFits, callsFit, stateFits, admissionBy, admission}
+use Rattle.model.specs.Run.{stepLimit, levelLimit, history, ramFits, callsFit, stateFits, admission}
 use Rattle.model.specs.Run.{played, ran}
 use Rattle.model.specs.Guarantee.{Every}
 use Rattle.model.proofs.Verdict.{both-true}
@@ -46,7 +47,7 @@ use Rattle.cases.proofs.Returning.{returning}
 computed : Unit {0}
 unfolding plain pages entryAt judged decodeOn decode isFormed lengthFits baseFits markAt resetFits
     targetOf mAfter xAfter markOfRoutine markOnReturn markAfter owedBy owedAt returnsBy returnFits firstFrom isClear
-    wantsStart allStarts wantsMark allMarks owedNumber wholeNumber decodedNumber startNumber badMark badStart
+    wantsStart allStarts wantsMark allMarks decodedResult startResult badMark badStart firstRefusal
     startsVerdict verdict digit digits digitValue value startsWith decimalDigits headerText kindLetter fields
     lengthDigitsShown headerShown isHeader bitShown kindShown fieldsMark isLine markShown lineSize marksShown linesLeft
     linesText marksOf leftOf isList readAs readList marksBy marksRead byteAt servedAt operandBy dataOf effectOf
@@ -70,7 +71,7 @@ module _ (r : Row) where
 
   -- no run from a state and RAM is refused but for its steps
   abbrev Taken : State → List ℕ → Type 0
-  Taken s ram = (n : ℕ) → n ≤ stepLimit → admission (on ram) s n ≡ Admitted
+  Taken s ram = (n : ℕ) → n ≤ stepLimit → admission (on ram) s n ≡ Passed
 
   -- what is computed for a claim
   abbrev Computes : Claim → Type 0
@@ -109,15 +110,15 @@ module _ (v : Silent) where
   -- a run of a state that fits is not refused
   admitted : (image : List ℕ) (size : ℕ) (s : State) → lengthFits (length image) (length image) ≡ true
       → baseFits 0x00C000 (length image) ≡ true → ramFits size 0x00C000 ≡ true → stateFits s ≡ true
-      → (n : ℕ) → n ≤ stepLimit → admission (memory (ram v size) image 0x00C000) s n ≡ Admitted
-  unfolding admissionBy
+      → (n : ℕ) → n ≤ stepLimit → admission (memory (ram v size) image 0x00C000) s n ≡ Passed
+  unfolding firstRefusal
   admitted image size s long based sized fits n few =
       rw (long, based, length-list-of size (v .bytes), sized, fits, le-leb n stepLimit few)
 
   -- from reset, with the silent open calls
   reset-taken : (image : List ℕ) (a : ℕ) → lengthFits (length image) (length image) ≡ true
       → baseFits 0x00C000 (length image) ≡ true
-      → (n : ℕ) → n ≤ stepLimit → admission (memory (ram v (v .size)) image 0x00C000) (fromReset v a) n ≡ Admitted
+      → (n : ℕ) → n ≤ stepLimit → admission (memory (ram v (v .size)) image 0x00C000) (fromReset v a) n ≡ Passed
   unfolding stateFits
   reset-taken image a long based =
       admitted image (v .size) (fromReset v a) long based (v .size-fits) (v .state-fits)
@@ -130,7 +131,7 @@ module _ (v : Silent) where
 
   -- with no open call
   begun-taken : (s pc : ℕ) (n : ℕ) → n ≤ stepLimit
-      → admission (memory (ram v 512) callImage 0x00C000) (begun v s pc) n ≡ Admitted
+      → admission (memory (ram v 512) callImage 0x00C000) (begun v s pc) n ≡ Passed
   unfolding computed
   begun-taken s pc = admitted callImage 512 (begun v s pc) refl refl refl (begun-fits s pc)
 

@@ -8,7 +8,7 @@ use native.Mathlib.Omega.{arith}
 use lib.ListN.{replicate}
 use Rattle.model.specs.declared.machine.State.{State}
 use Rattle.model.specs.declared.machine.Answer.the-variants.{Completed}
-use Rattle.model.specs.declared.runs.Admission.the-variants.{Admitted}
+use Rattle.model.specs.declared.refusals.TestResult.the-variants.{Passed}
 use Rattle.model.specs.declared.runs.End.the-variants.{Done}
 use Rattle.model.specs.declared.runs.RunAnswer.the-variants.{Ended}
 use Rattle.model.specs.Memory.{Memory}
@@ -58,12 +58,12 @@ module _ (m : Memory) (s : State) where
         ∙ ap (λ h. still ∷ h) (repeated n)
 
     -- a run that is not refused
-    run-back : (n : ℕ) → admission m s n ≡ Admitted
+    run-back : (n : ℕ) → admission m s n ≡ Passed
         → ran m s n ≡ record { answer = Ended Done n 0; state = s; ram = m .ram }
     run-back n a =
         admitted-ran m s n a .1 ∙ rw (repeated n, ends n, completes n, calls-none n, state-back n, ram-back n) refl
 
-    pub returning : ((n : ℕ) → n ≤ stepLimit → admission m s n ≡ Admitted) → (n : ℕ) → Returns m s n
+    pub returning : ((n : ℕ) → n ≤ stepLimit → admission m s n ≡ Passed) → (n : ℕ) → Returns m s n
     returning admitted n = record {
       begins = rw (repeated n) (begins n);
       end = rw (repeated n) (ends n);

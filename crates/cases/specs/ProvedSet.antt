@@ -5,6 +5,7 @@ use mathlib.Core.List.{List, [], _∷_, _++_}
 use lib.ListN.{set}
 use Rattle.model.specs.declared.rules.Verdict.{Verdict}
 use Rattle.model.specs.declared.rules.Verdict.the-variants.{Accepted, Refused}
+use Rattle.model.specs.declared.refusals.Refusal.the-variants as refusal
 use Rattle.model.specs.declared.machine.State.{State}
 use Rattle.model.specs.Guarantee.{Every}
 use Rattle.cases.specs.Rows.{listOf, bytesOf, Silent, stateAt, holdsA, holdsByte, unchanged}
@@ -79,11 +80,11 @@ module _ (v : Silent) where
 
   -- 4. 'C004 marked 01: 9 at offset 3.'
   abbrev pub case4 : Row
-  case4 = row widthImage (marked 0xC004 0x01 widthMarks) (Refused 9 3) []
+  case4 = row widthImage (marked 0xC004 0x01 widthMarks) (Refused refusal.Widths 3) []
 
   -- 5. 'C006 marked 00: 8 at offset 4.'
   abbrev pub case5 : Row
-  case5 = row widthImage (marked 0xC006 0x00 widthMarks) (Refused 8 4) []
+  case5 = row widthImage (marked 0xC006 0x00 widthMarks) (Refused refusal.Flow 4) []
 
   -- 6. '.. accepted. RAM 512, S=01FF: 01FF holds C0, 01FE holds 03, stop 22 after 2 steps, 1 call.'
   abbrev pub case6 : Row
@@ -97,7 +98,7 @@ module _ (v : Silent) where
 
   -- 8. 'The same, C004 marked 01: 9 at offset 0.'
   abbrev pub case8 : Row
-  case8 = row callImage (marked 0xC004 0x01 callMarks) (Refused 9 0) []
+  case8 = row callImage (marked 0xC004 0x01 callMarks) (Refused refusal.Widths 0) []
 
   -- 9. 'Begun at C004, S=01FD: 24; S=01FF: 23.'
   abbrev pub case9 : Row

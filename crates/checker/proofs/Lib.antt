@@ -1,4 +1,3 @@
 -- The laws that the proofs of the functions share.
 pub mod Clear
-pub mod Forms
 pub mod Steps

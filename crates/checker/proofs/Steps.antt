@@ -6,18 +6,20 @@ use mathlib.Core.Bool.{Bool, true, false}
 use mathlib.Core.List.{List}
 use Prim.Native.Nat.{ℕ, _+_, _≤_, _<_}
 use native.Mathlib.Omega.{arith}
-use borrow.Author.Tests.{ltb-true, ltb-false, ne-eqb}
+use borrow.Author.Tests.{ltb-true, ltb-false}
 use lib.Dec.{ltb}
 use lib.ListN.{getD, drop}
 use Rattle.model.specs.declared.code.Decoded.{Decoded}
 use Rattle.model.specs.declared.code.Decoded.the-variants.{Whole, NotCarried, CutOff}
+use Rattle.model.specs.declared.refusals.TestResult.{TestResult}
+use Rattle.model.specs.declared.refusals.TestResult.the-variants.{Passed as NoneFailed}
 use Rattle.model.specs.Choice.{pick}
 use Rattle.model.specs.Image.{markM, markX}
 use Rattle.model.specs.Rules.{instructionAt, StartRules}
-use Rattle.model.specs.Verdict.{firstFrom, startAt, startNumber, brokenAt}
+use Rattle.model.specs.Verdict.{firstFrom, startAt, startResult, brokenAt}
 use Rattle.model.proofs.Decode.{decodes}
 use Rattle.model.proofs.First.{Passed, one-more-passed, passed-all}
-use Rattle.model.proofs.Verdict.{start-zero}
+use Rattle.model.proofs.Verdict.{start-rules}
 use Rattle.checker.specs.declared.start.Step.{Step}
 use Rattle.checker.specs.Steps.{bytesOf, bytesAt, stepAt}
 
@@ -50,14 +52,14 @@ module _ (image marks : List ℕ) (base at : ℕ) where
   abbrev broken : ℕ → Bool
   broken = brokenAt image marks base
 
-  not-broken : startNumber image marks base at ≡ 0 → broken at ≡ false
+  not-broken : startResult image marks base at ≡ NoneFailed → broken at ≡ false
   not-broken h = rw h refl
 
   at-no-start : (k : ℕ) → startAt marks k ≡ false → broken k ≡ false
-  unfolding startNumber
+  unfolding startResult
   at-no-start k h = rw h refl
 
-  over : StartRules image marks base at → startNumber image marks base at ≡ 0 → Passed broken 0 at
+  over : StartRules image marks base at → startResult image marks base at ≡ NoneFailed → Passed broken 0 at
       → Passed broken 0 (at + bytesOf (decoded-here image marks at))
   over r h p = rw (r .whole) (omega arith, λ k low high. by k high (ltb k at) (ltb at k) refl refl)
     where
@@ -68,12 +70,13 @@ module _ (image marks : List ℕ) (base at : ℕ) where
           let here : k ≡ at = omega (arith, ltb-false k at below, ltb-false at k above) in
           rw here (not-broken h)
 
-  pub stepped : startNumber image marks base at ≡ 0 → Passed broken 0 at → Passed broken 0 (at + bytesAt image marks at)
+  pub stepped : startResult image marks base at ≡ NoneFailed
+      → Passed broken 0 at → Passed broken 0 (at + bytesAt image marks at)
   unfolding bytesAt
   stepped h p = by (startAt marks at) refl
     where
       by : (b : Bool) → startAt marks at ≡ b → Passed broken 0 (at + pick b (bytesOf (decoded-here image marks at)) 1)
-      by true e = over (start-zero image marks base at e h) h p
+      by true e = over (start-rules image marks base at e h) h p
       by false e = one-more-passed broken 0 at p (not-broken h)
 
 -- a search that went past the end has found nothing
@@ -83,17 +86,13 @@ passed-past test i n p past =
 
 -- the fields of a step
 module _ (image marks : List ℕ) (base at : ℕ) (s : Step) (e : s ≡ stepAt image marks base at) where
-  pub step-number : s .number ≡ startNumber image marks base at
-  step-number = rw e refl
+  pub step-result : {so : TestResult} → s .result ≡ so → startResult image marks base at ≡ so
+  step-result r = rw e at r
 
   pub few-bytes : (1 ≤ s .bytes) × (s .bytes ≤ 6)
   few-bytes = rw e (step-bytes image marks at)
 
-  -- the search goes on behind a step without a number
-  pub goes-on : s .number ≡ 0 → Passed (brokenAt image marks base) 0 at → Passed (brokenAt image marks base) 0 (at +
-      s .bytes)
-  goes-on zero-number p = rw e (stepped image marks base at (rw e at zero-number) p)
-
-  -- and ends at one with a number
-  pub ends-at : (s .number ≡ 0 → ⊥) → brokenAt image marks base at ≡ true
-  ends-at some = rw (← step-number, ne-eqb (s .number) 0 some) refl
+  -- the search goes on behind a step that breaks no rule
+  pub goes-on : s .result ≡ NoneFailed → Passed (brokenAt image marks base) 0 at
+      → Passed (brokenAt image marks base) 0 (at + s .bytes)
+  goes-on none p = rw e (stepped image marks base at (step-result none) p)

@@ -7,7 +7,7 @@ use Rattle.model.specs.declared.code.Decoded.{Decoded}
 use Rattle.model.specs.declared.code.Decoded.the-variants.{Whole, NotCarried, CutOff}
 use Rattle.model.specs.Choice.{pick}
 use Rattle.model.specs.Rules.{instructionAt}
-use Rattle.model.specs.Verdict.{startAt, decodedNumber, startNumber}
+use Rattle.model.specs.Verdict.{startAt, decodedResult, startResult}
 use Rattle.checker.specs.declared.start.Step.{Step}
 
 -- how many bytes are stepped over
@@ -22,8 +22,8 @@ bytesAt image marks at =
 
 -- the step of what is decoded at a place with a start
 abbrev pub decodedStep : List ℕ → ℕ → ℕ → Decoded → Step
-decodedStep marks base at d = record { number = decodedNumber marks base at d; bytes = bytesOf d }
+decodedStep marks base at d = record { result = decodedResult marks base at d; bytes = bytesOf d }
 
 -- the step at a place
 abbrev pub stepAt : List ℕ → List ℕ → ℕ → ℕ → Step
-stepAt image marks base at = record { number = startNumber image marks base at; bytes = bytesAt image marks at }
+stepAt image marks base at = record { result = startResult image marks base at; bytes = bytesAt image marks at }

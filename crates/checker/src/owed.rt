@@ -18,7 +18,7 @@ use successors::widths::x_after;
 ghost use mathlib.Core.Path.{_≡_};
 ghost use Prim.Native.Nat.{_+_, _-_, _*_, _≤_, _<_};
 ghost use lib.ListN.{length, drop};
-ghost use Rattle.model.specs.Image.{addressLimit, bankSize, markOf, markAt};
+ghost use Rattle.model.specs.Image.{addressLimit, markOf, markAt};
 ghost use Rattle.model.specs.declared.code.Flow.the-variants.{Call};
 ghost use Rattle.model.specs.Decode.{operandOf};
 ghost use Rattle.model.specs.Rules as rules;
@@ -58,15 +58,15 @@ fn mark_after_frame(image: &[u8], at: usize, frame: Frame, mark: u8) -> u8
 }
 
 // Where the instruction of a frame at an address goes by its target.
-fn target_of_frame(image: &[u8], at: usize, frame: Frame, address: u64) -> u64
-    requires { ⌜ Fitting (length (now image) - at) frame × (address < 4_294_967_296) ⌝ }
+fn target_of_frame(image: &[u8], at: usize, frame: Frame, address: u32) -> u32
+    requires { ⌜ Fitting (length (now image) - at) frame × (address < addressLimit) ⌝ }
     ensures { λ r. ⌜ r ≡ rules.targetAddress (instructionOf (drop at (now (image .entry))) frame) address ⌝ }
 {
     let target = target_form_of(frame.number);
     target_of(target, address, frame.length, operand_at(image, at, frame))
 }
 
-fn want(address: u64, mark: u8) -> Want
+fn want(address: u32, mark: u8) -> Want
     ensures { λ r. ⌜ r ≡ rules.want address mark ⌝ }
 {
     Want { address, mark }
@@ -95,7 +95,7 @@ fn mark_on_return(mark: u8, there: u8) -> u8
 }
 
 // What a call at an address with a mark owes, by its target and the address after it.
-fn owed_by_call(marks: &[u8], base: u32, kind: Kind, mark: u8, next: u64, to: u64) -> Owed
+fn owed_by_call(marks: &[u8], base: u32, kind: Kind, mark: u8, next: u32, to: u32) -> Owed
     ensures { λ r. ⌜ r ≡ rules.owedBy (Call kind) mark 0 next to (markAt (now (marks .entry)) base to) ⌝ }
 {
     let there = mark_at(marks, base, to);
@@ -107,12 +107,12 @@ fn owed_by_call(marks: &[u8], base: u32, kind: Kind, mark: u8, next: u64, to: u6
 
 // What the instruction of a frame at a place of the image, with a mark there, owes. Each flow reads what it needs.
 pub fn owed_at(image: &[u8], marks: &[u8], base: u32, at: usize, frame: Frame, mark: u8) -> Owed
-    requires { ⌜ Fitting (length (now image) - at) frame × (base < addressLimit) × (at < bankSize) ⌝ }
+    requires { ⌜ Fitting (length (now image) - at) frame × (base + at < addressLimit) ⌝ }
     ensures { λ r. ⌜
         r ≡ rules.owedAt (now (marks .entry)) base (instructionOf (drop at (now (image .entry))) frame) (base + at) mark
         ⌝ }
 {
-    let address = base as u64 + at as u64;
+    let address = base + at as u32;
     let next = next_address(address, frame.length);
     match flow_of(frame.number) {
         Flow::Next => Owed::One(want(next, mark_after_frame(image, at, frame, mark))),

@@ -1,5 +1,6 @@
-// The rules at one start, as the number of the first that is broken.
+// The rules at one start: the first that is broken.
 use crate::owed::owed_at;
+use codepages::CodePages;
 use decoder::Frame;
 use decoder::Framed;
 use decoder::frame_at;
@@ -11,6 +12,8 @@ use image::is_start;
 use image::mark_at;
 use model::code::Flow;
 use model::code::Kind;
+use model::refusals::Refusal;
+use model::refusals::TestResult;
 use model::rules::Owed;
 use model::rules::Want;
 use successors::kind_number;
@@ -20,7 +23,8 @@ ghost use mathlib.Core.Bool.{_&&_};
 ghost use lib.Dec.{ltb, leb};
 ghost use lib.ListN.{length, take, drop};
 ghost use Rattle.codepages.specs.Packing.{numbers};
-ghost use Rattle.model.specs.Image.{addressLimit, bankSize};
+ghost use Rattle.model.specs.Image.{addressLimit};
+ghost use Rattle.model.specs.Refusals.{firstRefusal};
 ghost use Rattle.model.specs.Rules as rules;
 ghost use Rattle.model.specs.Verdict as verdict;
 ghost use Rattle.model.specs.Decode as decode;
@@ -69,19 +73,6 @@ fn all_marks(marks: &[u8], base: u32, owed: Owed) -> bool
             false
         }
     }
-}
-
-// 8 on every want before 9 on any.
-fn owed_number(marks: &[u8], base: u32, owed: Owed) -> u8
-    ensures { λ r. ⌜ r ≡ verdict.owedNumber (now (marks .entry)) base owed ⌝ }
-{
-    if !all_starts(marks, base, owed) {
-        return 8;
-    }
-    if !all_marks(marks, base, owed) {
-        return 9;
-    }
-    0
 }
 
 // A return of a kind stands under that kind, at the marked return widths.
@@ -136,7 +127,7 @@ fn less_one(n: u8) -> usize
 
 // All marks behind the first of n, up to six, are 00. Asked only where six are there to be read at once.
 fn zeros_behind(marks: &[u8], at: usize, n: u8) -> bool
-    requires { ⌜ (at < bankSize) × (n ≤ 6) ⌝ }
+    requires { ⌜ (at < addressLimit) × (n ≤ 6) ⌝ }
     ensures { λ r. ⌜
         r ≡ (leb (at + 6) (length (now (marks .entry)))
         && ltb (decode.number (take n (drop at (now (marks .entry))))) 256)
@@ -150,7 +141,7 @@ fn zeros_behind(marks: &[u8], at: usize, n: u8) -> bool
 
 // Number 7: no start on the later bytes of an instruction of n bytes.
 fn is_clear(marks: &[u8], at: usize, n: u8) -> bool
-    requires { ⌜ (at < bankSize) × (n ≤ 6) ⌝ }
+    requires { ⌜ (at < addressLimit) × (n ≤ 6) ⌝ }
     ensures { λ r. ⌜ r ≡ verdict.isClear (now (marks .entry)) at n ⌝ }
 {
     if zeros_behind(marks, at, n) {
@@ -160,66 +151,68 @@ fn is_clear(marks: &[u8], at: usize, n: u8) -> bool
     first_start(marks, at + 1, later) == at + 1 + later
 }
 
-// Numbers 7, 10, 8, 9 of the instruction of a frame at a place.
-fn whole_number(image: &[u8], marks: &[u8], base: u32, at: usize, frame: Frame) -> u8
-    requires { ⌜ Fitting (length (now image) - at) frame × (base < addressLimit) × (at < bankSize) ⌝ }
+// The rules of the instruction of a frame at a place: 7, 10, 8, 9.
+fn test_whole(image: &[u8], marks: &[u8], base: u32, at: usize, frame: Frame) -> TestResult
+    requires { ⌜ Fitting (length (now image) - at) frame × (base + at < addressLimit) ⌝ }
     ensures { λ r. ⌜
-        r ≡ verdict.wholeNumber (now (marks .entry)) base at (instructionOf (drop at (now (image .entry))) frame)
+        r ≡ firstRefusal (verdict.wholeTests (now (marks .entry)) base
+        at (instructionOf (drop at (now (image .entry))) frame))
         ⌝ }
 {
     let mark = byte_at(marks, at);
     if !is_clear(marks, at, frame.length) {
-        return 7;
+        return TestResult::Failed(Refusal::Overlap);
     }
     if !return_fits(flow_of(frame.number), mark) {
-        return 10;
+        return TestResult::Failed(Refusal::Return);
     }
-    owed_number(marks, base, owed_at(image, marks, base, at, frame, mark))
+    let owed = owed_at(image, marks, base, at, frame, mark);
+    if !all_starts(marks, base, owed) {
+        return TestResult::Failed(Refusal::Flow);
+    }
+    if !all_marks(marks, base, owed) {
+        return TestResult::Failed(Refusal::Widths);
+    }
+    TestResult::Passed
 }
 
-// A place of the image: the number of the first rule that is broken there, 0 where none is or no instruction starts;
-// and how many bytes stand there, one where no instruction is read.
+// A place of the image: the first rule that is broken there, and how many bytes stand there, one where no instruction
+// is read.
 pub struct Step {
-    pub number: u8,
+    pub result: TestResult,
     pub bytes: u8,
 }
 
 // The step of a frame at a place.
 fn framed_step(image: &[u8], marks: &[u8], base: u32, at: usize, framed: Framed) -> Step
-    requires { ⌜ FittingIn (length (now image) - at) framed × (base < addressLimit) × (at < bankSize) ⌝ }
+    requires { ⌜ FittingIn (length (now image) - at) framed × (base + at < addressLimit) ⌝ }
     ensures { λ r. ⌜ r ≡ decodedStep (now (marks .entry)) base at (decodedOf (drop at (now (image .entry))) framed) ⌝ }
 {
     match framed {
         Framed::Fits(frame) => Step {
-            number: whole_number(image, marks, base, at, frame),
+            result: test_whole(image, marks, base, at, frame),
             bytes: frame.length,
         },
         Framed::Uncarried => Step {
-            number: 5,
+            result: TestResult::Failed(Refusal::Code),
             bytes: 1,
         },
         Framed::Short => Step {
-            number: 6,
+            result: TestResult::Failed(Refusal::CutOff),
             bytes: 1,
         },
     }
 }
 
 // The step at a place.
-pub fn step_at(
-    codes: &[[[u32; 16]; 16]; 3],
-    image: &[u8],
-    marks: &[u8],
-    base: u32,
-    at: usize,
-) -> Step
-    requires { ⌜ (now codes ≡ numbers) × (base < addressLimit) × (at < bankSize) ⌝ }
+pub fn step_at(codes: &CodePages, image: &[u8], marks: &[u8], base: u32, at: usize) -> Step
+    requires { ⌜ (now codes ≡ numbers) × (base + at < addressLimit) ⌝ }
     ensures { λ r. ⌜ r ≡ stepAt (now (image .entry)) (now (marks .entry)) base at ⌝ }
 {
     let mark = byte_at(marks, at);
     if !is_start(mark) {
         return Step {
-            number: 0,
+            result: TestResult::Passed,
             bytes: 1,
         };
     }

@@ -1106,15 +1106,18 @@ const BEHIND_89: [[u32; 16]; 16] = [
     NO_CODES,
 ];
 
+// The three pages: plain, behind 42, behind 89, each 16 rows of 16.
+pub type CodePages = [[[u32; 16]; 16]; 3];
+
 // The pages, made once by whoever lends them on: a constant array is copied at each use.
-pub fn pages() -> [[[u32; 16]; 16]; 3]
+pub fn pages() -> CodePages
     ensures { λ r. ⌜ r ≡ numbers ⌝ }
 {
     [PLAIN, BEHIND_42, BEHIND_89]
 }
 
 // The number of a code of a page: its row by the upper four bits, its column by the lower four.
-pub fn number_at(codes: &[[[u32; 16]; 16]; 3], page: usize, code: u8) -> u32
+pub fn number_at(codes: &CodePages, page: usize, code: u8) -> u32
     requires { ⌜ page < 3 ⌝ }
     ensures { λ r. ⌜ r ≡ numberAt (now (codes .entry)) page code ⌝ }
 {

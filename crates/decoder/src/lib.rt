@@ -1,4 +1,5 @@
 // The decoder: what stands at a place of an image, at given widths.
+use codepages::CodePages;
 use codepages::number_at;
 use entries::bytes_of;
 use entries::is_carried;
@@ -90,7 +91,7 @@ pub fn low_bytes(value: u64, n: u8) -> u64
 }
 
 // The entry of a code of a page.
-pub fn entry_at(codes: &[[[u32; 16]; 16]; 3], page: usize, code: u8) -> Entry
+pub fn entry_at(codes: &CodePages, page: usize, code: u8) -> Entry
     requires { ⌜ (now codes ≡ numbers) × (page < 3) ⌝ }
     ensures { λ r. ⌜ r ≡ entryAt page code ⌝ }
 {
@@ -161,7 +162,7 @@ fn page_of(first: u8) -> usize
 }
 
 // The code at a place whose first byte is no carried code of the first page.
-fn look_behind(codes: &[[[u32; 16]; 16]; 3], image: &[u8], at: usize) -> Looked
+fn look_behind(codes: &CodePages, image: &[u8], at: usize) -> Looked
     requires { ⌜
         (now codes ≡ numbers) × (at < length (now image))
         × (unpacked (numberAt numbers 0 (getD (now image) at 0)) .carried ≡ false)
@@ -183,7 +184,7 @@ fn look_behind(codes: &[[[u32; 16]; 16]; 3], image: &[u8], at: usize) -> Looked
 }
 
 // The code at a place. Most stand on the first page, where no prefix is a carried code.
-fn look(codes: &[[[u32; 16]; 16]; 3], image: &[u8], at: usize) -> Looked
+fn look(codes: &CodePages, image: &[u8], at: usize) -> Looked
     requires { ⌜ (now codes ≡ numbers) × (at < length (now image)) ⌝ }
     ensures { λ r. ⌜ r ≡ coded (drop at (now (image .entry))) ⌝ }
 {
@@ -195,7 +196,7 @@ fn look(codes: &[[[u32; 16]; 16]; 3], image: &[u8], at: usize) -> Looked
 }
 
 // The frame of what stands at a place of an image, at the widths m and x.
-pub fn frame_at(codes: &[[[u32; 16]; 16]; 3], image: &[u8], at: usize, m: u8, x: u8) -> Framed
+pub fn frame_at(codes: &CodePages, image: &[u8], at: usize, m: u8, x: u8) -> Framed
     requires { ⌜ now codes ≡ numbers ⌝ }
     ensures { λ r. ⌜ r ≡ framed (drop at (now (image .entry))) m x ⌝ }
 {
@@ -239,7 +240,7 @@ fn instruction_at(image: &[u8], at: usize, frame: Frame) -> Instruction
 }
 
 // What stands at a place of an image, at the widths m and x.
-pub fn decode_at(codes: &[[[u32; 16]; 16]; 3], image: &[u8], at: usize, m: u8, x: u8) -> Decoded
+pub fn decode_at(codes: &CodePages, image: &[u8], at: usize, m: u8, x: u8) -> Decoded
     requires { ⌜ now codes ≡ numbers ⌝ }
     ensures { λ r. ⌜ r ≡ spec.decode (drop at (now (image .entry))) m x ⌝ }
 {
@@ -251,7 +252,7 @@ pub fn decode_at(codes: &[[[u32; 16]; 16]; 3], image: &[u8], at: usize, m: u8, x
 }
 
 // What the bytes begin with, at the widths m and x.
-pub fn decode(codes: &[[[u32; 16]; 16]; 3], bytes: &[u8], m: u8, x: u8) -> Decoded
+pub fn decode(codes: &CodePages, bytes: &[u8], m: u8, x: u8) -> Decoded
     requires { ⌜ now codes ≡ numbers ⌝ }
     ensures { λ r. ⌜ r ≡ spec.decode (now (bytes .entry)) m x ⌝ }
 {

@@ -16,7 +16,6 @@ use Rattle.loader.proofs.m7700_run.Met as RunMet
 use Rattle.loader.proofs.m7700_step.Met as StepMet
 use Rattle.loader.specs.Packed.{packedVerdict, verdictNumbers, checkNumbers, listReadNumbers, readNumbers}
 use Rattle.loader.specs.Packed.{listWrittenNumbers, writtenNumbers, answerNumbers}
-use Rattle.loader.proofs.Unpacked.{list-number, run-number}
 use Rattle.model.specs.declared.rules.Verdict.{Verdict}
 use Rattle.model.specs.declared.rules.Verdict.the-variants.{Accepted, Refused}
 use Rattle.model.specs.declared.lists.Header.{Header}
@@ -24,11 +23,10 @@ use Rattle.model.specs.declared.lists.ListRead.{ListRead}
 use Rattle.model.specs.declared.lists.ListRead.the-variants.{NotRead, Read}
 use Rattle.model.specs.declared.lists.ListWritten.{ListWritten}
 use Rattle.model.specs.declared.lists.ListWritten.the-variants.{NotWritten, Written}
-use Rattle.model.specs.declared.runs.Admission.{Admission}
-use Rattle.model.specs.declared.runs.Admission.the-variants.{Admitted, Refused as NotAdmitted}
+use Rattle.model.specs.declared.refusals.TestResult.{TestResult}
+use Rattle.model.specs.declared.refusals.TestResult.the-variants.{Passed, Failed}
 use Rattle.model.specs.declared.runs.RunAnswer.{RunAnswer}
 use Rattle.model.specs.declared.runs.RunAnswer.the-variants.{NotRun, Ended}
-use Rattle.model.specs.Meaning.{Breaks}
 use Rattle.model.specs.MarkList.{marksBy, marksRead, pageBy, pageWritten}
 use Rattle.model.specs.Memory.{memory}
 use Rattle.model.specs.Step.{stopNumber, step}
@@ -39,15 +37,16 @@ use Rattle.model.specs.RunBytes.{asBytes}
 use Rattle.model.specs.Guarantee.{Every, EndsWell, done, stopped, Accounted, admitted, refused}
 use Rattle.model.proofs.CodeMap.{carried-length}
 use Rattle.model.proofs.Verdict.{accepts-exactly}
-use Rattle.model.proofs.Meaning.{refused-means, refused-some}
+use Rattle.model.proofs.Meaning.{refused-means}
+use Rattle.model.proofs.TestResults.{refusal-range}
 use Rattle.model.proofs.RoundTrips.{read-then-written, written-then-read}
 use Rattle.model.proofs.Run.{stops-leave, played-one}
 use Rattle.model.proofs.RunBytes.{bytes-ran, said-left, long-left, taken, refused-leaves, none-leaves}
 use Rattle.model.proofs.Guarantee.{guarantee}
 use Rattle.demands.specs.Calls.{holds, CheckCall, ReadCall, WriteCall, RunCall, numbers, memoryOf, stateGiven}
 use Rattle.demands.specs.Calls.{historyOf}
-use Rattle.demands.specs.Demands.{Untouched, Undone, Demand1, ByHistory, Demand2, RefusedRun, EndedRun, PassedOn}
-use Rattle.demands.specs.Demands.{runsOf, askedOf, Demand3}
+use Rattle.demands.specs.Demands.{Untouched, Undone, Demand1, RefusedCheck, ByHistory, Demand2, RefusedRun}
+use Rattle.demands.specs.Demands.{EndedRun, PassedOn, runsOf, askedOf, Demand3}
 use Rattle.demands.proofs.Calls.{verdictOf, readOf, writtenOf, ranOf, promised, check-numbers, read-numbers}
 use Rattle.demands.proofs.Calls.{written-numbers, run-numbers}
 
@@ -62,7 +61,7 @@ read-refused c some = by (readOf c) (c .kept .1) (read-numbers c)
         → readNumbers (c .result) ≡ listReadNumbers a
         → (c .marks-left ≡ holds (c .marks))
         × (readNumbers (c .result) .base ≡ 0) × (readNumbers (c .result) .reset ≡ 0)
-    by (NotRead refusal) left told = (left, ap (λ n. n .base) told, ap (λ n. n .reset) told)
+    by (NotRead why) left told = (left, ap (λ n. n .base) told, ap (λ n. n .reset) told)
     by (Read h) left told = absurd (omega (arith, ap (λ n. n .number) told))
 
 write-refused : (c : WriteCall) → 0 < writtenNumbers (c .result) .number
@@ -73,7 +72,7 @@ write-refused c some = by (writtenOf c) (c .kept .1) (written-numbers c)
     by : (a : ListWritten) → c .page-left ≡ pageBy a (holds (c .marks)) (c .base) (c .reset) (holds (c .page))
         → writtenNumbers (c .result) ≡ listWrittenNumbers a
         → (c .page-left ≡ holds (c .page)) × (writtenNumbers (c .result) .length ≡ 0)
-    by (NotWritten refusal) left told = (left, ap (λ n. n .length) told)
+    by (NotWritten why) left told = (left, ap (λ n. n .length) told)
     by (Written n) left told = absurd (omega (arith, ap (λ n. n .number) told))
 
 module _ (c : RunCall) where
@@ -98,9 +97,9 @@ module _ (c : RunCall) where
   unfolding admittedHistory
   step-stopped = by (admission (memoryOf c) (stateGiven c) (c .steps))
     where
-      by : (a : Admission) → Every Undone (admittedHistory a (memoryOf c) (stateGiven c) (c .steps))
-      by Admitted = stops-leave (c .steps) (memoryOf c) (stateGiven c)
-      by (NotAdmitted why) = tt
+      by : (a : TestResult) → Every Undone (admittedHistory a (memoryOf c) (stateGiven c) (c .steps))
+      by Passed = stops-leave (c .steps) (memoryOf c) (stateGiven c)
+      by (Failed why) = tt
 
   run-stopped : numbers c .steps ≡ 0 → Untouched c
   run-stopped none = by (ranOf c .answer) refl (run-numbers c)
@@ -156,26 +155,20 @@ zero-accepted c zero = by (verdictOf c) refl (check-numbers c)
   where
     by : (v : Verdict) → verdictOf c ≡ v → checkNumbers (c .result) ≡ verdictNumbers v → verdictOf c ≡ Accepted
     by Accepted e told = e
-    by (Refused n at) e told =
-        absurd (omega (
-          arith,
-          zero,
-          ap (λ n. n .number) told,
-          refused-some (holds (c .image)) (holds (c .marks)) (c .base) (c .reset) n at e,
-        ))
+    by (Refused why at) e told = absurd (omega (arith, zero, ap (λ n. n .number) told, refusal-range why .0))
 
-refuses : (c : CheckCall) → 0 < c .result
-    → Breaks (holds (c .image)) (holds (c .marks)) (c .base) (c .reset) (checkNumbers (c .result) .number)
-    (checkNumbers (c .result) .offset)
+refuses : (c : CheckCall) → 0 < c .result → RefusedCheck c
 refuses c some = by (verdictOf c) refl (check-numbers c)
   where
-    by : (v : Verdict) → verdictOf c ≡ v → checkNumbers (c .result) ≡ verdictNumbers v
-        → Breaks (holds (c .image)) (holds (c .marks)) (c .base) (c .reset) (checkNumbers (c .result) .number)
-        (checkNumbers (c .result) .offset)
+    by : (v : Verdict) → verdictOf c ≡ v → checkNumbers (c .result) ≡ verdictNumbers v → RefusedCheck c
     by Accepted e told = absurd (omega (arith, some, ap (λ n. n .number) told, ap (λ n. n .offset) told))
-    by (Refused n at) e told =
-        rw (ap (λ n. n .number) told, ap (λ n. n .offset) told)
-        (refused-means (holds (c .image)) (holds (c .marks)) (c .base) (c .reset) n at e)
+    by (Refused why at) e told = record {
+      why = why;
+      number = ap (λ n. n .number) told;
+      breaks =
+          rw (ap (λ n. n .offset) told)
+          (refused-means (holds (c .image)) (holds (c .marks)) (c .base) (c .reset) why at e);
+    }
 
 module _ (c : RunCall) (zero : numbers c .refusal ≡ 0) where
   -- what is shown of a call that is not refused
@@ -185,7 +178,7 @@ module _ (c : RunCall) (zero : numbers c .refusal ≡ 0) where
   when-taken {P} shows = by (ranOf c .answer) refl (run-numbers c)
     where
       by : (a : RunAnswer) → ranOf c .answer ≡ a → numbers c ≡ answerNumbers a → P
-      by (NotRun why) e told = absurd (omega (arith, zero, ap (λ n. n .refusal) told, run-number why .0))
+      by (NotRun why) e told = absurd (omega (arith, zero, ap (λ n. n .refusal) told, refusal-range why .0))
       by (Ended end steps calls) e told =
           let t = taken (memoryOf c) (holds (c .state)) (c .steps) end steps calls e in
           shows (t .history-is) (t .ran-is)
@@ -221,7 +214,7 @@ read-written r w zero marks base reset room = by (readOf r) refl (read-numbers r
     by : (a : ListRead) → readOf r ≡ a → readNumbers (r .result) ≡ listReadNumbers a
         → (writtenNumbers (w .result) ≡ record { number = 0; length = length (holds (r .text)) })
         × (w .page-left ≡ holds (r .text) ++ drop (length (holds (r .text))) (holds (w .page)))
-    by (NotRead refusal) e told = absurd (omega (arith, ap (λ n. n .number) told, list-number refusal .0))
+    by (NotRead why) e told = absurd (omega (arith, ap (λ n. n .number) told, refusal-range why .0))
     by (Read h) e told =
         let same = read-then-written (holds (r .text)) (holds (r .marks)) (holds (w .page)) h e room in
         let marks′ : holds (w .marks) ≡ marksRead (holds (r .text)) (holds (r .marks)) = marks ∙ r .kept .1 in
@@ -243,7 +236,7 @@ written-read w r zero text long = by (writtenOf w) refl (written-numbers w)
     by : (a : ListWritten) → writtenOf w ≡ a → writtenNumbers (w .result) ≡ listWrittenNumbers a
         → (readNumbers (r .result) ≡ record { number = 0; base = w .base; reset = w .reset })
         × (r .marks-left ≡ holds (w .marks))
-    by (NotWritten refusal) e told = absurd (omega (arith, ap (λ n. n .number) told, list-number refusal .0))
+    by (NotWritten why) e told = absurd (omega (arith, ap (λ n. n .number) told, refusal-range why .0))
     by (Written n) e told =
         let given = holds (w .marks) in
         let same = written-then-read given (w .base) (w .reset) n (holds (w .page)) (holds (r .marks)) e long in
@@ -320,7 +313,7 @@ told c whole (admitted a kept) =
         inr (rw end low, rw end high)
 told c whole (refused why a idle) =
     let answer = left c whole .answer ∙ ap answerNumbers (idle .answer) in
-    let some : 0 < numbers c .refusal = rw (ap (λ n. n .refusal) answer) (run-number why .0) in
+    let some : 0 < numbers c .refusal = rw (ap (λ n. n .refusal) answer) (refusal-range why .0) in
     inl (record { refused = some; no-step = idle .steps; untouched = run-refused c some .0 })
 
 module _ (image : List ℕ) (base : ℕ) where

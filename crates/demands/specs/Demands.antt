@@ -17,7 +17,9 @@ use mathlib.Core.List.{List, [], _∷_, _++_}
 use lib.ListN.{length, take, drop}
 use Rattle.loader.specs.Packed.{verdictNumbers, checkNumbers, listReadNumbers, readNumbers, listWrittenNumbers}
 use Rattle.loader.specs.Packed.{writtenNumbers, answerNumbers}
+use Rattle.model.specs.declared.refusals.Refusal.{Refusal}
 use Rattle.model.specs.declared.runs.RunAnswer.the-variants.{Ended}
+use Rattle.model.specs.Refusals.{refusalNumber}
 use Rattle.model.specs.CodeMap.{entryAt, lengthAt}
 use Rattle.model.specs.Rules.{Accepts}
 use Rattle.model.specs.Verdict.{verdict}
@@ -71,6 +73,12 @@ pub record Demand1 : Type 2 where
 
 -- ---- 2
 
+-- 'the number and place fixed there': a rule is broken there, and none that goes before it
+pub record RefusedCheck (c : CheckCall) : Type 0 where
+  pub why : Refusal
+  pub number : checkNumbers (c .result) .number ≡ refusalNumber why
+  pub breaks : Breaks (holds (c .image)) (holds (c .marks)) (c .base) (c .reset) why (checkNumbers (c .result) .offset)
+
 -- 01: 'A run that is not refused answers exactly its history's end, its number of completed steps, and the number of
 -- its calls ..; it leaves the state and RAM as they are after the last completed step, or as given if there is none.'
 pub record ByHistory (c : RunCall) : Type 0 where
@@ -86,9 +94,7 @@ pub record ByHistory (c : RunCall) : Type 0 where
 pub record Demand2 : Type 0 where
   pub accepts : (c : CheckCall)
       → (c .result ≡ 0) ↔ Accepts (holds (c .image)) (holds (c .marks)) (c .base) (c .reset)
-  pub refuses : (c : CheckCall) → 0 < c .result
-      → Breaks (holds (c .image)) (holds (c .marks)) (c .base) (c .reset) (checkNumbers (c .result) .number)
-      (checkNumbers (c .result) .offset)
+  pub refuses : (c : CheckCall) → 0 < c .result → RefusedCheck c
   -- one step: its answer, and state and RAM after it; then any number of them
   pub one-step : (c : RunCall) → c .steps ≡ 1 → numbers c .refusal ≡ 0
       → (numbers c ≡ answerNumbers (oneStep (step (memoryOf c) (stateGiven c)) .answer))

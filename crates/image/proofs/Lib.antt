@@ -1,2 +1,3 @@
 -- The laws that the proofs of the functions share.
 pub mod Form
+pub mod Forms

@@ -1,18 +1,19 @@
 // What the check, the machine and the lists all ask of an image and its marks.
+use model::addresses::ADDRESS_LIMIT;
+use model::addresses::BANK_SIZE;
+use model::addresses::in_bank_of;
+use model::refusals::Refusal;
+use model::refusals::TestResult;
 ghost use mathlib.Core.Path.{_≡_};
 ghost use Prim.Native.Nat.{_%_};
 ghost use lib.ListN.{getD};
 ghost use Rattle.model.specs.Choice.{pick};
 ghost use Rattle.model.specs.Image.{bankSize, isStart, isFormed, lengthFits, baseFits, markAt, resetFits};
-ghost use Rattle.model.specs.Image.{inBankOf};
-ghost use Rattle.model.specs.Verdict.{badMark};
+ghost use Rattle.model.specs.Refusals.{firstRefusal};
+ghost use Rattle.model.specs.Verdict.{badMark, allFormed, imageTests, marksTests};
 
-// The limits of model/specs/Image.antt.
+// The limit of model/specs/Image.antt.
 pub const IMAGE_LIMIT: usize = 16_384;
-
-pub const BANK_SIZE: u32 = 65_536;
-
-const ADDRESS_LIMIT: u32 = 16_777_216;
 
 // The byte at a place, 0 past the end.
 pub fn byte_at(bytes: &[u8], at: usize) -> u8
@@ -90,30 +91,23 @@ pub fn is_start(mark: u8) -> bool
 }
 
 // The mark at an address, 0 outside the image.
-pub fn mark_at(marks: &[u8], base: u32, address: u64) -> u8
+pub fn mark_at(marks: &[u8], base: u32, address: u32) -> u8
     ensures { λ r. ⌜ r ≡ markAt (now (marks .entry)) base address ⌝ }
 {
-    let first = base as u64;
-    if address < first {
+    if address < base {
         return 0;
     }
-    byte_at(marks, (address - first) as usize)
+    byte_at(marks, (address - base) as usize)
 }
 
 // Number 3: at the reset address stands a start with m=0, x=0 and return kind 0.
 pub fn reset_fits(marks: &[u8], base: u32, reset: u32) -> bool
     ensures { λ r. ⌜ r ≡ resetFits (now (marks .entry)) base reset ⌝ }
 {
-    let bank = (base / BANK_SIZE) as u64;
-    mark_at(marks, base, bank * BANK_SIZE as u64 + reset as u64) == 1
-}
-
-// The address in the bank of a base that has these low 16 bits.
-pub fn in_bank_of(base: u32, low: u32) -> u64
-    ensures { λ r. ⌜ r ≡ inBankOf base low ⌝ }
-{
-    let bank = (base / BANK_SIZE) as u64;
-    bank * BANK_SIZE as u64 + low as u64
+    if BANK_SIZE <= reset {
+        return false;
+    }
+    mark_at(marks, base, in_bank_of(base, reset)) == 1
 }
 
 // The lowest mark that is not of the form, or the number of marks.
@@ -128,4 +122,48 @@ pub fn bad_mark(marks: &[u8]) -> usize
         i += 1;
     }
     i
+}
+
+// Every mark has the form. The loop goes through all of them, without a branch that hangs on a mark.
+fn all_formed(marks: &[u8]) -> bool
+    ensures { λ r. ⌜ r ≡ allFormed (now (marks .entry)) ⌝ }
+{
+    let mut bad = 0;
+    let mut i = 0;
+    while i < marks.len() {
+        bad = bad | misfit(marks[i]);
+        i += 1;
+    }
+    bad == 0
+}
+
+// 1, 2: what every call tests of an image of so many bytes at a base, with so many marks.
+pub fn test_image(image: usize, marks: usize, base: u32) -> TestResult
+    ensures { λ r. ⌜ r ≡ firstRefusal (imageTests image marks base) ⌝ }
+{
+    if !length_fits(image, marks) {
+        return TestResult::Failed(Refusal::Length);
+    }
+    if !base_fits(base, image) {
+        return TestResult::Failed(Refusal::Base);
+    }
+    TestResult::Passed
+}
+
+// 1, 2, 4, 3: what the check and the writer test. The marks are gone through only where they are as many as they must
+// be.
+pub fn test_marks(image: usize, marks: &[u8], base: u32, reset: u32) -> TestResult
+    ensures { λ r. ⌜ r ≡ firstRefusal (marksTests image (now (marks .entry)) base reset) ⌝ }
+{
+    let tested = test_image(image, marks.len(), base);
+    if let TestResult::Failed(_) = tested {
+        return tested;
+    }
+    if !all_formed(marks) {
+        return TestResult::Failed(Refusal::Mark);
+    }
+    if !reset_fits(marks, base, reset) {
+        return TestResult::Failed(Refusal::Reset);
+    }
+    TestResult::Passed
 }

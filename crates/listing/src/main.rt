@@ -1,4 +1,5 @@
 // Writes the listing of the code map: a line for each of the 768 entries (PAGE CODE WORD REGISTER MODE L00 L01 L10 L11 CARRIED).
+use codepages::CodePages;
 use codepages::pages;
 use decoder::entry_at;
 use decoder::length_at;
@@ -114,7 +115,7 @@ fn is_assigned(operation: Operation) -> bool {
     }
 }
 
-fn say_line(codes: &[[[u32; 16]; 16]; 3], page: usize, code: u8)
+fn say_line(codes: &CodePages, page: usize, code: u8)
     requires { ⌜ (now codes ≡ numbers) × (page < 3) ⌝ }
 {
     say_page(page);
@@ -130,7 +131,7 @@ fn say_line(codes: &[[[u32; 16]; 16]; 3], page: usize, code: u8)
     }
 }
 
-fn list_page(codes: &[[[u32; 16]; 16]; 3], page: usize)
+fn list_page(codes: &CodePages, page: usize)
     requires { ⌜ (now codes ≡ numbers) × (page < 3) ⌝ }
 {
     let mut code: u8 = 0;

@@ -21,18 +21,18 @@ verdict-fits image marks base reset = by (verdict image marks base reset) refl
   where
     by : (v : Verdict) → verdict image marks base reset ≡ v → Fits v
     by Accepted e = tt
-    by (Refused n at) e = refused-small image marks base reset n at e
+    by (Refused why at) e = refused-small image marks base reset at why e
 
 pub read-fits : (text marks : List ℕ) → ReadFits (readList text marks)
 read-fits text marks = by (readList text marks) refl
   where
     by : (a : ListRead) → readList text marks ≡ a → ReadFits a
-    by (NotRead refusal) e = tt
+    by (NotRead why) e = tt
     by (Read h) e = read-small text marks h e
 
 pub written-fits : (marks : List ℕ) (base reset : ℕ) (page : List ℕ) → WrittenFits (writeList marks base reset page)
 written-fits marks base reset page = by (writeList marks base reset page) refl
   where
     by : (a : ListWritten) → writeList marks base reset page ≡ a → WrittenFits a
-    by (NotWritten refusal) e = tt
+    by (NotWritten why) e = tt
     by (Written n) e = omega (arith, written-small marks base reset n page e)

@@ -8,13 +8,14 @@ use native.Mathlib.Omega.{arith}
 use Rattle.model.specs.declared.machine.Answer.{Answer}
 use Rattle.model.specs.declared.machine.Answer.the-variants.{Completed, Called, Stopped}
 use Rattle.model.specs.declared.machine.State.{State}
-use Rattle.model.specs.declared.runs.Admission.{Admission}
-use Rattle.model.specs.declared.runs.Admission.the-variants.{Admitted, Refused}
+use Rattle.model.specs.declared.refusals.TestResult.{TestResult}
+use Rattle.model.specs.declared.refusals.TestResult.the-variants.{Passed, Failed}
+use Rattle.model.specs.Refusals.{firstRefusal}
 use Rattle.model.specs.Status.{bit}
 use Rattle.model.specs.Memory.{Memory}
 use Rattle.model.specs.Step.{step}
 use Rattle.model.specs.Run.{stepLimit, isCompleted, isCall, Event, event, withRam, history, completedSteps, callsAmong}
-use Rattle.model.specs.Run.{admissionBy}
+use Rattle.model.specs.Run.{runTests}
 use Rattle.model.specs.RunBytes.{bytesFit, ranBytesBy, ranBytes}
 use Rattle.model.specs.StateBytes.{stateOf}
 use Rattle.model.proofs.Run.{onward, by-first-step, admitted}
@@ -45,12 +46,13 @@ steps-few m s (suc n) =
 
 pub run-fits : (m : Memory) (bytes : List ℕ) (asked : ℕ) → RunFits (ranBytes m bytes asked .answer)
 unfolding ranBytes
-run-fits m bytes asked = by (admissionBy m (bytesFit bytes) asked) refl
+run-fits m bytes asked = by (firstRefusal (runTests m (bytesFit bytes) asked)) refl
   where
-    by : (a : Admission) → admissionBy m (bytesFit bytes) asked ≡ a → RunFits (ranBytesBy a m bytes asked .answer)
-    by Admitted e =
+    by : (a : TestResult) → firstRefusal (runTests m (bytesFit bytes) asked) ≡ a
+        → RunFits (ranBytesBy a m bytes asked .answer)
+    by Passed e =
         let most = admitted m (bytesFit bytes) asked e .steps in
         let h = history m (stateOf bytes) asked in
         let steps = steps-few m (stateOf bytes) asked in
         (omega (arith, most, steps), omega (arith, most, steps, calls-few h))
-    by (Refused why) e = tt
+    by (Failed why) e = tt

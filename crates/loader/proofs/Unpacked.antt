@@ -6,22 +6,17 @@ use Prim.Native.Nat.{_+_, _*_, _/_, _^_, _<_}
 use native.Mathlib.Omega.{arith}
 use Rattle.model.specs.declared.rules.Verdict.{Verdict}
 use Rattle.model.specs.declared.rules.Verdict.the-variants.{Accepted, Refused}
-use Rattle.model.specs.declared.lists.Refusal.{Refusal}
-use Rattle.model.specs.declared.lists.Refusal.the-variants.{WrongLength, WrongBase, WrongReset}
-use Rattle.model.specs.declared.lists.Refusal.the-variants.{WrongMark, NotAList, ShortPage}
 use Rattle.model.specs.declared.lists.ListRead.{ListRead}
 use Rattle.model.specs.declared.lists.ListRead.the-variants.{NotRead, Read}
 use Rattle.model.specs.declared.lists.ListWritten.{ListWritten}
 use Rattle.model.specs.declared.lists.ListWritten.the-variants.{NotWritten, Written}
-use Rattle.model.specs.declared.runs.RunRefusal.{RunRefusal}
-use Rattle.model.specs.declared.runs.RunRefusal.the-variants.{WrongLength as RunLength, WrongBase as RunBase}
-use Rattle.model.specs.declared.runs.RunRefusal.the-variants.{WrongRam, WrongState, ManySteps}
 use Rattle.model.specs.declared.runs.End.{End}
 use Rattle.model.specs.declared.runs.End.the-variants.{Done, AtStop}
 use Rattle.model.specs.declared.runs.RunAnswer.{RunAnswer}
 use Rattle.model.specs.declared.runs.RunAnswer.the-variants.{NotRun, Ended}
-use Rattle.model.specs.MarkList.{refusalNumber}
-use Rattle.model.specs.Run.{runRefusalNumber, endNumber}
+use Rattle.model.specs.Refusals.{refusalNumber}
+use Rattle.model.specs.Run.{endNumber}
+use Rattle.model.proofs.TestResults.{refusal-range}
 use Rattle.model.proofs.Step.{stop-range}
 use Rattle.loader.specs.Packed.{packedVerdict, Fits, verdictNumbers, checkNumbers}
 use Rattle.loader.specs.Packed.{packedRead, ReadFits, listReadNumbers, readNumbers}
@@ -30,25 +25,16 @@ use Rattle.loader.specs.Packed.{packedRun, RunFits, answerNumbers, runNu
 
 pub verdict-unpacked : (v : Verdict) → Fits v → checkNumbers (packedVerdict v) ≡ verdictNumbers v
 verdict-unpacked Accepted f = refl
-verdict-unpacked (Refused n at) f =
-    let result = n * 65_536 + at in
-    let number : checkNumbers result .number ≡ n = omega arith in
+verdict-unpacked (Refused why at) f =
+    let result = refusalNumber why * 65_536 + at in
+    let number : checkNumbers result .number ≡ refusalNumber why = omega arith in
     let offset : checkNumbers result .offset ≡ at = omega arith in
     λ j. record { number = number j; offset = offset j }
 
--- a refusal's number is one of a byte, and not 0
-pub list-number : (refusal : Refusal) → (0 < refusalNumber refusal) × (refusalNumber refusal < 256)
-list-number WrongLength = omega arith
-list-number WrongBase = omega arith
-list-number WrongReset = omega arith
-list-number WrongMark = omega arith
-list-number NotAList = omega arith
-list-number ShortPage = omega arith
-
 pub read-unpacked : (a : ListRead) → ReadFits a → readNumbers (packedRead a) ≡ listReadNumbers a
-read-unpacked (NotRead refusal) f =
-    let result = refusalNumber refusal in
-    let below = list-number refusal .1 in
+read-unpacked (NotRead why) f =
+    let result = refusalNumber why in
+    let below = refusal-range why .1 in
     let number : readNumbers result .number ≡ result = omega arith in
     let base : readNumbers result .base ≡ 0 = omega arith in
     let reset : readNumbers result .reset ≡ 0 = omega arith in
@@ -63,9 +49,9 @@ read-unpacked (Read h) f =
     λ j. record { number = number j; base = base j; reset = reset j }
 
 pub written-unpacked : (a : ListWritten) → writtenNumbers (packedWritten a) ≡ listWrittenNumbers a
-written-unpacked (NotWritten refusal) =
-    let result = refusalNumber refusal in
-    let below = list-number refusal .1 in
+written-unpacked (NotWritten why) =
+    let result = refusalNumber why in
+    let below = refusal-range why .1 in
     let number : writtenNumbers result .number ≡ result = omega arith in
     let length : writtenNumbers result .length ≡ 0 = omega arith in
     λ j. record { number = number j; length = length j }
@@ -74,21 +60,14 @@ written-unpacked (Written n) =
     let length : writtenNumbers (n * 256) .length ≡ n = omega arith in
     λ j. record { number = number j; length = length j }
 
-pub run-number : (why : RunRefusal) → (0 < runRefusalNumber why) × (runRefusalNumber why < 256)
-run-number RunLength = omega arith
-run-number RunBase = omega arith
-run-number WrongRam = omega arith
-run-number WrongState = omega arith
-run-number ManySteps = omega arith
-
 end-below : (end : End) → endNumber end < 256
 end-below Done = omega arith
 end-below (AtStop stop) = omega (arith, stop-range stop .1)
 
 pub run-unpacked : (a : RunAnswer) → RunFits a → runNumbers (packedRun a) ≡ answerNumbers a
 run-unpacked (NotRun why) f =
-    let result = runRefusalNumber why in
-    let below = run-number why .1 in
+    let result = refusalNumber why in
+    let below = refusal-range why .1 in
     let refusal : runNumbers result .refusal ≡ result = omega arith in
     let end : runNumbers result .end ≡ 0 = omega arith in
     let steps : runNumbers result .steps ≡ 0 = omega arith in

@@ -11,19 +11,19 @@ use Rattle.model.specs.declared.lists.ListWritten.the-variants.{NotWritten, Wri
 use Rattle.model.specs.declared.runs.RunAnswer.{RunAnswer}
 use Rattle.model.specs.declared.runs.RunAnswer.the-variants.{NotRun, Ended}
 use Rattle.model.specs.Image.{addressLimit, bankSize}
-use Rattle.model.specs.MarkList.{refusalNumber}
-use Rattle.model.specs.Run.{stepLimit, runRefusalNumber, endNumber}
+use Rattle.model.specs.Refusals.{refusalNumber}
+use Rattle.model.specs.Run.{stepLimit, endNumber}
 
 -- ---- the check: the number in the upper 16 bits, the offset in the lower; 0 is accepted
 
 abbrev pub packedVerdict : Verdict → ℕ
 packedVerdict Accepted = 0
-packedVerdict (Refused number offset) = number * 65_536 + offset
+packedVerdict (Refused why offset) = refusalNumber why * 65_536 + offset
 
 -- an answer that fits so
 abbrev pub Fits : Verdict → Type 0
 Fits Accepted = Unit {0}
-Fits (Refused number offset) = (number ≤ 10) × (offset < 65_536)
+Fits (Refused why offset) = offset < 65_536
 
 pub record CheckNumbers : Type 0 where
   pub number : ℕ
@@ -31,7 +31,7 @@ pub record CheckNumbers : Type 0 where
 
 abbrev pub verdictNumbers : Verdict → CheckNumbers
 verdictNumbers Accepted = record { number = 0; offset = 0 }
-verdictNumbers (Refused number offset) = record { number = number; offset = offset }
+verdictNumbers (Refused why offset) = record { number = refusalNumber why; offset = offset }
 
 -- M7700_NUMBER, M7700_OFFSET
 abbrev pub checkNumbers : ℕ → CheckNumbers
@@ -41,11 +41,11 @@ checkNumbers result = record { number = result / 2 ^ 16; offset = result % 2 ^ 1
 -- 32 to 55
 
 abbrev pub packedRead : ListRead → ℕ
-packedRead (NotRead refusal) = refusalNumber refusal
+packedRead (NotRead why) = refusalNumber why
 packedRead (Read h) = h .base * 256 + h .reset * 4_294_967_296
 
 abbrev pub ReadFits : ListRead → Type 0
-ReadFits (NotRead refusal) = Unit {0}
+ReadFits (NotRead why) = Unit {0}
 ReadFits (Read h) = (h .base < addressLimit) × (h .reset < bankSize)
 
 pub record ReadNumbers : Type 0 where
@@ -54,7 +54,7 @@ pub record ReadNumbers : Type 0 where
   pub reset : ℕ
 
 abbrev pub listReadNumbers : ListRead → ReadNumbers
-listReadNumbers (NotRead refusal) = record { number = refusalNumber refusal; base = 0; reset = 0 }
+listReadNumbers (NotRead why) = record { number = refusalNumber why; base = 0; reset = 0 }
 listReadNumbers (Read h) = record { number = 0; base = h .base; reset = h .reset }
 
 -- M7700_LIST_NUMBER, M7700_LIST_BASE, M7700_LIST_RESET
@@ -68,11 +68,11 @@ readNumbers result = record {
 -- ---- the writer: the number in bits 0 to 7; where that is 0, the list's length in bits 8 to 63
 
 abbrev pub packedWritten : ListWritten → ℕ
-packedWritten (NotWritten refusal) = refusalNumber refusal
+packedWritten (NotWritten why) = refusalNumber why
 packedWritten (Written n) = n * 256
 
 abbrev pub WrittenFits : ListWritten → Type 0
-WrittenFits (NotWritten refusal) = Unit {0}
+WrittenFits (NotWritten why) = Unit {0}
 WrittenFits (Written n) = n < 72_057_594_037_927_936
 
 pub record WrittenNumbers : Type 0 where
@@ -80,7 +80,7 @@ pub record WrittenNumbers : Type 0 where
   pub length : ℕ
 
 abbrev pub listWrittenNumbers : ListWritten → WrittenNumbers
-listWrittenNumbers (NotWritten refusal) = record { number = refusalNumber refusal; length = 0 }
+listWrittenNumbers (NotWritten why) = record { number = refusalNumber why; length = 0 }
 listWrittenNumbers (Written n) = record { number = 0; length = n }
 
 -- M7700_LIST_NUMBER, M7700_LIST_LENGTH
@@ -91,7 +91,7 @@ writtenNumbers result = record { number = result % 2 ^ 8; length = result / 2 ^ 
 -- calls in bits 40 to 63
 
 abbrev pub packedRun : RunAnswer → ℕ
-packedRun (NotRun why) = runRefusalNumber why
+packedRun (NotRun why) = refusalNumber why
 packedRun (Ended end steps calls) = 256 * endNumber end + 65_536 * steps + 1_099_511_627_776 * calls
 
 abbrev pub RunFits : RunAnswer → Type 0
@@ -105,7 +105,7 @@ pub record RunNumbers : Type 0 where
   pub calls : ℕ
 
 abbrev pub answerNumbers : RunAnswer → RunNumbers
-answerNumbers (NotRun why) = record { refusal = runRefusalNumber why; end = 0; steps = 0; calls = 0 }
+answerNumbers (NotRun why) = record { refusal = refusalNumber why; end = 0; steps = 0; calls = 0 }
 answerNumbers (Ended end steps calls) = record { refusal = 0; end = endNumber end; steps = steps; calls = calls }
 
 -- M7700_RUN_REFUSAL, M7700_RUN_END, M7700_RUN_STEPS, M7700_RUN_CALLS

@@ -4,10 +4,10 @@ pub mod packing;
 use crate::packing::pack_run;
 use checker::check;
 use marklist::reader::read_list;
-use marklist::refusal_number;
 use marklist::writer::write_list;
 use model::lists::ListRead;
 use model::lists::ListWritten;
+use model::refusals::refusal_number;
 use model::rules::Verdict;
 use runs::bytes::run;
 ghost use mathlib.Core.Path.{_≡_};
@@ -24,7 +24,7 @@ fn pack(answer: Verdict) -> u32
 {
     match answer {
         Verdict::Accepted => 0,
-        Verdict::Refused { number, offset } => number as u32 * 65_536 + offset,
+        Verdict::Refused { why, offset } => refusal_number(why) as u32 * 65_536 + offset,
     }
 }
 
@@ -41,7 +41,7 @@ fn pack_read(answer: ListRead) -> u64
     ensures { λ r. ⌜ r ≡ packedRead answer ⌝ }
 {
     match answer {
-        ListRead::NotRead(refusal) => refusal_number(refusal) as u64,
+        ListRead::NotRead(why) => refusal_number(why) as u64,
         ListRead::Read(h) => h.base as u64 * 256 + h.reset as u64 * 4_294_967_296,
     }
 }
@@ -51,7 +51,7 @@ fn pack_written(answer: ListWritten) -> u64
     ensures { λ r. ⌜ r ≡ packedWritten answer ⌝ }
 {
     match answer {
-        ListWritten::NotWritten(refusal) => refusal_number(refusal) as u64,
+        ListWritten::NotWritten(why) => refusal_number(why) as u64,
         ListWritten::Written(length) => length as u64 * 256,
     }
 }

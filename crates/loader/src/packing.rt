@@ -1,10 +1,10 @@
 // A run's answer as one number.
 use model::machine::Stop;
+use model::refusals::refusal_number;
 use model::runs::End;
 use model::runs::RunAnswer;
-use model::runs::RunRefusal;
 ghost use mathlib.Core.Path.{_≡_};
-ghost use Rattle.model.specs.Run.{runRefusalNumber, endNumber};
+ghost use Rattle.model.specs.Run.{endNumber};
 ghost use Rattle.model.specs.Step.{stopNumber};
 ghost use Rattle.loader.specs.Packed.{packedRun, RunFits};
 
@@ -29,18 +29,6 @@ fn end_number(end: End) -> u8
     match end {
         End::Done => 0,
         End::AtStop(stop) => stop_number(stop),
-    }
-}
-
-fn refusal_number(why: RunRefusal) -> u8
-    ensures { λ r. ⌜ r ≡ runRefusalNumber why ⌝ }
-{
-    match why {
-        RunRefusal::WrongLength => 1,
-        RunRefusal::WrongBase => 2,
-        RunRefusal::WrongRam => 11,
-        RunRefusal::WrongState => 12,
-        RunRefusal::ManySteps => 13,
     }
 }
 

@@ -35,12 +35,12 @@ ghost use Rattle.machine.specs.Turns.{turn, left, finished};
 // How a step ended, the place of execution after it, and how many calls are open then.
 pub struct Turn {
     pub answer: Answer,
-    pub place: u64,
+    pub place: u32,
     pub depth: usize,
 }
 
 // A step that stopped.
-pub fn stopped(stop: Stop, place: u64, depth: usize) -> Turn
+pub fn stopped(stop: Stop, place: u32, depth: usize) -> Turn
     ensures { λ r. ⌜ r ≡ turn (Stopped stop) place depth ⌝ }
 {
     Turn {
@@ -88,8 +88,8 @@ pub fn finish(
     base: u32,
     i: Fetched,
     effect: Effect,
-    to: u64,
-    place: u64,
+    to: u32,
+    place: u32,
     depth: usize,
     registers: &mut [u16; FILE_SIZE],
     ram: &mut [u8],

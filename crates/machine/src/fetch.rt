@@ -1,4 +1,5 @@
 // The instruction at the place of execution.
+use codepages::CodePages;
 use cpu::flags::bit_at;
 use decoder::Framed;
 use decoder::frame_at;
@@ -30,13 +31,7 @@ pub enum Fetch {
 }
 
 // What stands at a place, at the widths of a status. RAM has no part in it.
-pub fn fetch_at(
-    codes: &[[[u32; 16]; 16]; 3],
-    image: &[u8],
-    base: u32,
-    place: u64,
-    status: u16,
-) -> Fetch
+pub fn fetch_at(codes: &CodePages, image: &[u8], base: u32, place: u32, status: u16) -> Fetch
     requires { ⌜ (now codes ≡ numbers) × (base + length (now image) ≤ addressLimit) × (length (now image) ≤ imageLimit) ⌝ }
     ensures { λ r. ⌜
         ((ram : List ℕ) (c : Core) → place ≡ spec.placeOf c → c .registers .status ≡ statusOf status
@@ -44,11 +39,10 @@ pub fn fetch_at(
         × BoundedIn r
         ⌝ }
 {
-    let from = base as u64;
-    if place < from {
+    if place < base {
         return Fetch::CutOff;
     }
-    let at = (place - from) as usize;
+    let at = (place - base) as usize;
     let m = bit_at(Status::M, status);
     let x = bit_at(Status::X, status);
     match frame_at(codes, image, at, m, x) {

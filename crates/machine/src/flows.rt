@@ -4,6 +4,7 @@ use crate::commit::finish;
 use crate::commit::put;
 use crate::commit::stopped;
 use crate::fetch::Fetched;
+use actions::TaskTable;
 use actions::access_of;
 use actions::task_at;
 use addressing::access::is_short;
@@ -24,10 +25,12 @@ use entries::width_of;
 use memory::stores::Stores;
 use memory::stores::served_all;
 use memory::stores::write;
+use model::addresses::BANK_SIZE;
 use model::code::Kind;
 use model::machine::Access;
 use model::machine::Answer;
 use model::machine::CALL_LIMIT;
+use model::machine::ENTRY_UNIT;
 use model::machine::Served;
 use model::machine::Status;
 use model::machine::Stop;
@@ -50,11 +53,8 @@ ghost use Rattle.model.specs.Step as spec;
 ghost use Rattle.machine.specs.Fetches.{instruction, Bounded};
 ghost use Rattle.machine.specs.Turns.{coreOf, left, finished, goesBy};
 
-// The place of an open call's kind in its entry.
-pub const ENTRY_UNIT: u64 = 4_294_967_296;
-
 // Where an instruction goes by its target.
-fn target(i: Fetched, place: u64) -> u64
+fn target(i: Fetched, place: u32) -> u32
     requires { ⌜ (place < addressLimit) × Bounded i ⌝ }
     ensures { λ r. ⌜ r ≡ targetAddress (instruction i) place ⌝ }
 {
@@ -62,7 +62,7 @@ fn target(i: Fetched, place: u64) -> u64
 }
 
 // Where an operation goes on.
-fn goes(branches: bool, taken: bool, i: Fetched, place: u64) -> u64
+fn goes(branches: bool, taken: bool, i: Fetched, place: u32) -> u32
     requires { ⌜ (place < addressLimit) × Bounded i ⌝ }
     ensures { λ r. ⌜ r ≡ goesBy branches i place taken ⌝ }
 {
@@ -89,12 +89,12 @@ fn is_decimal(access: Access, registers: &[u16; FILE_SIZE]) -> bool
 
 // An operation: decimal mode, then the reads, then the operation, then its stores.
 pub fn operates(
-    tasks: &[[u16; 128]; 4],
+    tasks: &TaskTable,
     image: &[u8],
     base: u32,
     branches: bool,
     i: Fetched,
-    place: u64,
+    place: u32,
     depth: usize,
     registers: &mut [u16; FILE_SIZE],
     ram: &mut [u8],
@@ -145,7 +145,7 @@ pub fn operates(
 }
 
 // A jump.
-pub fn jumps(i: Fetched, place: u64, depth: usize, registers: &mut [u16; FILE_SIZE]) -> Turn
+pub fn jumps(i: Fetched, place: u32, depth: usize, registers: &mut [u16; FILE_SIZE]) -> Turn
     requires { ⌜ (place < addressLimit) × Bounded i × (length (now registers) ≡ fileSize) ⌝ }
     ensures { λ r. ⌜
         ((m : Memory) (calls : List ℕ) → left r (now (registers .exit)) calls (m .ram)
@@ -175,32 +175,32 @@ pub fn return_bytes(kind: Kind) -> u16
 }
 
 // A return address onto the stack, the highest byte first.
-fn pushes_return(s: u16, next: u64, kind: Kind) -> Stores
+fn pushes_return(s: u16, next: u32, kind: Kind) -> Stores
     ensures { λ r. ⌜
         ((place depth : ℕ) (file : List ℕ) (i : Fetched) → s ≡ registersOf file .s
         → next ≡ spec.next (coreOf place depth file) (instruction i)
         → listed r ≡ spec.pushesReturn (coreOf place depth file) (instruction i) kind)
         ⌝ }
 {
+    let address = next as u64;
     let first = s as u64;
     let second = pushed_at(s, 1) as u64;
     let third = pushed_at(s, 2) as u64;
     match kind {
-        Kind::ByRts => Stores::Two(store(first, next / 256), store(second, next)),
+        Kind::ByRts => Stores::Two(store(first, address / 256), store(second, address)),
         Kind::ByRtl => Stores::Three(
-            store(first, next / 65_536),
-            store(second, next / 256),
-            store(third, next),
+            store(first, address / BANK_SIZE as u64),
+            store(second, address / 256),
+            store(third, address),
         ),
     }
 }
 
 // The entry of an open call.
-fn entry_of(address: u64, kind: Kind) -> u64
-    requires { ⌜ address < addressLimit ⌝ }
+fn entry_of(address: u32, kind: Kind) -> u64
     ensures { λ r. ⌜ r ≡ spec.entryOf address (kindNumber kind) ⌝ }
 {
-    address + ENTRY_UNIT * kind_number(kind) as u64
+    address as u64 + ENTRY_UNIT * kind_number(kind) as u64
 }
 
 // A call, unless too many are open or its pushes are not served.
@@ -209,7 +209,7 @@ pub fn calls_to(
     base: u32,
     i: Fetched,
     kind: Kind,
-    place: u64,
+    place: u32,
     depth: usize,
     registers: &mut [u16; FILE_SIZE],
     calls: &mut [u64; CALL_LIMIT],

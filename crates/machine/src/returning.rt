@@ -3,7 +3,6 @@ use crate::commit::Turn;
 use crate::commit::put;
 use crate::commit::stopped;
 use crate::fetch::Fetched;
-use crate::flows::ENTRY_UNIT;
 use crate::flows::return_bytes;
 use cpu::effects::pulled_at;
 use cpu::effects::puts;
@@ -14,10 +13,11 @@ use memory::reads::LongRead;
 use memory::reads::WordRead;
 use memory::reads::long_from;
 use memory::reads::word_from;
+use model::addresses::in_bank_of;
 use model::code::Kind;
 use model::machine::Answer;
+use model::machine::ENTRY_UNIT;
 use model::machine::Stop;
-use successors::in_bank_of;
 use successors::kind_number;
 ghost use mathlib.Core.Path.{_≡_};
 ghost use mathlib.Core.List.{List};
@@ -33,18 +33,18 @@ ghost use Rattle.machine.specs.Fetches.{instruction};
 ghost use Rattle.machine.specs.Turns.{coreOf, left, finished, inOwnBank};
 
 // A word as an address of the bank of execution.
-fn in_own_bank(place: u64, read: WordRead) -> LongRead
+fn in_own_bank(place: u32, read: WordRead) -> LongRead
     requires { ⌜ place < addressLimit ⌝ }
     ensures { λ r. ⌜ r ≡ inOwnBank place read ⌝ }
 {
     match read {
-        WordRead::Word(address) => LongRead::Long(in_bank_of(place, address as u64) as u32),
+        WordRead::Word(address) => LongRead::Long(in_bank_of(place, address as u32)),
         WordRead::Unmapped => LongRead::Unmapped,
     }
 }
 
 // The return address that is pulled.
-fn pulls_return(ram: &[u8], image: &[u8], base: u32, s: u16, place: u64, kind: Kind) -> LongRead
+fn pulls_return(ram: &[u8], image: &[u8], base: u32, s: u16, place: u32, kind: Kind) -> LongRead
     requires { ⌜ place < addressLimit ⌝ }
     ensures { λ r. ⌜
         ((depth : ℕ) (file : List ℕ) (i : Fetched) → s ≡ registersOf file .s
@@ -69,7 +69,7 @@ fn returns_to(
     opened: u64,
     kind: Kind,
     address: u32,
-    place: u64,
+    place: u32,
     depth: usize,
     registers: &mut [u16; FILE_SIZE],
 ) -> Turn
@@ -95,7 +95,7 @@ fn returns_to(
     put(registers, i, puts(S, s, status));
     Turn {
         answer: Answer::Completed,
-        place: address as u64,
+        place: address,
         depth: depth - 1,
     }
 }
@@ -107,7 +107,7 @@ pub fn returns(
     i: Fetched,
     opened: u64,
     kind: Kind,
-    place: u64,
+    place: u32,
     depth: usize,
     registers: &mut [u16; FILE_SIZE],
     ram: &[u8],

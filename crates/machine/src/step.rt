@@ -8,9 +8,12 @@ use crate::flows::calls_to;
 use crate::flows::jumps;
 use crate::flows::operates;
 use crate::returning::returns;
+use actions::TaskTable;
+use codepages::CodePages;
 use cpu::file::FILE_SIZE;
 use cpu::file::PS;
 use entries::flow_of;
+use model::addresses::ADDRESS_LIMIT;
 use model::code::Flow;
 use model::machine::CALL_LIMIT;
 use model::machine::Stop;
@@ -26,8 +29,6 @@ ghost use Rattle.model.specs.Memory.{memory};
 ghost use Rattle.model.specs.Step as spec;
 ghost use Rattle.machine.specs.Fetches.{instruction, Bounded, isBranch};
 ghost use Rattle.machine.specs.Turns.{state, coreOf, left};
-
-const ADDRESS_LIMIT: u64 = 16_777_216;
 
 fn is_branch(flow: Flow) -> bool
     ensures { λ r. ⌜ r ≡ isBranch flow ⌝ }
@@ -55,11 +56,11 @@ fn last_opened(calls: &[u64; CALL_LIMIT], depth: usize) -> u64
 
 // The step of an instruction.
 fn perform(
-    tasks: &[[u16; 128]; 4],
+    tasks: &TaskTable,
     image: &[u8],
     base: u32,
     i: Fetched,
-    place: u64,
+    place: u32,
     depth: usize,
     registers: &mut [u16; FILE_SIZE],
     calls: &mut [u64; CALL_LIMIT],
@@ -101,11 +102,11 @@ fn perform(
 
 // The step of a place, a register file and the open calls.
 pub fn step_in(
-    codes: &[[[u32; 16]; 16]; 3],
-    tasks: &[[u16; 128]; 4],
+    codes: &CodePages,
+    tasks: &TaskTable,
     image: &[u8],
     base: u32,
-    place: u64,
+    place: u32,
     depth: usize,
     registers: &mut [u16; FILE_SIZE],
     calls: &mut [u64; CALL_LIMIT],

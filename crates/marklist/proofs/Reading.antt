@@ -1,5 +1,5 @@
 -- The reader's tests, over plain values: a text is a list when its lines end with it; the mark at the reset address is
--- the one shown behind the lines of the addresses before it; the first test that fails gives the answer.
+-- the one shown behind the lines of the addresses before it; what the tests come to gives the answer and the marks.
 -- Assumes nothing.
 use mathlib.Core.Path.{_≡_, refl, sym}
 use mathlib.Core.Bool.{Bool, true, false}
@@ -7,18 +7,19 @@ use mathlib.Core.List.{List}
 use Prim.Native.Nat.{ℕ, zero, suc, _+_, _-_, _%_, _≤_, _<_}
 use native.Mathlib.Nat.{add-zero}
 use native.Mathlib.Omega.{arith}
-use borrow.Author.Tests.{ltb-true, le-leb, lt-leb, eq-eqb, ne-eqb, eqb-true, eqb-false}
+use borrow.Author.Tests.{ltb-true, lt-ltb, le-ltb, le-leb, lt-leb, eq-eqb, ne-eqb, eqb-true, eqb-false}
 use lib.Dec.{eqb, ltb}
 use lib.ListN.{length, getD, drop, length-drop, List·getD-eq-default}
 use Rattle.model.specs.declared.lists.Header.{Header}
-use Rattle.model.specs.declared.lists.Refusal.{Refusal}
-use Rattle.model.specs.declared.lists.Refusal.the-variants.{WrongLength, WrongBase, WrongReset, NotAList}
+use Rattle.model.specs.declared.refusals.Refusal.{Refusal}
+use Rattle.model.specs.declared.refusals.TestResult.the-variants.{Passed, Failed}
 use Rattle.model.specs.declared.lists.ListRead.the-variants.{NotRead, Read}
+use Rattle.model.specs.Refusals.{firstRefusal}
 use Rattle.model.specs.Digits.{startsWith}
-use Rattle.model.specs.Image.{bankSize, inBankOf, lengthFits, baseFits, markAt, resetFits}
+use Rattle.model.specs.Image.{bankSize, inBankOf, markAt, resetFits}
 use Rattle.model.specs.MarkList.{lengthLimit, headerText, headerShown, isHeader, markShown, lineSize, marksShown}
 use Rattle.model.specs.MarkList.{linesLeft}
-use Rattle.model.specs.MarkList.{linesText, leftOf, marksOf, isList, readAs, readList, marksBy, marksRead}
+use Rattle.model.specs.MarkList.{linesText, leftOf, marksOf, isList, readTests, readAs, readList, marksBy, marksRead}
 use Rattle.model.proofs.Digits.{starts-long}
 use Rattle.model.proofs.Verdict.{both-true}
 
@@ -74,15 +75,28 @@ shown-at address (suc n) (suc k) text inside =
     let next : address + suc k ≡ address + 1 + k = omega arith in
     rw next (shown-at (address + 1) n k (drop (lineSize (markShown address text)) text) (omega arith))
 
-module _ (h : Header) (text : List ℕ) (address : ℕ) (e : address ≡ inBankOf (h .base) (h .reset)) where
+pub reset-past : (h : Header) (text : List ℕ) → bankSize ≤ h .reset
+    → false ≡ resetFits (marksOf h text) (h .base) (h .reset)
+unfolding resetFits
+reset-past h text past = rw (le-ltb (h .reset) bankSize past)
+
+module _ (h : Header) (text : List ℕ) (small : h .reset < bankSize) (address : ℕ)
+    (e : address ≡ inBankOf (h .base) (h .reset)) where
   pub below-base : address < h .base → false ≡ resetFits (marksOf h text) (h .base) (h .reset)
   unfolding resetFits markAt
-  below-base low = rw (← e, lt-leb (h .base) address low)
+  below-base low = rw (lt-ltb (h .reset) bankSize small, ← e, lt-leb (h .base) address low)
 
   pub past-end : h .base ≤ address → length (marksOf h text) ≤ address - h .base
       → false ≡ resetFits (marksOf h text) (h .base) (h .reset)
   unfolding resetFits markAt
-  past-end low high = rw (← e, le-leb (h .base) address low, List·getD-eq-default (marksOf h text) 0 high)
+  past-end low high =
+      rw (
+        lt-ltb (h .reset) bankSize small,
+        ← e,
+        le-leb (h .base) address low,
+        List·getD-eq-default (marksOf h text) 0
+            high,
+      )
 
   pub at-offset : (first place mark : ℕ) → h .base ≤ address → address - h .base < h .length
       → first ≡ h .base % bankSize
@@ -92,6 +106,7 @@ module _ (h : Header) (text : List ℕ) (address : ℕ) (e : address ≡ inBankO
   unfolding resetFits markAt marksOf linesText
   at-offset first place mark low high same left shown =
       rw (
+        lt-ltb (h .reset) bankSize small,
         ← e,
         le-leb (h .base) address low,
         ← same,
@@ -102,36 +117,13 @@ module _ (h : Header) (text : List ℕ) (address : ℕ) (e : address ≡ inBankO
 
 -- ---- the answer
 
-module _ (text marks : List ℕ) where
-  pub keeps : (refusal : Refusal) → NotRead refusal ≡ readList text marks → marks ≡ marksRead text marks
-  unfolding marksRead marksBy
-  keeps refusal e = rw (← e)
+module _ (text marks : List ℕ) (h : Header) (headed-so : h ≡ headerShown text) where
+  pub refused : {why : Refusal} → Failed why ≡ firstRefusal (readTests h text (length marks))
+      → (NotRead why ≡ readList text marks) × (marks ≡ marksRead text marks)
+  unfolding readList readAs marksRead marksBy
+  refused e = (rw (← headed-so, ← e), rw (← headed-so, ← e))
 
-  module _ (h : Header) (shown : h ≡ headerShown text) where
-    pub fills : Read h ≡ readList text marks → marksOf h text ≡ marksRead text marks
-    unfolding marksRead marksBy
-    fills e = rw (← e)
-
-    pub not-a-list : isList h text ≡ false → NotRead NotAList ≡ readList text marks
-    unfolding readList readAs
-    not-a-list l = rw (← shown, l)
-
-    module _ (l : isList h text ≡ true) where
-      pub wrong-length : lengthFits (h .length) (length marks) ≡ false → NotRead WrongLength ≡ readList text marks
-      unfolding readList readAs
-      wrong-length n = rw (← shown, l, n)
-
-      module _ (n : lengthFits (h .length) (length marks) ≡ true) where
-        pub wrong-base : baseFits (h .base) (h .length) ≡ false → NotRead WrongBase ≡ readList text marks
-        unfolding readList readAs
-        wrong-base b = rw (← shown, l, n, b)
-
-        module _ (b : baseFits (h .base) (h .length) ≡ true) where
-          pub wrong-reset : resetFits (marksOf h text) (h .base) (h .reset) ≡ false
-              → NotRead WrongReset ≡ readList text marks
-          unfolding readList readAs
-          wrong-reset r = rw (← shown, l, n, b, r)
-
-          pub is-read : resetFits (marksOf h text) (h .base) (h .reset) ≡ true → Read h ≡ readList text marks
-          unfolding readList readAs
-          is-read r = rw (← shown, l, n, b, r)
+  pub is-read : Passed ≡ firstRefusal (readTests h text (length marks))
+      → (Read h ≡ readList text marks) × (marksOf h text ≡ marksRead text marks)
+  unfolding readList readAs marksRead marksBy
+  is-read e = (rw (← headed-so, ← e), rw (← headed-so, ← e))

@@ -4,18 +4,20 @@ use crate::header::header_size;
 use crate::header::is_header;
 use crate::lines::line_size;
 use crate::lines::mark_shown;
-use image::base_fits;
-use image::in_bank_of;
-use image::length_fits;
 use image::low;
+use image::test_image;
+use model::addresses::BANK_SIZE;
+use model::addresses::in_bank_of;
 use model::lists::Header;
 use model::lists::ListRead;
-use model::lists::Refusal;
+use model::refusals::Refusal;
+use model::refusals::TestResult;
 ghost use mathlib.Core.Path.{_≡_};
 ghost use mathlib.Core.Bool.{true};
 ghost use Prim.Native.Nat.{_+_, _≤_, _<_};
 ghost use lib.ListN.{length, drop};
 ghost use Rattle.model.specs.Image.{resetFits};
+ghost use Rattle.model.specs.Refusals.{firstRefusal};
 ghost use Rattle.model.specs.MarkList as spec;
 
 // Where a text goes on behind its lines from a place on, for so many addresses in turn.
@@ -48,17 +50,18 @@ fn reset_shown(text: &[u8], h: Header) -> bool
     requires { ⌜ spec.isList h (now text) ≡ true ⌝ }
     ensures { λ r. ⌜ r ≡ resetFits (spec.marksOf h (now (text .entry))) (h .base) (h .reset) ⌝ }
 {
-    let base = h.base as u64;
-    let address = in_bank_of(h.base, h.reset);
-    if address < base {
+    if BANK_SIZE <= h.reset {
         return false;
     }
-    let offset = address - base;
-    if h.length as u64 <= offset {
+    let address = in_bank_of(h.base, h.reset);
+    if address < h.base {
+        return false;
+    }
+    let before = address - h.base;
+    if h.length <= before {
         return false;
     }
     let first = low(h.base) as u32;
-    let before = offset as u32;
     let place = lines_end(text, header_size(h), first, before);
     mark_shown(&text[place..], first + before) == 1
 }
@@ -79,23 +82,32 @@ fn fill_marks(text: &[u8], at: usize, address: u32, marks: &mut [u8])
     }
 }
 
+// 14, 1, 2, 3: what is tested of a text that shows a first line, for so many marks.
+fn test_list(text: &[u8], h: Header, marks: usize) -> TestResult
+    ensures { λ r. ⌜ r ≡ firstRefusal (spec.readTests h (now (text .entry)) marks) ⌝ }
+{
+    if !is_list(text, h) {
+        return TestResult::Failed(Refusal::List);
+    }
+    let tested = test_image(h.length as usize, marks, h.base);
+    if let TestResult::Failed(_) = tested {
+        return tested;
+    }
+    if !reset_shown(text, h) {
+        return TestResult::Failed(Refusal::Reset);
+    }
+    TestResult::Passed
+}
+
 // Reads a list: its first line, and its marks into the lent ones.
 pub fn read_list(text: &[u8], marks: &mut [u8]) -> ListRead
     ensures answer { λ r. ⌜ r ≡ spec.readList (now (text .entry)) (now (marks .entry)) ⌝ }
     ensures marks { λ _. ⌜ now (marks .exit) ≡ spec.marksRead (now (text .entry)) (now (marks .entry)) ⌝ }
 {
     let h = header_shown(text);
-    if !is_list(text, h) {
-        return ListRead::NotRead(Refusal::NotAList);
-    }
-    if !length_fits(h.length as usize, marks.len()) {
-        return ListRead::NotRead(Refusal::WrongLength);
-    }
-    if !base_fits(h.base, h.length as usize) {
-        return ListRead::NotRead(Refusal::WrongBase);
-    }
-    if !reset_shown(text, h) {
-        return ListRead::NotRead(Refusal::WrongReset);
+    let tested = test_list(text, h, marks.len());
+    if let TestResult::Failed(why) = tested {
+        return ListRead::NotRead(why);
     }
     fill_marks(text, header_size(h), low(h.base) as u32, marks);
     ListRead::Read(h)

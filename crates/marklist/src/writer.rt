@@ -3,14 +3,12 @@ use crate::header::header_size;
 use crate::header::put_header;
 use crate::lines::line_size;
 use crate::lines::put_line;
-use image::bad_mark;
-use image::base_fits;
-use image::length_fits;
 use image::low;
-use image::reset_fits;
+use image::test_marks;
 use model::lists::Header;
 use model::lists::ListWritten;
-use model::lists::Refusal;
+use model::refusals::Refusal;
+use model::refusals::TestResult;
 ghost use mathlib.Core.Path.{_≡_};
 ghost use mathlib.Core.List.{_++_};
 ghost use Prim.Native.Nat.{ℕ, _+_, _≤_, _<_};
@@ -52,17 +50,9 @@ pub fn write_list(marks: &[u8], base: u32, reset: u32, page: &mut [u8]) -> ListW
     ensures answer { λ r. ⌜ r ≡ spec.writeList (now (marks .entry)) base reset (now (page .entry)) ⌝ }
     ensures page { λ _. ⌜ now (page .exit) ≡ spec.pageWritten (now (marks .entry)) base reset (now (page .entry)) ⌝ }
 {
-    if !length_fits(marks.len(), marks.len()) {
-        return ListWritten::NotWritten(Refusal::WrongLength);
-    }
-    if !base_fits(base, marks.len()) {
-        return ListWritten::NotWritten(Refusal::WrongBase);
-    }
-    if bad_mark(marks) != marks.len() {
-        return ListWritten::NotWritten(Refusal::WrongMark);
-    }
-    if !reset_fits(marks, base, reset) {
-        return ListWritten::NotWritten(Refusal::WrongReset);
+    let tested = test_marks(marks.len(), marks, base, reset);
+    if let TestResult::Failed(why) = tested {
+        return ListWritten::NotWritten(why);
     }
     let length = marks.len() as u32;
     let h = Header {
@@ -73,7 +63,7 @@ pub fn write_list(marks: &[u8], base: u32, reset: u32, page: &mut [u8]) -> ListW
     let first = header_size(h);
     let size = first + lines_size(marks);
     if page.len() < size {
-        return ListWritten::NotWritten(Refusal::ShortPage);
+        return ListWritten::NotWritten(Refusal::Page);
     }
     put_header(page, h);
     put_lines(&mut page[first..], low(base) as u32, marks);

@@ -1,4 +1,5 @@
 // Bytes of memory, and numbers made of them.
+use model::addresses::BANK_SIZE;
 use model::machine::ByteRead;
 ghost use mathlib.Core.Path.{_≡_};
 ghost use Prim.Native.Nat.{_+_, _*_, _<_};
@@ -54,7 +55,7 @@ fn word_of(low: u8, high: u8) -> u16
 fn long_of(low: u16, bank: u8) -> u32
     ensures { λ r. ⌜ (r ≡ low + 65_536 * bank) × (r < addressLimit) ⌝ }
 {
-    low as u32 + 65_536 * bank as u32
+    low as u32 + BANK_SIZE * bank as u32
 }
 
 // The word whose bytes lie at two addresses.

@@ -57,6 +57,17 @@ module _ (test : ℕ → Bool) where
       by true h f = here i n h
       by false h f = later i n (firstFrom test (i + 1) n) h f
 
+  -- where the place that is found fails the test, no place passes it
+  pub none-holds : (n : ℕ) → test (firstFrom test 0 n) ≡ false → (k : ℕ) → k < n → test k ≡ false
+  none-holds n h k inside = by (ltb (firstFrom test 0 n) n) refl
+    where
+      by : (b : Bool) → ltb (firstFrom test 0 n) n ≡ b → test k ≡ false
+      by true e =
+          let yes = first-is 0 n .found (omega (arith, ltb-true (firstFrom test 0 n) n e)) in
+          let z : _≡_ {A = Bool} true false = cc in
+          absurd (true-not-false z)
+      by false e = first-is 0 n .before k (omega arith) (omega (arith, ltb-false (firstFrom test 0 n) n e))
+
   not-before : (i n j k : ℕ) → First test i n j → First test i n k → j < k → ⊥
   not-before i n j k f g h =
       let yes = f .found (omega (arith, g .at-most)) in

@@ -35,8 +35,8 @@ use Rattle.model.specs.declared.machine.CallChange.{CallChange}
 use Rattle.model.specs.declared.machine.CallChange.the-variants.{Keep, Open, Close}
 use Rattle.model.specs.declared.machine.Answer.{Answer}
 use Rattle.model.specs.declared.machine.Answer.the-variants.{Completed, Called, Stopped}
-use Rattle.model.specs.declared.runs.Admission.{Admission}
-use Rattle.model.specs.declared.runs.Admission.the-variants.{Admitted, Refused}
+use Rattle.model.specs.declared.refusals.TestResult.{TestResult}
+use Rattle.model.specs.declared.refusals.TestResult.the-variants.{Passed, Failed}
 use Rattle.model.specs.declared.runs.End.{End}
 use Rattle.model.specs.declared.runs.End.the-variants.{Done, AtStop}
 use Rattle.model.specs.Choice.{pick}
@@ -679,8 +679,8 @@ module _ (image marks : List ℕ) (base reset : ℕ) (rules : Accepts image mark
       m′ : Memory
       m′ = memory ram image base
 
-      by : (a : Admission) → admission m′ s asked ≡ a → Runs m′ s asked
-      by Admitted a =
+      by : (a : TestResult) → admission m′ s asked ≡ a → Runs m′ s asked
+      by Passed a =
           let same = admitted-ran m′ s asked a in
           let h = shown asked ram s st in
           record {
@@ -694,7 +694,7 @@ module _ (image marks : List ℕ) (base reset : ℕ) (rules : Accepts image mark
               ram = ap (λ r. r .ram) (same .1);
             });
           }
-      by (Refused why) a =
+      by (Failed why) a =
           let same = refused-ran m′ s asked why a in
           record {
             every = rw (same .0) tt;

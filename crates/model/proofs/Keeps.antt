@@ -28,8 +28,8 @@ use Rattle.model.specs.declared.machine.Served.{Served}
 use Rattle.model.specs.declared.machine.Served.the-variants.{All, Refused as Unserved}
 use Rattle.model.specs.declared.machine.CallChange.{CallChange}
 use Rattle.model.specs.declared.machine.CallChange.the-variants.{Keep, Open, Close}
-use Rattle.model.specs.declared.runs.Admission.{Admission}
-use Rattle.model.specs.declared.runs.Admission.the-variants.{Admitted, Refused}
+use Rattle.model.specs.declared.refusals.TestResult.{TestResult}
+use Rattle.model.specs.declared.refusals.TestResult.the-variants.{Passed, Failed}
 use Rattle.model.specs.Choice.{pick}
 use Rattle.model.specs.Image.{AllBytes}
 use Rattle.model.specs.Decode.{number}
@@ -209,9 +209,9 @@ pub run-keeps : (m : Memory) (s : State) (n : ℕ) → AllBytes (m .image) → I
     → InBytes (ran m s n .state) (ran m s n .ram)
 run-keeps m s n image h = by (admission m s n) refl
   where
-    by : (a : Admission) → admission m s n ≡ a → InBytes (ran m s n .state) (ran m s n .ram)
-    by Admitted a = rw (admitted-ran m s n a .1) (history-keeps n m s image h)
-    by (Refused why) a = rw (refused-ran m s n why a .1) h
+    by : (a : TestResult) → admission m s n ≡ a → InBytes (ran m s n .state) (ran m s n .ram)
+    by Passed a = rw (admitted-ran m s n a .1) (history-keeps n m s image h)
+    by (Failed why) a = rw (refused-ran m s n why a .1) h
 
 -- ---- what bytes say
 

@@ -1,5 +1,6 @@
 -- The theorems about the definitions, a file for each file of specs/, and the laws that they share.
 pub mod Choice
+pub mod TestResults
 pub mod Table
 pub mod Match
 pub mod CodeMap

@@ -13,9 +13,10 @@ use lib.Dec.{eqb, ltb}
 use lib.ListN.{length, drop}
 use lib.Seq.{drop-at}
 use Rattle.model.specs.declared.lists.Header.{Header}
-use Rattle.model.specs.declared.lists.Refusal.the-variants.{WrongLength, WrongBase, WrongReset, NotAList}
+use Rattle.model.specs.declared.refusals.Refusal.the-variants as refusal
 use Rattle.model.specs.declared.lists.ListRead.the-variants.{NotRead, Read}
 use Rattle.model.specs.Choice.{pick}
+use Rattle.model.specs.Refusals.{firstRefusal, answered}
 use Rattle.model.specs.Digits.{startsWith}
 use Rattle.model.specs.Image.{bankSize, isStart, isFormed, lengthFits, baseFits, resetFits}
 use Rattle.model.specs.MarkList.{lengthLimit, headerText, line, headerShown, isHeader, fieldsMark, isLine}
@@ -139,16 +140,17 @@ pub list-exactly : (text : List ℕ) → (isList (headerShown text) text ≡ tru
 list-exactly text = (tested-list (headerShown text) text, list-tested text)
 
 -- 14 is given only where the test fails
-only-14 : (h : Header) (text : List ℕ) (n : ℕ) → readAs h text n ≡ NotRead NotAList → isList h text ≡ false
-unfolding readAs
+only-14 : (h : Header) (text : List ℕ) (n : ℕ) → readAs h text n ≡ NotRead refusal.List → isList h text ≡ false
+unfolding readAs firstRefusal
 only-14 h text n =
     by (isList h text) (lengthFits (h .length) n) (baseFits (h .base) (h .length))
     (resetFits (marksOf h text) (h .base) (h .reset))
   where
     by : (a b c d : Bool)
-        → pick a (pick b (pick c (pick d (Read h) (NotRead WrongReset)) (NotRead WrongBase)) (NotRead WrongLength))
-        (NotRead NotAList)
-        ≡ NotRead NotAList
+        → answered (firstRefusal ((a, refusal.List) ∷ (b, refusal.Length) ∷ (c, refusal.Base) ∷ (d, refusal.Reset)
+        ∷ []))
+        NotRead (Read h)
+        ≡ NotRead refusal.List
         → a ≡ false
     by false b c d e = refl
     by true false c d e = cc
@@ -157,11 +159,11 @@ only-14 h text n =
     by true true true true e = cc
 
 -- demand 2, of the reader: 14 exactly where the text is no mark list, whatever 1, 2 and 3 would say of it
-pub not-a-list-exactly : (text marks : List ℕ) → (readList text marks ≡ NotRead NotAList) ↔ (IsMarkList text → ⊥)
-unfolding readList readAs
+pub not-a-list-exactly : (text marks : List ℕ) → (readList text marks ≡ NotRead refusal.List) ↔ (IsMarkList text → ⊥)
+unfolding readList readAs firstRefusal
 not-a-list-exactly text marks = (refused, by (isList (headerShown text) text) refl)
   where
-    refused : readList text marks ≡ NotRead NotAList → IsMarkList text → ⊥
+    refused : readList text marks ≡ NotRead refusal.List → IsMarkList text → ⊥
     refused e l =
         let passed = list-tested text l in
         let failed = only-14 (headerShown text) text (length marks) e in
@@ -169,15 +171,15 @@ not-a-list-exactly text marks = (refused, by (isList (headerShown text) text) re
         absurd (omega arith)
 
     by : (b : Bool) → isList (headerShown text) text ≡ b → (IsMarkList text → ⊥)
-        → readList text marks ≡ NotRead NotAList
+        → readList text marks ≡ NotRead refusal.List
     by true h nowhere = absurd (nowhere (tested-list (headerShown text) text h))
     by false h nowhere = rw h
 
 -- 'a lone 0 is in form and gets 1'
 pub lone-zero : (base reset : ℕ) (marks : List ℕ) → base < 16 ^ 6 → reset < 16 ^ 4
     → let text = headerText (record { base = base; length = 0; reset = reset }) in
-    IsMarkList text × (readList text marks ≡ NotRead WrongLength)
-unfolding readList readAs lengthFits
+    IsMarkList text × (readList text marks ≡ NotRead refusal.Length)
+unfolding readList readAs lengthFits firstRefusal
 lone-zero base reset marks based started = (l, rw (list-tested (headerText h) l, shows-header (headerText h) l))
   where
     h : Header

@@ -1,34 +1,40 @@
 -- Each refusal means what its number says. The tests of the verdict are taken in their order: the first that fails gives the
 -- number, and those before it have passed.
 -- Assumes nothing.
-use mathlib.Core.Path.{_≡_, refl}
+use mathlib.Core.Path.{_≡_, refl, sym}
 use mathlib.Core.Logic.{inl, inr, ⊎-elim}
-use mathlib.Core.Bool.{Bool, true, false, not, _&&_}
+use mathlib.Core.Bool.{Bool, true, false, _&&_}
 use mathlib.Core.List.{List}
 use Prim.Native.Nat.{ℕ, _+_, _-_, _≤_, _<_}
 use native.Mathlib.Nat.{eq-or-lt-of-le}
 use native.Mathlib.Omega.{arith}
-use borrow.Author.Tests.{eqb-true, eqb-false, not-true, not-false}
+use borrow.Author.Tests.{eqb-false, not-true, not-false}
 use lib.Dec.{eqb}
 use lib.ListN.{length, getD}
 use Rattle.model.specs.declared.code.Instruction.{Instruction}
 use Rattle.model.specs.declared.code.Decoded.{Decoded}
 use Rattle.model.specs.declared.code.Decoded.the-variants.{Whole, NotCarried, CutOff}
+use Rattle.model.specs.declared.refusals.Refusal.{Refusal}
+use Rattle.model.specs.declared.refusals.TestResult.{TestResult}
+use Rattle.model.specs.declared.refusals.TestResult.the-variants.{Passed, Failed}
 use Rattle.model.specs.declared.rules.Want.{Want}
 use Rattle.model.specs.declared.rules.Owed.{Owed}
 use Rattle.model.specs.declared.rules.Owed.the-variants.{Nothing, One, Two}
-use Rattle.model.specs.declared.rules.Verdict.{Verdict}
 use Rattle.model.specs.declared.rules.Verdict.the-variants.{Accepted, Refused}
 use Rattle.model.specs.Choice.{pick}
-use Rattle.model.specs.Image.{isStart, isFormed, lengthFits, baseFits, markAt, resetFits}
-use Rattle.model.specs.Rules.{returnFits, instructionAt}
-use Rattle.model.specs.Meaning.{Among, owedThere, StartBreaks, FormedBelow, Breaks}
-use Rattle.model.specs.Verdict.{firstFrom, startAt, isClear, wantsStart, allStarts, wantsMark}
-use Rattle.model.specs.Verdict.{allMarks, owedNumber, wholeNumber, decodedNumber, startNumber, badMark, badStart}
-use Rattle.model.specs.Verdict.{startsVerdict, verdict}
+use Rattle.model.specs.Image.{bankSize, isStart, isFormed, lengthFits, markAt}
+use Rattle.model.specs.Refusals.{Tests, firstRefusal, answered}
+use Rattle.model.specs.Rules.{owedThere, instructionAt}
+use Rattle.model.specs.Meaning.{Among, StartBreaks, Breaks}
+use Rattle.model.specs.Verdict.{firstFrom, startAt, isClear, wantsStart, allStarts, wantsMark, allMarks}
+use Rattle.model.specs.Verdict.{wholeTests}
+use Rattle.model.specs.Verdict.{decodedResult, startResult, brokenAt, badStart, startsVerdict, unformedAt}
+use Rattle.model.specs.Verdict.{badMark}
+use Rattle.model.specs.Verdict.{marksTests, offsetOf, verdict}
 use Rattle.model.proofs.First.{first-is}
 use Rattle.model.proofs.Image.{right-length}
-use Rattle.model.proofs.Verdict.{both-true, clear-all, none-found, start-zero}
+use Rattle.model.proofs.TestResults.{AllHold, FirstFails, shown, failed-passed, not-failed}
+use Rattle.model.proofs.Verdict.{both-true, clear-all, formed-all, start-inside, start-rules}
 
 below-end : (j n : ℕ) → j ≤ n → (j ≡ n → ⊥) → j < n
 below-end j n h ne = ⊎-elim (λ (e : j ≡ n). absurd (ne e)) (λ (below : j < n). below) (eq-or-lt-of-le h)
@@ -45,6 +51,9 @@ one-of-two test v w h = by (test v) refl h
     by : (b : Bool) → test v ≡ b → b && test w ≡ false → Failing (λ u. test u ≡ false) (Two v w)
     by true e h′ = (w, inr refl, h′)
     by false e h′ = (v, inl refl, e)
+
+same-why : {why why′ : Refusal} → Failed why ≡ Failed why′ → why ≡ why′
+same-why e = cc
 
 module _ (marks : List ℕ) (base : ℕ) where
   no-start : (o : Owed) → allStarts marks base o ≡ false → Failing (λ w. isStart (markAt marks base (w .address)) ≡
@@ -83,57 +92,38 @@ not-clear marks at n h =
     let below : j < at + 1 + (n - 1) = below-end j (at + 1 + (n - 1)) (f .at-most) ne in
     (j, omega (arith, f .at-least), omega (arith, f .at-least), f .found below)
 
--- ---- the number at a start
+-- ---- the refusal at a start
 
 module _ (image marks : List ℕ) (base at : ℕ) where
-  whole-breaks : (i : Instruction) → instructionAt image marks at ≡ Whole i → (wholeNumber marks base at i ≡ 0 → ⊥)
-      → StartBreaks image marks base at (wholeNumber marks base at i)
-  unfolding wholeNumber owedNumber
-  whole-breaks i whole broken =
-      by (isClear marks at (i .length)) (returnFits (i .entry .flow) (getD marks at 0)) (allStarts marks base o)
-      (allMarks marks base o)
-      refl refl refl refl
-    where
-      o : Owed
-      o = owedThere image marks base at i
+  whole-breaks : (i : Instruction) (why : Refusal) → instructionAt image marks at ≡ Whole i
+      → FirstFails why (wholeTests marks base at i) → StartBreaks image marks base at why
+  whole-breaks i why whole (inl (ec, w)) =
+      let f = not-clear marks at (i .length) ec in
+      rw (← w) (StartBreaks.overlap i whole (f .0) (f .1) (f .2) (f .3))
+  whole-breaks i why whole (inr (ec, inl (er, w))) =
+      rw (← w) (StartBreaks.return i whole (clear-all marks at (i .length) ec) er)
+  whole-breaks i why whole (inr (ec, inr (er, inl (es, w)))) =
+      let f = no-start marks base (owedThere marks base at i) es in
+      rw (← w) (StartBreaks.flow i whole (clear-all marks at (i .length) ec) er (f .0) (f .1) (f .2))
+  whole-breaks i why whole (inr (ec, inr (er, inr (es, inl (em, w))))) =
+      let f = other-mark marks base (owedThere marks base at i) em in
+      rw (← w) (StartBreaks.widths i whole (clear-all marks at (i .length) ec) er
+      (every-start marks base (owedThere marks base at i) es) (f .0) (f .1) (f .2))
+  whole-breaks i why whole (inr (ec, inr (er, inr (es, inr (em, none))))) = absurd none
 
-      by : (c r s m : Bool) → isClear marks at (i .length) ≡ c → returnFits (i .entry .flow) (getD marks at 0) ≡ r
-          → allStarts marks base o ≡ s → allMarks marks base o ≡ m
-          → StartBreaks image marks base at (wholeNumber marks base at i)
-      by false r s m ec er es em =
-          let f = not-clear marks at (i .length) ec in
-          simp ec (StartBreaks.overlap i whole (f .0) (f .1) (f .2) (f .3))
-      by true false s m ec er es em =
-          simp (ec, er) (StartBreaks.return i whole (clear-all marks at (i .length) ec) er)
-      by true true false m ec er es em =
-          let f = no-start marks base o es in
-          simp (ec, er, es) (StartBreaks.flow i whole (clear-all marks at (i .length) ec) er (f .0) (f .1) (f .2))
-      by true true true false ec er es em =
-          let f = other-mark marks base o em in
-          simp (ec, er, es, em)
-          (StartBreaks.widths i whole (clear-all marks at (i .length) ec) er (every-start marks base o es) (f .0) (f
-          .1) (f .2))
-      by true true true true ec er es em = absurd (broken (simp (ec, er, es, em) refl))
-
-  start-breaks : startAt marks at ≡ true → (startNumber image marks base at ≡ 0 → ⊥)
-      → StartBreaks image marks base at (startNumber image marks base at)
-  unfolding startNumber decodedNumber
-  start-breaks s broken = rw s (by (instructionAt image marks at) refl (rw s at broken))
+  -- a place that breaks a rule is a start
+  start-breaks : (why : Refusal) → startResult image marks base at ≡ Failed why
+      → (startAt marks at ≡ true) × StartBreaks image marks base at why
+  unfolding startResult decodedResult
+  start-breaks why h = by (startAt marks at) (instructionAt image marks at) refl refl h
     where
-      by : (d : Decoded) → instructionAt image marks at ≡ d → (decodedNumber marks base at d ≡ 0 → ⊥)
-          → StartBreaks image marks base at (decodedNumber marks base at d)
-      by NotCarried e nz = StartBreaks.code e
-      by CutOff e nz = StartBreaks.cut-off e
-      by (Whole i) e nz = whole-breaks i e nz
-
-  -- a place with a number is a start
-  numbered-start : (startNumber image marks base at ≡ 0 → ⊥) → startAt marks at ≡ true
-  unfolding startNumber
-  numbered-start broken = by (startAt marks at) refl
-    where
-      by : (b : Bool) → startAt marks at ≡ b → b ≡ true
-      by true e = refl
-      by false e = absurd (broken (rw e refl))
+      by : (b : Bool) (d : Decoded) → startAt marks at ≡ b → instructionAt image marks at ≡ d
+          → pick b (decodedResult marks base at d) Passed ≡ Failed why
+          → (startAt marks at ≡ true) × StartBreaks image marks base at why
+      by false d s e r = absurd (failed-passed (sym r))
+      by true NotCarried s e r = (s, rw (← same-why r) (StartBreaks.code e))
+      by true CutOff s e r = (s, rw (← same-why r) (StartBreaks.cut-off e))
+      by true (Whole i) s e r = (s, whole-breaks i why e (shown (wholeTests marks base at i) r))
 
 -- ---- the refusals
 
@@ -146,92 +136,78 @@ found-at test n h =
     (below, f .found (omega arith), λ k high. f .before k (omega arith) high)
 
 module _ (image marks : List ℕ) (base reset : ℕ) where
-  unformed : ℕ → Bool
-  unformed k = not (isFormed (getD marks k 0))
+  tests-break : (why : Refusal) → FirstFails why (marksTests (length image) marks base reset)
+      → Breaks image marks base reset why (offsetOf marks why)
+  unfolding badMark
+  tests-break why (inl (el, w)) = rw (← w) (Breaks.wrong-length el)
+  tests-break why (inr (el, inl (eb, w))) = rw (← w) (Breaks.wrong-base el eb)
+  tests-break why (inr (el, inr (eb, inl (ef, w)))) =
+      let f = found-at (unformedAt marks) (length marks) ef in
+      rw (← w) (Breaks.wrong-mark el eb (badMark marks) (f .0)
+      (not-true (isFormed (getD marks (badMark marks) 0)) (f .1))
+      (λ k high. not-false (isFormed (getD marks k 0)) (f .2 k high)))
+  tests-break why (inr (el, inr (eb, inr (ef, inl (er, w))))) =
+      rw (← w) (Breaks.wrong-reset el eb (formed-all marks ef) er)
+  tests-break why (inr (el, inr (eb, inr (ef, inr (er, none))))) = absurd none
 
-  broken : ℕ → Bool
-  broken k = not (eqb (startNumber image marks base k) 0)
+  starts-break : AllHold (marksTests (length image) marks base reset) → (why : Refusal)
+      → startResult image marks base (badStart image marks base) ≡ Failed why
+      → Breaks image marks base reset why (badStart image marks base)
+  unfolding badStart
+  starts-break held why e =
+      let at = badStart image marks base in
+      let here = start-breaks image marks base at why e in
+      Breaks.wrong-start (held .0) (held .1 .0) (formed-all marks (held .1 .1 .0)) (held .1 .1 .1 .0) at why
+      (start-inside marks at (here .0)) (here .0) (here .1)
+      (λ k high s. start-rules image marks base k s (not-failed (startResult image marks base k)
+      (first-is (brokenAt image marks base) 0 (length marks) .before k (omega arith) high)))
+
+  same : (why why′ : Refusal) (at at′ : ℕ) → Breaks image marks base reset why at → Refused why at ≡ Refused why′ at′
+      → Breaks image marks base reset why′ at′
+  same why why′ at at′ b e = let e₁ : why ≡ why′ = cc in let e₂ : at ≡ at′ = cc in rw (e₁, e₂) at b
 
   -- each refusal means what its number says
-  pub refused-means : (n at : ℕ) → verdict image marks base reset ≡ Refused n at → Breaks image marks base reset n at
-  unfolding verdict badMark badStart startsVerdict unformed broken
-  refused-means n at h =
-      by (lengthFits (length image) (length marks)) (baseFits base (length image)) (eqb (firstFrom unformed 0
-      (length marks)) (length marks))
-      (resetFits marks base reset) (eqb (firstFrom broken 0 (length marks)) (length marks)) refl refl refl refl refl h
+  pub refused-means : (why : Refusal) (at : ℕ) → verdict image marks base reset ≡ Refused why at
+      → Breaks image marks base reset why at
+  unfolding verdict startsVerdict
+  refused-means why at =
+      by (firstRefusal tests) (startResult image marks base (badStart image marks base)) refl refl
     where
-      chain : Bool → Bool → Bool → Bool → Bool → Verdict
-      chain l b f r s =
-          pick l (pick b (pick f (pick r
-          (pick s Accepted (Refused (startNumber image marks base (firstFrom broken 0 (length marks))) (firstFrom
-          broken 0 (length marks))))
-          (Refused 3 0)) (Refused 4 (firstFrom unformed 0 (length marks)))) (Refused 2 0)) (Refused 1 0)
+      tests : Tests
+      tests = marksTests (length image) marks base reset
 
-      same : (n′ at′ : ℕ) → Breaks image marks base reset n′ at′ → Refused n′ at′ ≡ Refused n at → Breaks image
-          marks base reset n at
-      same n′ at′ b e = let en : n′ ≡ n = cc in let eat : at′ ≡ at = cc in rw (en, eat) at b
+      by : (so starts : TestResult) → firstRefusal tests ≡ so
+          → startResult image marks base (badStart image marks base) ≡ starts
+          → answered so (λ w. Refused w (offsetOf marks w))
+          (answered starts (λ w. Refused w (badStart image marks base)) Accepted) ≡ Refused why at
+          → Breaks image marks base reset why at
+      by (Failed w) starts t s e = same w why _ at (tests-break w (shown tests t)) e
+      by Passed (Failed w) t s e = same w why _ at (starts-break (shown tests t) w s) e
+      by Passed Passed t s e = let z : _≡_ {A = ℕ} 0 1 = cc in absurd (omega arith)
 
-      all-formed : eqb (firstFrom unformed 0 (length marks)) (length marks) ≡ true → FormedBelow image marks base
-          reset (length marks)
-      all-formed ef = λ k inside. not-false (isFormed (getD marks k 0)) (none-found unformed (length marks) ef k inside)
-
-      by : (l b f r s : Bool) → lengthFits (length image) (length marks) ≡ l → baseFits base (length image) ≡ b
-          → eqb (firstFrom unformed 0 (length marks)) (length marks) ≡ f → resetFits marks base reset ≡ r
-          → eqb (firstFrom broken 0 (length marks)) (length marks) ≡ s → chain l b f r s ≡ Refused n at
-          → Breaks image marks base reset n at
-      by false b f r s el eb ef er es e = same 1 0 (Breaks.wrong-length el) e
-      by true false f r s el eb ef er es e = same 2 0 (Breaks.wrong-base el eb) e
-      by true true false r s el eb ef er es e =
-          let j = firstFrom unformed 0 (length marks) in
-          let f = found-at unformed (length marks) ef in
-          same 4 j
-          (Breaks.wrong-mark el eb j (f .0) (not-true (isFormed (getD marks j 0)) (f .1))
-          (λ k high. not-false (isFormed (getD marks k 0)) (f .2 k high))) e
-      by true true true false s el eb ef er es e = same 3 0 (Breaks.wrong-reset el eb (all-formed ef) er) e
-      by true true true true false el eb ef er es e =
-          let j = firstFrom broken 0 (length marks) in
-          let f = found-at broken (length marks) es in
-          let nonzero = eqb-false (startNumber image marks base j) 0 (not-true (eqb (startNumber image marks base j)
-          0) (f .1)) in
-          let started = numbered-start image marks base j nonzero in
-          same (startNumber image marks base j) j
-          (Breaks.wrong-start el eb (all-formed ef) er j (startNumber image marks base j) (f .0) started
-          (start-breaks image marks base j started nonzero)
-          (λ k high st. start-zero image marks base k st (eqb-true (startNumber image marks base k) 0 (not-false
-          (eqb (startNumber image marks base k) 0) (f .2 k high))))) e
-      by true true true true true el eb ef er es e = let z : _≡_ {A = ℕ} 0 1 = cc in absurd (omega arith)
-
--- ---- the range of a refusal's number and offset
-
-start-number-range : (image marks : List ℕ) (base at n : ℕ) → StartBreaks image marks base at n → (0 < n) × (n ≤ 10)
-start-number-range image marks base at n (StartBreaks.code e) = (omega arith, omega arith)
-start-number-range image marks base at n (StartBreaks.cut-off e) = (omega arith, omega arith)
-start-number-range image marks base at n (StartBreaks.overlap i e k low high s) = (omega arith, omega arith)
-start-number-range image marks base at n (StartBreaks.return i e c f) = (omega arith, omega arith)
-start-number-range image marks base at n (StartBreaks.flow i e c f w a s) = (omega arith, omega arith)
-start-number-range image marks base at n (StartBreaks.widths i e c f all w a s) = (omega arith, omega arith)
+-- ---- the range of an offset
 
 few-marks : (image marks : List ℕ) → lengthFits (length image) (length marks) ≡ true → length marks ≤ 16_384
 few-marks image marks h = let r = right-length (length image) (length marks) h in omega (arith, r .few, r .same)
 
-breaks-range : (image marks : List ℕ) (base reset n at : ℕ) → Breaks image marks base reset n at
-    → (0 < n) × (n ≤ 10) × (at < 65_536)
-breaks-range image marks base reset n at (Breaks.wrong-length l) = (omega arith, omega arith, omega arith)
-breaks-range image marks base reset n at (Breaks.wrong-base l b) = (omega arith, omega arith, omega arith)
-breaks-range image marks base reset n at (Breaks.wrong-mark l b at′ inside f below) =
-    (omega arith, omega arith, omega (arith, few-marks image marks l))
-breaks-range image marks base reset n at (Breaks.wrong-reset l b f r) = (omega arith, omega arith, omega arith)
-breaks-range image marks base reset n at (Breaks.wrong-start l b f r at′ n′ inside s breaks below) =
-    let r = start-number-range image marks base at n breaks in
-    (r .0, r .1, omega (arith, few-marks image marks l))
+offset-range : (image marks : List ℕ) (base reset at : ℕ) (why : Refusal)
+    → Breaks image marks base reset why at → at < bankSize
+offset-range image marks base reset at why (Breaks.wrong-length l) = omega arith
+offset-range image marks base reset at why (Breaks.wrong-base l b) = omega arith
+offset-range image marks base reset at why (Breaks.wrong-mark l b at′ inside f below) =
+    omega (arith, few-marks image marks l)
+offset-range image marks base reset at why (Breaks.wrong-reset l b f r) = omega arith
+offset-range image marks base reset at why (Breaks.wrong-start l b f r at′ why′ inside s breaks below) =
+    omega (arith, few-marks image marks l)
 
-pub refused-small : (image marks : List ℕ) (base reset n at : ℕ) → verdict image marks base reset ≡ Refused n at
-    → (n ≤ 10) × (at < 65_536)
-refused-small image marks base reset n at h =
-    let r = breaks-range image marks base reset n at (refused-means image marks base reset n at h) in
-    (r .1, r .2)
+pub tests-small : (image marks : List ℕ) (base reset : ℕ) (why : Refusal)
+    → firstRefusal (marksTests (length image) marks base reset) ≡ Failed why → offsetOf marks why < bankSize
+tests-small image marks base reset why e =
+    offset-range image marks base reset _ why
+    (tests-break image marks base reset why (shown (marksTests (length image) marks base reset) e))
 
--- no refusal's number is 0
-pub refused-some : (image marks : List ℕ) (base reset n at : ℕ) → verdict image marks base reset ≡ Refused n at → 0 < n
-refused-some image marks base reset n at h =
-    breaks-range image marks base reset n at (refused-means image marks base reset n at h) .0
+pub refused-small : (image marks : List ℕ) (base reset at : ℕ) (why : Refusal)
+    → verdict image marks base reset ≡ Refused why at
+    → at < bankSize
+refused-small image marks base reset at why h =
+    offset-range image marks base reset at why (refused-means image marks base reset why at h)

@@ -14,18 +14,20 @@ use lib.Seq.{take-at, drop-at}
 use Rattle.model.specs.declared.lists.Header.{Header}
 use Rattle.model.specs.declared.lists.ListRead.the-variants.{Read}
 use Rattle.model.specs.declared.lists.ListWritten.the-variants.{Written}
+use Rattle.model.specs.declared.refusals.TestResult.the-variants.{Passed}
+use Rattle.model.specs.Refusals.{firstRefusal}
 use Rattle.model.specs.Digits.{startsWith}
 use Rattle.model.specs.Image.{bankSize, addressLimit, isFormed, baseFits}
-use Rattle.model.specs.Verdict.{firstFrom, badMark, unformedAt}
+use Rattle.model.specs.Verdict.{firstFrom, badMark, unformedAt, allFormed}
 use Rattle.model.specs.MarkList.{lengthLimit, headerText, lines, listText, headerShown, isHeader, linesLeft}
 use Rattle.model.specs.MarkList.{linesText, leftOf}
-use Rattle.model.specs.MarkList.{marksShown, marksOf, isList, readAs, readList, marksBy, marksRead, writeList}
-use Rattle.model.specs.MarkList.{pageBy}
-use Rattle.model.specs.MarkList.{pageWritten}
+use Rattle.model.specs.MarkList.{marksShown, marksOf, isList, readTests, readAs, readList, marksBy, marksRead}
+use Rattle.model.specs.MarkList.{writeTests, writeList, pageBy, pageWritten}
 use Rattle.model.proofs.First.{passed-all}
 use Rattle.model.proofs.Image.{right-length, base-below}
-use Rattle.model.proofs.Verdict.{both-true, none-found}
-use Rattle.model.proofs.ListAnswers.{Passes, passes, length-marks-of, Written-as, written-as, reset-below}
+use Rattle.model.proofs.Verdict.{both-true, formed-all}
+use Rattle.model.proofs.ListAnswers.{read-passes, length-marks-of, written-passes, reset-below}
+use Rattle.model.proofs.TestResults.{AllHold, none-fails}
 use Rattle.model.proofs.Digits.{starts-split, starts-append}
 use Rattle.model.proofs.MarkList.{all-formed, shown-lines, lines-again, header-again}
 
@@ -51,7 +53,7 @@ is-text h text e =
     rw (length-marks-of h text) (ap (headerText h ++_) whole ∙ sym split)
 
 -- all marks of a list are in form
-formed-marks : (h : Header) (text : List ℕ) → eqb (badMark (marksOf h text)) (length (marksOf h text)) ≡ true
+formed-marks : (h : Header) (text : List ℕ) → allFormed (marksOf h text) ≡ true
 unfolding badMark marksOf
 formed-marks h text =
     let marks = marksOf h text in
@@ -70,35 +72,34 @@ pub read-then-written : (text marks page : List ℕ) (h : Header) → readList t
     × (pageWritten (marksRead text marks) (h .base) (h .reset) page ≡ text ++ drop (length text) page)
 unfolding readList marksRead marksBy pageWritten pageBy writeList
 read-then-written text marks page h e long =
-    let p = passes (headerShown text) h text (length marks) e in
-    let q : Passes h text (length marks) = rw (p .0) at (p .1) in
-    let fits = right-length (h .length) (length marks) (q .long) in
-    let same = is-text h text (q .list) in
-    let answer : writeList (marksOf h text) (h .base) (h .reset) page ≡ Written (length text) =
-    rw (
-      length-marks-of h text,
-      rw (fits .same) at (q .long),
-      q .based,
-      rw (length-marks-of h text) at (formed-marks h text),
-      q .started,
-      same,
-      le-leb (length text) (length page) long,
+    let held = read-passes (headerShown text) h text (length marks) e .1 in
+    let fits = right-length (h .length) (length marks) (held .1 .0) in
+    let same = is-text h text (held .0) in
+    let tests = writeTests (marksOf h text) (h .base) (h .reset) page in
+    let passes : firstRefusal tests ≡ Passed = none-fails tests (
+      rw (length-marks-of h text) (rw (fits .same) at (held .1 .0)),
+      (
+        rw (length-marks-of h text) (held .1 .1 .0),
+        (formed-marks h text, (held .1 .1 .1 .0, (rw same (le-leb (length text) (length page) long), tt))),
+      ),
     ) in
+    let answer : writeList (marksOf h text) (h .base) (h .reset) page ≡ Written (length text) = rw (passes, same) in
     rw e (answer, rw (answer, same))
 
 -- the text of marks that were written shows its first line and the marks, and leaves nothing
-module _ (marks : List ℕ) (base reset n : ℕ) (page : List ℕ) (w : Written-as marks base reset n page) where
+module _ (marks : List ℕ) (base reset n : ℕ) (page : List ℕ)
+    (w : AllHold (writeTests marks base reset page)) where
   abbrev first-line : Header
   first-line = record { base = base; length = length marks; reset = reset }
 
   few : length marks < lengthLimit
-  few = omega (arith, right-length (length marks) (length marks) (w .long) .few)
+  few = omega (arith, right-length (length marks) (length marks) (w .0) .few)
 
   shows-header : headerShown (listText marks base reset) ≡ first-line
   unfolding listText
   shows-header =
-      header-again first-line (lines (base % bankSize) marks) (base-below base (length marks) (w .based)) few
-      (reset-below marks base reset (w .based) (w .started))
+      header-again first-line (lines (base % bankSize) marks) (base-below base (length marks) (w .1 .0)) few
+      (reset-below marks base reset (w .1 .1 .1 .0))
 
   shows-lines : linesText first-line (listText marks base reset) ≡ lines (base % bankSize) marks
   unfolding listText linesText
@@ -108,29 +109,29 @@ module _ (marks : List ℕ) (base reset n : ℕ) (page : List ℕ) (w : Written-
       × (linesLeft (base % bankSize) (length marks) (lines (base % bankSize) marks) ≡ [])
   unfolding baseFits badMark
   shows-marks =
-      let bank = both-true (ltb base addressLimit) (leb (base % bankSize + length marks) bankSize) (w .based) .1 in
+      let bank = both-true (ltb base addressLimit) (leb (base % bankSize + length marks) bankSize) (w .1 .0) .1 in
       lines-again (base % bankSize) marks (leb-true (base % bankSize + length marks) bankSize bank)
-      (λ k inside. not-false (isFormed (getD marks k 0)) (none-found (unformedAt marks) (length marks) (w .formed) k
-      inside))
+      (formed-all marks (w .1 .1 .0))
 
-  read-again : (lent : ℕ) → lent ≡ length marks → readAs first-line (listText marks base reset) lent ≡ Read first-line
-  unfolding readAs isList isHeader marksOf leftOf listText
-  read-again lent same =
+  shows-list : isList first-line (listText marks base reset) ≡ true
+  unfolding isList isHeader leftOf listText
+  shows-list =
       rw (
         lt-ltb (length marks) lengthLimit few,
         starts-append (headerText first-line) (lines (base % bankSize) marks),
         shows-lines,
         shows-marks .1,
-        same,
-        w .long,
-        w .based,
-        shows-marks .0,
-        w .started,
       )
 
   marks-again : marksOf first-line (listText marks base reset) ≡ marks
   unfolding marksOf
   marks-again = rw shows-lines (shows-marks .0)
+
+  read-again : (lent : ℕ) → lent ≡ length marks → readAs first-line (listText marks base reset) lent ≡ Read first-line
+  unfolding readAs
+  read-again lent same =
+      rw (none-fails (readTests first-line (listText marks base reset) lent)
+      (shows-list, (rw same (w .0), (w .1 .0, (rw marks-again (w .1 .1 .1 .0), tt)))))
 
 -- a list that was written is read as the same marks, base and reset, into marks of their length
 pub written-then-read : (marks : List ℕ) (base reset n : ℕ) (page lent : List ℕ)
@@ -140,8 +141,9 @@ pub written-then-read : (marks : List ℕ) (base reset n : ℕ) (page lent : Lis
     × (marksRead (take n (pageWritten marks base reset page)) lent ≡ marks)
 unfolding pageWritten pageBy readList marksRead marksBy
 written-then-read marks base reset n page lent e same =
-    let w = written-as marks base reset n page e in
-    let text = take-at (listText marks base reset) (drop n page) n (w .size) in
+    let written = written-passes marks base reset n page e in
+    let w = written .1 in
+    let text = take-at (listText marks base reset) (drop n page) n (written .0) in
     let shown = shows-header marks base reset n page w in
     let answer = read-again marks base reset n page w (length lent) same in
     rw (e, text, shown, answer) (refl, marks-again marks base reset n page w)

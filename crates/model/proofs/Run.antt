@@ -9,7 +9,6 @@ use mathlib.Core.List.{List, [], _∷_}
 use Prim.Native.Nat.{ℕ, zero, suc, _+_, _≤_}
 use native.Mathlib.Nat.{zero-add, add-zero, add-assoc}
 use native.Mathlib.Omega.{arith}
-use lib.Dec.{leb}
 use lib.ListN.{length}
 use borrow.Author.Tests.{leb-true}
 use Rattle.model.specs.declared.code.Instruction.{Instruction}
@@ -23,26 +22,25 @@ use Rattle.model.specs.declared.machine.State.{State}
 use Rattle.model.specs.declared.machine.Stop.{Stop}
 use Rattle.model.specs.declared.machine.Answer.{Answer}
 use Rattle.model.specs.declared.machine.Answer.the-variants.{Completed, Called, Stopped}
-use Rattle.model.specs.declared.runs.RunRefusal.{RunRefusal}
-use Rattle.model.specs.declared.runs.RunRefusal.the-variants.{WrongLength, WrongBase, WrongRam}
-use Rattle.model.specs.declared.runs.RunRefusal.the-variants.{WrongState, ManySteps}
-use Rattle.model.specs.declared.runs.Admission.the-variants.{Admitted, Refused}
+use Rattle.model.specs.declared.refusals.Refusal.{Refusal}
+use Rattle.model.specs.declared.refusals.TestResult.the-variants.{Passed, Failed}
 use Rattle.model.specs.declared.runs.End.{End}
 use Rattle.model.specs.declared.runs.End.the-variants.{Done, AtStop}
 use Rattle.model.specs.declared.runs.RunAnswer.{RunAnswer}
 use Rattle.model.specs.declared.runs.RunAnswer.the-variants.{NotRun, Ended}
 use Rattle.model.specs.Choice.{pick}
-use Rattle.model.specs.Image.{imageLimit, addressLimit, lengthFits, baseFits}
+use Rattle.model.specs.Image.{imageLimit, addressLimit}
+use Rattle.model.specs.Refusals.{firstRefusal}
 use Rattle.model.specs.Status.{bit}
 use Rattle.model.specs.Memory.{Memory, memory, served}
 use Rattle.model.specs.Step.{Change, Plan, stops, changes, answerOf, onServed, finish, plan, fetched, onDecoded}
 use Rattle.model.specs.Step.{step}
 use Rattle.model.specs.Run.{isCompleted, isCall, Event, event, withRam, history, completedSteps}
 use Rattle.model.specs.Run.{endAfter, endOf, endNumber, stateLeft, ramLeft, Ran}
-use Rattle.model.specs.Run.{stepLimit, ramFits, admissionBy, admission, admittedHistory, runHistory, played}
-use Rattle.model.specs.Run.{ran, oneStep}
+use Rattle.model.specs.Run.{stepLimit, runTests, admission, admittedHistory, runHistory, played, ran, oneStep}
 use Rattle.model.specs.Guarantee.{Every}
 use Rattle.model.proofs.Image.{right-length, base-whole}
+use Rattle.model.proofs.TestResults.{shown}
 use Rattle.model.proofs.Step.{stop-range}
 
 -- ---- what a history goes on with after its first step
@@ -220,12 +218,12 @@ module _ (m : Memory) (s : State) where
 -- ---- a run, refused or not
 
 module _ (m : Memory) (s : State) (n : ℕ) where
-  pub admitted-ran : admission m s n ≡ Admitted → (runHistory m s n ≡ history m s n) × (ran m s n ≡ played m s n)
+  pub admitted-ran : admission m s n ≡ Passed → (runHistory m s n ≡ history m s n) × (ran m s n ≡ played m s n)
   unfolding ran admittedHistory
   admitted-ran a = (rw a refl, rw a refl)
 
   -- a refused run makes no step, answers its refusal and leaves all as given
-  pub refused-ran : (why : RunRefusal) → admission m s n ≡ Refused why
+  pub refused-ran : (why : Refusal) → admission m s n ≡ Failed why
       → (runHistory m s n ≡ []) × (ran m s n ≡ record { answer = NotRun why; state = s; ram = m .ram })
   unfolding ran admittedHistory
   refused-ran why a = (rw a refl, rw a refl)
@@ -237,31 +235,15 @@ pub record Bounds (m : Memory) (fits : Bool) (asked : ℕ) : Type 0 where
   pub taken : fits ≡ true
   pub steps : asked ≤ stepLimit
 
-refused-admits : (why : RunRefusal) → Refused why ≡ Admitted → ⊥
-refused-admits why e = let z : _≡_ {A = ℕ} 0 1 = cc in absurd (omega arith)
-
-pub admitted : (m : Memory) (fits : Bool) (asked : ℕ) → admissionBy m fits asked ≡ Admitted → Bounds m fits asked
-unfolding admissionBy
-admitted m fits asked =
-    by (lengthFits (length (m .image)) (length (m .image))) (baseFits (m .base) (length (m .image)))
-    (ramFits (length (m .ram)) (m .base)) fits (leb asked stepLimit) refl refl refl refl
-  where
-    by : (a b c d e : Bool) → lengthFits (length (m .image)) (length (m .image)) ≡ a
-        → baseFits (m .base) (length (m .image)) ≡ b → fits ≡ d → leb asked stepLimit ≡ e
-        → pick a (pick b (pick c (pick d (pick e Admitted (Refused ManySteps)) (Refused WrongState)) (Refused
-        WrongRam))
-        (Refused WrongBase)) (Refused WrongLength) ≡ Admitted
-        → Bounds m fits asked
-    by false b c d e p q r s h = absurd (refused-admits WrongLength h)
-    by true false c d e p q r s h = absurd (refused-admits WrongBase h)
-    by true true false d e p q r s h = absurd (refused-admits WrongRam h)
-    by true true true false e p q r s h = absurd (refused-admits WrongState h)
-    by true true true true false p q r s h = absurd (refused-admits ManySteps h)
-    by true true true true true p q r s h = record {
-      whole = base-whole (m .base) (length (m .image)) q;
-      few = right-length (length (m .image)) (length (m .image)) p .few;
-      taken = r;
-      steps = leb-true asked stepLimit s;
+pub admitted : (m : Memory) (fits : Bool) (asked : ℕ) → firstRefusal (runTests m fits asked) ≡ Passed
+    → Bounds m fits asked
+admitted m fits asked e =
+    let held = shown (runTests m fits asked) e in
+    record {
+      whole = base-whole (m .base) (length (m .image)) (held .1 .0);
+      few = right-length (length (m .image)) (length (m .image)) (held .0) .few;
+      taken = held .1 .1 .1 .0;
+      steps = leb-true asked stepLimit (held .1 .1 .1 .1 .0);
     }
 
 pub completed-stops : true ≡ false → ⊥

@@ -8,13 +8,14 @@ use native.Mathlib.Omega.{arith}
 use lib.Dec.{eqb}
 use lib.ListN.{length}
 use borrow.Author.Tests.{eq-eqb, ne-eqb, eqb-true}
-use Rattle.model.specs.declared.runs.RunRefusal.{RunRefusal}
+use Rattle.model.specs.declared.refusals.Refusal.{Refusal}
+use Rattle.model.specs.declared.refusals.TestResult.{TestResult}
+use Rattle.model.specs.declared.refusals.TestResult.the-variants.{Passed, Failed}
 use Rattle.model.specs.declared.runs.End.{End}
-use Rattle.model.specs.declared.runs.Admission.{Admission}
-use Rattle.model.specs.declared.runs.Admission.the-variants.{Admitted, Refused}
 use Rattle.model.specs.declared.runs.RunAnswer.the-variants.{NotRun, Ended}
+use Rattle.model.specs.Refusals.{firstRefusal}
 use Rattle.model.specs.Memory.{Memory}
-use Rattle.model.specs.Run.{history, completedSteps, callsAmong, endOf, stateFits, admissionBy, admission}
+use Rattle.model.specs.Run.{history, completedSteps, callsAmong, endOf, stateFits, runTests, admission}
 use Rattle.model.specs.Run.{runHistory, played, ran}
 use Rattle.model.specs.StateBytes.{stateSize, stateOf, bytesOf}
 use Rattle.model.specs.RunBytes.{bytesFit, asBytes, ranBytesBy, ranBytes}
@@ -25,7 +26,8 @@ use Rattle.model.proofs.StateBytes.{state-bytes, bytes-state, bytes-len
 use Rattle.model.proofs.Keeps.{InBytes, run-keeps, given-keeps}
 
 module _ (m : Memory) (bytes : List ℕ) (asked : ℕ) where
-  same-admission : length bytes ≡ stateSize → admissionBy m (bytesFit bytes) asked ≡ admission m (stateOf bytes) asked
+  same-admission : length bytes ≡ stateSize
+      → firstRefusal (runTests m (bytesFit bytes) asked) ≡ admission m (stateOf bytes) asked
   same-admission long = rw (eq-eqb (length bytes) stateSize long) refl
 
   module _ (long : length bytes ≡ stateSize) (small : AllBytes bytes) where
@@ -33,10 +35,10 @@ module _ (m : Memory) (bytes : List ℕ) (asked : ℕ) where
     unfolding ranBytes
     bytes-ran = rw (same-admission long) (by (admission m (stateOf bytes) asked) refl)
       where
-        by : (a : Admission) → admission m (stateOf bytes) asked ≡ a
+        by : (a : TestResult) → admission m (stateOf bytes) asked ≡ a
             → ranBytesBy a m bytes asked ≡ asBytes (ran m (stateOf bytes) asked)
-        by Admitted e = ap asBytes (sym (admitted-ran m (stateOf bytes) asked e .1))
-        by (Refused why) e =
+        by Passed e = ap asBytes (sym (admitted-ran m (stateOf bytes) asked e .1))
+        by (Failed why) e =
             rw (refused-ran m (stateOf bytes) asked why e .1)
             (λ j. record { answer = NotRun why; state = sym (bytes-state bytes long small) j; ram = m .ram })
 
@@ -53,7 +55,7 @@ module _ (m : Memory) (bytes : List ℕ) (asked : ℕ) where
 
   -- bytes of another length are refused as a state is that no run takes
   pub bytes-refused : (length bytes ≡ stateSize → ⊥)
-      → ranBytes m bytes asked ≡ ranBytesBy (admissionBy m false asked) m bytes asked
+      → ranBytes m bytes asked ≡ ranBytesBy (firstRefusal (runTests m false asked)) m bytes asked
   unfolding ranBytes
   bytes-refused other = rw (ne-eqb (length bytes) stateSize other) refl
 
@@ -66,11 +68,11 @@ module _ (m : Memory) (bytes : List ℕ) (asked : ℕ) where
 
   pub taken : (end : End) (steps calls : ℕ) → ranBytes m bytes asked .answer ≡ Ended end steps calls → Taken
   unfolding ranBytes
-  taken end steps calls = by (admissionBy m (bytesFit bytes) asked) refl
+  taken end steps calls = by (firstRefusal (runTests m (bytesFit bytes) asked)) refl
     where
-      by : (a : Admission) → admissionBy m (bytesFit bytes) asked ≡ a
+      by : (a : TestResult) → firstRefusal (runTests m (bytesFit bytes) asked) ≡ a
           → ranBytesBy a m bytes asked .answer ≡ Ended end steps calls → Taken
-      by Admitted e told =
+      by Passed e told =
           let fits = both-true (eqb (length bytes) stateSize) (stateFits (stateOf bytes))
           (admitted m (bytesFit bytes) asked e .taken) in
           let long = eqb-true (length bytes) stateSize (fits .0) in
@@ -79,19 +81,19 @@ module _ (m : Memory) (bytes : List ℕ) (asked : ℕ) where
             history-is = admitted-ran m (stateOf bytes) asked (sym (same-admission long) ∙ e) .0;
             ran-is = rw e refl;
           }
-      by (Refused why) e told = let z : _≡_ {A = ℕ} 0 1 = cc in absurd (omega arith)
+      by (Failed why) e told = let z : _≡_ {A = ℕ} 0 1 = cc in absurd (omega arith)
 
   -- ---- 'A refusal leaves every buffer and the state as given', and so does a run that completes no step
 
-  pub refused-leaves : (why : RunRefusal) → ranBytes m bytes asked .answer ≡ NotRun why
+  pub refused-leaves : (why : Refusal) → ranBytes m bytes asked .answer ≡ NotRun why
       → (ranBytes m bytes asked .state ≡ bytes) × (ranBytes m bytes asked .ram ≡ m .ram)
   unfolding ranBytes
-  refused-leaves why = by (admissionBy m (bytesFit bytes) asked)
+  refused-leaves why = by (firstRefusal (runTests m (bytesFit bytes) asked))
     where
-      by : (a : Admission) → ranBytesBy a m bytes asked .answer ≡ NotRun why
+      by : (a : TestResult) → ranBytesBy a m bytes asked .answer ≡ NotRun why
           → (ranBytesBy a m bytes asked .state ≡ bytes) × (ranBytesBy a m bytes asked .ram ≡ m .ram)
-      by Admitted e = let z : _≡_ {A = ℕ} 0 1 = cc in absurd (omega arith)
-      by (Refused other) e = (refl, refl)
+      by Passed e = let z : _≡_ {A = ℕ} 0 1 = cc in absurd (omega arith)
+      by (Failed other) e = (refl, refl)
 
   pub none-leaves : AllBytes bytes → (end : End) (calls : ℕ) → ranBytes m bytes asked .answer ≡ Ended end 0 calls
       → (ranBytes m bytes asked .state ≡ bytes) × (ranBytes m bytes asked .ram ≡ m .ram)

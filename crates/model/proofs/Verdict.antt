@@ -1,37 +1,36 @@
 -- The verdict is 'accepted' exactly when all rules of acceptance hold. Each test of the verdict is turned into the rule that it
--- tests, and a chain of tests gives no number exactly when all of them pass, in whatever order they stand: what the order means
--- is said in Meaning.antt.
+-- tests, and no test refuses exactly when all of them hold, in whatever order they stand: what the order means is said
+-- in Meaning.antt.
 -- Assumes nothing.
 use mathlib.Core.Path.{_≡_, refl}
 use mathlib.Core.Logic.{_↔_}
 use mathlib.Core.Bool.{Bool, true, false, not, _&&_}
 use mathlib.Core.List.{List}
-use Prim.Native.Nat.{ℕ, zero, suc, _+_, _-_, _≤_, _<_}
+use Prim.Native.Nat.{ℕ, _+_, _-_, _%_, _≤_, _<_}
 use native.Mathlib.Omega.{arith}
-use borrow.Author.Tests.{eqb-true, eq-eqb, ne-eqb, not-false}
-use lib.Dec.{eqb, eqb·suc-zero}
-use lib.ListN.{length, getD}
+use borrow.Author.Tests.{eqb-true, eq-eqb, ltb-true, ltb-false, not-false}
+use lib.Dec.{eqb, ltb}
+use lib.ListN.{length, getD, List·getD-eq-default}
 use Rattle.model.specs.declared.code.Instruction.{Instruction}
 use Rattle.model.specs.declared.code.Decoded.{Decoded}
 use Rattle.model.specs.declared.code.Decoded.the-variants.{Whole, NotCarried, CutOff}
+use Rattle.model.specs.declared.refusals.Refusal.{Refusal}
+use Rattle.model.specs.declared.refusals.TestResult.the-variants.{Passed, Failed}
 use Rattle.model.specs.declared.rules.Want.{Want}
 use Rattle.model.specs.declared.rules.Owed.{Owed}
 use Rattle.model.specs.declared.rules.Owed.the-variants.{Nothing, One, Two}
-use Rattle.model.specs.declared.rules.Verdict.{Verdict}
 use Rattle.model.specs.declared.rules.Verdict.the-variants.{Accepted, Refused}
 use Rattle.model.specs.Choice.{pick}
-use Rattle.model.specs.Image.{isStart, isFormed, lengthFits, baseFits, markAt, resetFits}
-use Rattle.model.specs.Rules.{owedAt, returnFits, instructionAt, Met, AllMet, StartRules, Accepts}
-use Rattle.model.specs.Verdict.{firstFrom, startAt, isClear, wantsStart, allStarts, wantsMark}
-use Rattle.model.specs.Verdict.{allMarks, owedNumber, wholeNumber, decodedNumber, startNumber, badMark, badStart}
-use Rattle.model.specs.Verdict.{unformedAt, startsVerdict, verdict}
-use Rattle.model.proofs.First.{first-is, first-only}
-
--- ---- chains of numbers
-
--- a number of the paper is not 0
-some-number : {n : ℕ} → suc n ≡ 0 → ⊥
-some-number h = absurd (omega arith)
+use Rattle.model.specs.Image.{isFormed, markAt}
+use Rattle.model.specs.Refusals.{firstRefusal}
+use Rattle.model.specs.Rules.{owedThere, instructionAt, Met, AllMet, StartRules, Accepts}
+use Rattle.model.specs.Verdict.{firstFrom, startAt, isClear, wantsStart, allStarts, wantsMark, allMarks}
+use Rattle.model.specs.Verdict.{wholeTests}
+use Rattle.model.specs.Verdict.{decodedResult, startResult, brokenAt, badStart, startsVerdict, unformedAt}
+use Rattle.model.specs.Verdict.{badMark}
+use Rattle.model.specs.Verdict.{allFormed, marksTests, verdict}
+use Rattle.model.proofs.First.{first-is, first-only, none-holds}
+use Rattle.model.proofs.TestResults.{shown, none-fails, all-passed, failed-passed, not-failed}
 
 pub both-true : (a b : Bool) → a && b ≡ true → (a ≡ true) × (b ≡ true)
 both-true true b h = (refl, h)
@@ -89,85 +88,57 @@ all-met marks base (Two v w) s m =
     let same = both-true (wantsMark marks base v) (wantsMark marks base w) m in
     (met-tests marks base v (starts .0) (same .0), met-tests marks base w (starts .1) (same .1))
 
-owed-zero : (marks : List ℕ) (base : ℕ) (o : Owed) → owedNumber marks base o ≡ 0 → AllMet marks base o
-unfolding owedNumber
-owed-zero marks base o h = by (allStarts marks base o) (allMarks marks base o) refl refl
-  where
-    by : (s m : Bool) → allStarts marks base o ≡ s → allMarks marks base o ≡ m → AllMet marks base o
-    by true true es em = all-met marks base o es em
-    by true false es em = absurd (some-number (simp (es, em) at h))
-    by false true es em = absurd (some-number (simp (es, em) at h))
-    by false false es em = absurd (some-number (simp (es, em) at h))
-
-zero-owed : (marks : List ℕ) (base : ℕ) (o : Owed) → AllMet marks base o → owedNumber marks base o ≡ 0
-unfolding owedNumber allStarts allMarks
-zero-owed marks base Nothing m = refl
-zero-owed marks base (One w) m = rw (met-start marks base w m, met-mark marks base w m)
-zero-owed marks base (Two v w) m =
-    rw (
-      met-start marks base v (m .0),
-      met-start marks base w (m .1),
-      met-mark marks base v (m .0),
-      met-mark marks
-          base w (m .1),
-    )
+met-all : (marks : List ℕ) (base : ℕ) (o : Owed) → AllMet marks base o
+    → (allStarts marks base o ≡ true) × (allMarks marks base o ≡ true)
+unfolding allStarts allMarks
+met-all marks base Nothing m = (refl, refl)
+met-all marks base (One w) m = (met-start marks base w m, met-mark marks base w m)
+met-all marks base (Two v w) m = (
+  rw (met-start marks base v (m .0)) (met-start marks base w (m .1)),
+  rw (met-mark marks base v (m .0)) (met-mark marks base w (m .1)),
+)
 
 -- ---- the rules at one start
 
 module _ (image marks : List ℕ) (base at : ℕ) where
-  whole-zero : (i : Instruction) → wholeNumber marks base at i ≡ 0
+  whole-rules : (i : Instruction) → firstRefusal (wholeTests marks base at i) ≡ Passed
       → instructionAt image marks at ≡ Whole i → StartRules image marks base at
-  unfolding wholeNumber
-  whole-zero i h whole =
-      by (isClear marks at (i .length)) (returnFits (i .entry .flow) (getD marks at 0)) (owedNumber marks base o)
-      refl refl refl
-    where
-      o : Owed
-      o = owedAt marks base i (base + at) (getD marks at 0)
+  whole-rules i h whole =
+      let t = shown (wholeTests marks base at i) h in
+      record {
+        instruction = i;
+        whole = whole;
+        no-overlap = clear-all marks at (i .length) (t .0);
+        returns = t .1 .0;
+        successors = all-met marks base (owedThere marks base at i) (t .1 .1 .0) (t .1 .1 .1 .0);
+      }
 
-      by : (c r : Bool) (n : ℕ) → isClear marks at (i .length) ≡ c → returnFits (i .entry .flow) (getD marks at 0) ≡ r
-          → owedNumber marks base o ≡ n → StartRules image marks base at
-      by true true zero ec er en =
-          record {
-            instruction = i;
-            whole = whole;
-            no-overlap = clear-all marks at (i .length) ec;
-            returns = er;
-            successors = owed-zero marks base o en;
-          }
-      by true true (suc n) ec er en = absurd (some-number (simp (ec, er, en, eqb·suc-zero) at h))
-      by true false zero ec er en = absurd (some-number (simp (ec, er, en, eqb·suc-zero) at h))
-      by true false (suc n) ec er en = absurd (some-number (simp (ec, er, en, eqb·suc-zero) at h))
-      by false r n ec er en = absurd (some-number (simp ec at h))
+  rules-whole : (r : StartRules image marks base at) → firstRefusal (wholeTests marks base at (r .instruction)) ≡ Passed
+  rules-whole r =
+      let met = met-all marks base (owedThere marks base at (r .instruction)) (r .successors) in
+      none-fails (wholeTests marks base at (r .instruction))
+      (all-clear marks at (r .instruction .length) (r .no-overlap), (r .returns, (met .0, (met .1, tt))))
 
-  zero-whole : (r : StartRules image marks base at) → wholeNumber marks base at (r .instruction) ≡ 0
-  unfolding wholeNumber
-  zero-whole r =
-      rw (
-        all-clear marks at (r .instruction .length) (r .no-overlap),
-        r .returns,
-        zero-owed marks base (owedAt marks base (r .instruction) (base + at) (getD marks at 0)) (r .successors),
-      )
-
-  -- no number at a start says that its rules hold
-  pub start-zero : startAt marks at ≡ true → startNumber image marks base at ≡ 0 → StartRules image marks base at
-  unfolding startNumber decodedNumber
-  start-zero s h = by (instructionAt image marks at) refl (rw s at h)
+  -- a start that breaks no rule keeps them all
+  pub start-rules : startAt marks at ≡ true → startResult image marks base at ≡ Passed → StartRules image marks base at
+  unfolding startResult decodedResult
+  start-rules s h = by (instructionAt image marks at) refl (rw s at h)
     where
       by : (d : Decoded) → instructionAt image marks at ≡ d
-          → decodedNumber marks base at d ≡ 0 → StartRules image marks base at
-      by NotCarried e z = absurd (omega arith)
-      by CutOff e z = absurd (omega arith)
-      by (Whole i) e z = whole-zero i z e
+          → decodedResult marks base at d ≡ Passed → StartRules image marks base at
+      by NotCarried e p = absurd (failed-passed p)
+      by CutOff e p = absurd (failed-passed p)
+      by (Whole i) e p = whole-rules i p e
 
-  pub zero-start : (startAt marks at ≡ true → StartRules image marks base at) → startNumber image marks base at ≡ 0
-  unfolding startNumber decodedNumber
-  zero-start rules = by (startAt marks at) refl
+  pub rules-start : (startAt marks at ≡ true → StartRules image marks base at)
+      → startResult image marks base at ≡ Passed
+  unfolding startResult decodedResult
+  rules-start rules = by (startAt marks at) refl
     where
       by : (b : Bool) → startAt marks at ≡ b
-          → pick b (decodedNumber marks base at (instructionAt image marks at)) 0 ≡ 0
+          → pick b (decodedResult marks base at (instructionAt image marks at)) Passed ≡ Passed
       by false e = refl
-      by true e = let r = rules e in rw (r .whole) (zero-whole r)
+      by true e = let r = rules e in rw (r .whole) (rules-whole r)
 
 -- ---- the verdict
 
@@ -188,62 +159,54 @@ found-none test n h =
       found = λ inside. absurd (omega arith);
     }))
 
-passed : (t : Bool) (v : Verdict) (n o : ℕ) → pick t v (Refused n o) ≡ Accepted → (t ≡ true) × (v ≡ Accepted)
-passed true v n o h = (refl, h)
-passed false v n o h = let z : _≡_ {A = ℕ} 0 1 = cc in absurd (omega arith)
+pub formed-all : (marks : List ℕ) → allFormed marks ≡ true → (at : ℕ) → at < length marks
+    → isFormed (getD marks at 0) ≡ true
+unfolding badMark
+formed-all marks h at inside =
+    not-false (isFormed (getD marks at 0)) (none-found (unformedAt marks) (length marks) h at inside)
 
-all-passed : (t : Bool) (n o : ℕ) → pick t Accepted (Refused n o) ≡ Accepted → t ≡ true
-all-passed true n o h = refl
-all-passed false n o h = let z : _≡_ {A = ℕ} 0 1 = cc in absurd (omega arith)
+refused-accepts : (why : Refusal) (at : ℕ) → Refused why at ≡ Accepted → ⊥
+refused-accepts why at e = let z : _≡_ {A = ℕ} 0 1 = cc in absurd (omega arith)
+
+-- no start stands past the marks
+pub start-inside : (marks : List ℕ) (at : ℕ) → startAt marks at ≡ true → at < length marks
+start-inside marks at s = by (ltb at (length marks)) refl
+  where
+    by : (b : Bool) → ltb at (length marks) ≡ b → at < length marks
+    by true e = ltb-true at (length marks) e
+    by false e =
+        let none : getD marks at 0 ≡ 0 = List·getD-eq-default marks 0 (ltb-false at (length marks) e) in
+        absurd (omega (arith, eqb-true (0 % 2) 1 (rw none at s)))
 
 module _ (image marks : List ℕ) (base reset : ℕ) where
-  starts-rules : startsVerdict image marks base ≡ Accepted
-      → (at : ℕ) → at < length marks → isStart (getD marks at 0) ≡ true → StartRules image marks base at
-  unfolding startsVerdict badStart
-  starts-rules h at inside s =
-      let broken : ℕ → Bool = λ k. not (eqb (startNumber image marks base k) 0) in
-      let end = all-passed (eqb (firstFrom broken 0 (length marks)) (length marks)) _ _ h in
-      let fine = not-false (eqb (startNumber image marks base at) 0) (none-found broken (length marks) end at inside) in
-      start-zero image marks base at s (eqb-true (startNumber image marks base at) 0 fine)
-
-  rules-starts : ((at : ℕ) → at < length marks → isStart (getD marks at 0) ≡ true → StartRules image marks base at)
-      → startsVerdict image marks base ≡ Accepted
-  unfolding startsVerdict badStart
-  rules-starts rules =
-      let broken : ℕ → Bool = λ k. not (eqb (startNumber image marks base k) 0) in
-      rw (found-none broken (length marks) (λ k inside. rw (zero-start image marks base k (rules k inside)) refl))
-
   -- accepted, and all rules hold
   pub accepted-rules : verdict image marks base reset ≡ Accepted → Accepts image marks base reset
-  unfolding verdict badMark
+  unfolding verdict startsVerdict badStart
   accepted-rules h =
-      let unformed : ℕ → Bool = λ k. not (isFormed (getD marks k 0)) in
-      let one = passed (lengthFits (length image) (length marks)) _ _ _ h in
-      let two = passed (baseFits base (length image)) _ _ _ (one .1) in
-      let four = passed (eqb (firstFrom unformed 0 (length marks)) (length marks)) _ _ _ (two .1) in
-      let three = passed (resetFits marks base reset) _ _ _ (four .1) in
+      let tests = all-passed (firstRefusal (marksTests (length image) marks base reset)) _
+      (λ why. refused-accepts why _) h in
+      let held = shown (marksTests (length image) marks base reset) (tests .0) in
+      let at-bad = all-passed (startResult image marks base (badStart image marks base)) _
+      (λ why. refused-accepts why _) (tests .1) .0 in
       record {
-        right-length = one .0;
-        one-bank = two .0;
-        formed = λ at inside. not-false (isFormed (getD marks at 0)) (none-found unformed (length marks) (four .0)
-            at inside);
-        at-reset = three .0;
-        at-starts = starts-rules (three .1);
+        right-length = held .0;
+        one-bank = held .1 .0;
+        formed = formed-all marks (held .1 .1 .0);
+        at-reset = held .1 .1 .1 .0;
+        at-starts = λ at inside s. start-rules image marks base at s (not-failed (startResult image marks base at)
+            (none-holds (brokenAt image marks base) (length marks) (rw at-bad refl) at inside));
       }
 
   -- all rules hold, and accepted
   pub rules-accepted : Accepts image marks base reset → verdict image marks base reset ≡ Accepted
-  unfolding verdict badMark
+  unfolding verdict startsVerdict badMark
   rules-accepted a =
-      let unformed : ℕ → Bool = λ k. not (isFormed (getD marks k 0)) in
+      let formed = found-none (unformedAt marks) (length marks) (λ k inside. rw (a .formed k inside) refl) in
       rw (
-        a .right-length,
-        a .one-bank,
-        found-none unformed (length marks) (λ k inside. rw (a .formed k inside)
-            refl),
-        a .at-reset,
+        none-fails (marksTests (length image) marks base reset)
+            (a .right-length, (a .one-bank, (formed, (a .at-reset, tt)))),
+        rules-start image marks base (badStart image marks base) (λ s. a .at-starts _ (start-inside marks _ s) s),
       )
-      (rules-starts (a .at-starts))
 
   -- demand 2: 'The check accepts exactly when all rules of 01 hold'
   pub accepts-exactly : (verdict image marks base reset ≡ Accepted) ↔ Accepts image marks base reset
@@ -258,13 +221,16 @@ bad-mark-most marks = omega (arith, first-is (unformedAt marks) 0 (length marks)
 -- ---- the verdict of a loop over the starts
 
 module _ (image marks : List ℕ) (base : ℕ) where
-  pub stopped-at : (i n : ℕ) → i ≡ badStart image marks base → i < length marks → n ≡ startNumber image marks base i
-      → Refused n i ≡ startsVerdict image marks base
+  pub stopped-at : (i : ℕ) (why : Refusal) → i ≡ badStart image marks base → startResult image marks base i ≡ Failed why
+      → Refused why i ≡ startsVerdict image marks base
   unfolding startsVerdict
-  stopped-at i n at inside number =
-      rw (number, ← at, ne-eqb i (length marks) (λ e. absurd (omega arith)))
+  stopped-at i why at e = rw (← at, e)
 
-  pub passed-over : (i : ℕ) → i ≡ badStart image marks base → length marks ≤ i → i ≤ length marks
-      → Accepted ≡ startsVerdict image marks base
+  pub passed-over : length marks ≡ badStart image marks base → Accepted ≡ startsVerdict image marks base
   unfolding startsVerdict
-  passed-over i at past most = rw (← at, eq-eqb i (length marks) (omega arith))
+  passed-over at =
+      rw (
+        ← at,
+        rules-start image marks base (length marks)
+            (λ s. absurd (omega (arith, start-inside marks (length marks) s))),
+      )

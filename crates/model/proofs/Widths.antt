@@ -1,8 +1,7 @@
 -- Bounds of the widths after an instruction, for the code that makes marks of them.
 -- Assumes nothing.
 use mathlib.Core.Path.{_≡_}
-use Prim.Native.Nat.{ℕ, _+_, _-_, _*_, _/_, _%_, _^_, _≤_, _<_}
-use native.Mathlib.Nat.{div-le-self}
+use Prim.Native.Nat.{ℕ, _+_, _*_, _/_, _%_, _≤_, _<_}
 use native.Mathlib.Omega.{arith}
 use lib.Dec.{eqb, eqb→eq}
 use Rattle.model.specs.declared.code.WidthEffect.{WidthEffect}
@@ -11,7 +10,7 @@ use Rattle.model.specs.declared.code.Kind.{Kind}
 use Rattle.model.specs.declared.code.Kind.the-variants.{ByRts, ByRtl}
 use Rattle.model.specs.Image.{markM, markX, markKind, returnM, returnX, markOf}
 use Rattle.model.specs.Status.{maskX, maskM}
-use Rattle.model.specs.Rules.{mAfter, xAfter, kindNumber, lastByte}
+use Rattle.model.specs.Rules.{mAfter, xAfter, kindNumber}
 use Rattle.model.proofs.Choice.{one-of}
 use Rattle.model.proofs.Table.{below-all}
 
@@ -34,9 +33,6 @@ x-after-bit ClearBits x operand h = one-of (eqb (operand / maskX % 2) 1) 0 x (om
 pub kind-bits : (k : Kind) → kindNumber k ≤ 3
 kind-bits ByRts = omega arith
 kind-bits ByRtl = omega arith
-
-pub last-byte-at-most : (operand n : ℕ) → lastByte operand n ≤ operand
-last-byte-at-most operand n = div-le-self operand (256 ^ (n - 2))
 
 -- the fields of a mark, put together again, are its bits 1 to 6 with the start's bit
 abbrev remade : ℕ → ℕ

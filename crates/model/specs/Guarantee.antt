@@ -19,8 +19,8 @@ use Rattle.model.specs.declared.code.Decoded.the-variants.{Whole}
 use Rattle.model.specs.declared.rules.Verdict.the-variants.{Accepted}
 use Rattle.model.specs.declared.machine.State.{State}
 use Rattle.model.specs.declared.machine.Stop.{Stop}
-use Rattle.model.specs.declared.runs.RunRefusal.{RunRefusal}
-use Rattle.model.specs.declared.runs.Admission.the-variants.{Admitted, Refused}
+use Rattle.model.specs.declared.refusals.Refusal.{Refusal}
+use Rattle.model.specs.declared.refusals.TestResult.the-variants.{Passed, Failed}
 use Rattle.model.specs.declared.runs.End.the-variants.{Done, AtStop}
 use Rattle.model.specs.declared.runs.RunAnswer.the-variants.{NotRun, Ended}
 use Rattle.model.specs.CodeMap.{lengthAt}
@@ -81,7 +81,7 @@ pub record Kept (m : Memory) (s : State) (asked : ℕ) : Type 0 where
   pub ram : ran m s asked .ram ≡ ramLeft (m .ram) (history m s asked)
 
 -- A refused run makes no step, answers its refusal and leaves state and RAM as given.
-pub record Idle (m : Memory) (s : State) (asked : ℕ) (why : RunRefusal) : Type 0 where
+pub record Idle (m : Memory) (s : State) (asked : ℕ) (why : Refusal) : Type 0 where
   pub steps : runHistory m s asked ≡ []
   pub answer : ran m s asked .answer ≡ NotRun why
   pub state : ran m s asked .state ≡ s
@@ -89,8 +89,8 @@ pub record Idle (m : Memory) (s : State) (asked : ℕ) (why : RunRefusal) : Type
 
 -- every run is one or the other
 pub data Accounted (m : Memory) (s : State) (asked : ℕ) : Type 0 where
-  admitted : admission m s asked ≡ Admitted → Kept m s asked → Accounted m s asked
-  refused : (why : RunRefusal) → admission m s asked ≡ Refused why → Idle m s asked why → Accounted m s asked
+  admitted : admission m s asked ≡ Passed → Kept m s asked → Accounted m s asked
+  refused : (why : Refusal) → admission m s asked ≡ Failed why → Idle m s asked why → Accounted m s asked
 
 -- ---- the claim
 

@@ -73,9 +73,10 @@ abbrev pub inBankOf : ℕ → ℕ → ℕ
 inBankOf address low = address / bankSize * bankSize + low
 
 -- number 3: 'At the reset address stands a start with m=0, x=0, return kind 0.' With the form of a mark that is mark 01.
--- A reset above FFFF names no address of the image's bank, and so no mark.
+-- 'The reset address is a 16-bit address in that bank.'
 unfoldable pub resetFits : List ℕ → ℕ → ℕ → Bool
-resetFits marks base reset = eqb (markAt marks base (inBankOf base reset)) (markOf 0 0 0 0 0)
+resetFits marks base reset =
+    ltb reset bankSize && eqb (markAt marks base (inBankOf base reset)) (markOf 0 0 0 0 0)
 
 -- how many instructions the marks start
 unfoldable pub startCount : List ℕ → ℕ

@@ -1,5 +1,6 @@
 -- Everything that a reader has to believe, a file for each topic of document 01.
 pub mod Choice
+pub mod Refusals
 pub mod Operations
 pub mod Words
 pub mod CodePages

@@ -7,9 +7,7 @@ use mathlib.Core.List.{List, [], _∷_, _++_}
 use lib.Dec.{eqb, ltb, leb}
 use lib.ListN.{length, getD, drop}
 use Rattle.model.specs.declared.lists.Header.{Header}
-use Rattle.model.specs.declared.lists.Refusal.{Refusal}
-use Rattle.model.specs.declared.lists.Refusal.the-variants.{WrongLength, WrongBase, WrongReset}
-use Rattle.model.specs.declared.lists.Refusal.the-variants.{WrongMark, NotAList, ShortPage}
+use Rattle.model.specs.declared.refusals.Refusal.the-variants as refusal
 use Rattle.model.specs.declared.lists.ListRead.{ListRead}
 use Rattle.model.specs.declared.lists.ListRead.the-variants.{NotRead, Read}
 use Rattle.model.specs.declared.lists.ListWritten.{ListWritten}
@@ -17,17 +15,9 @@ use Rattle.model.specs.declared.lists.ListWritten.the-variants.{NotWritt
 use Rattle.model.specs.Choice.{pick}
 use Rattle.model.specs.Digits.{digit, digits, value, startsWith}
 use Rattle.model.specs.Image.{bankSize, isStart, markM, markX, markKind, returnM, returnX, markOf, isFormed}
-use Rattle.model.specs.Image.{lengthFits, baseFits, resetFits}
-use Rattle.model.specs.Verdict.{firstFrom, badMark}
-
--- the numbers of 'Numbers'
-abbrev pub refusalNumber : Refusal → ℕ
-refusalNumber WrongLength = 1
-refusalNumber WrongBase = 2
-refusalNumber WrongReset = 3
-refusalNumber WrongMark = 4
-refusalNumber NotAList = 14
-refusalNumber ShortPage = 15
+use Rattle.model.specs.Image.{resetFits}
+use Rattle.model.specs.Refusals.{Tests, firstRefusal, answered}
+use Rattle.model.specs.Verdict.{firstFrom, imageTests, marksTests}
 
 -- 'fields parted by tabs (09), each line closed by 0A'
 abbrev pub tab : ℕ
@@ -154,18 +144,15 @@ leftOf h text = linesLeft (h .base % bankSize) (h .length) (linesText h text)
 unfoldable pub isList : Header → List ℕ → Bool
 isList h text = isHeader h text && eqb (length (leftOf h text)) 0
 
--- the reader's tests of a text that shows a first line, for marks of a length
+-- 'Reader: 14, 1, 2, 3', of a text that shows a first line, for marks of a length
+abbrev pub readTests : Header → List ℕ → ℕ → Tests
+readTests h text n =
+    (isList h text, refusal.List)
+    ∷ imageTests (h .length) n (h .base)
+    ++ ((resetFits (marksOf h text) (h .base) (h .reset), refusal.Reset) ∷ [])
+
 unfoldable pub readAs : Header → List ℕ → ℕ → ListRead
-readAs h text n =
-    pick (isList h text)
-    (pick (lengthFits (h .length) n)
-    (pick (baseFits (h .base) (h .length))
-    (pick (resetFits (marksOf h text) (h .base) (h .reset))
-    (Read h)
-    (NotRead WrongReset))
-    (NotRead WrongBase))
-    (NotRead WrongLength))
-    (NotRead NotAList)
+readAs h text n = answered (firstRefusal (readTests h text n)) NotRead (Read h)
 
 -- the reader
 unfoldable pub readList : List ℕ → List ℕ → ListRead
@@ -179,20 +166,16 @@ marksBy (Read h) text marks = marksOf h text
 unfoldable pub marksRead : List ℕ → List ℕ → List ℕ
 marksRead text marks = marksBy (readList text marks) text marks
 
+-- 'Writer: 1, 2, 4, 3, 15'
+abbrev pub writeTests : List ℕ → ℕ → ℕ → List ℕ → Tests
+writeTests marks base reset page =
+    marksTests (length marks) marks base reset
+    ++ ((leb (length (listText marks base reset)) (length page), refusal.Page) ∷ [])
+
 -- the writer
 unfoldable pub writeList : List ℕ → ℕ → ℕ → List ℕ → ListWritten
 writeList marks base reset page =
-    pick (lengthFits (length marks) (length marks))
-    (pick (baseFits base (length marks))
-    (pick (eqb (badMark marks) (length marks))
-    (pick (resetFits marks base reset)
-    (pick (leb (length (listText marks base reset)) (length page))
-    (Written (length (listText marks base reset)))
-    (NotWritten ShortPage))
-    (NotWritten WrongReset))
-    (NotWritten WrongMark))
-    (NotWritten WrongBase))
-    (NotWritten WrongLength)
+    answered (firstRefusal (writeTests marks base reset page)) NotWritten (Written (length (listText marks base reset)))
 
 -- 'The writer leaves bytes past the list alone'; 'a refusal leaves every buffer .. as given'
 unfoldable pub pageBy : ListWritten → List ℕ → ℕ → ℕ → List ℕ → List ℕ

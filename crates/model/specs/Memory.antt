@@ -13,6 +13,7 @@ use Rattle.model.specs.declared.machine.Stop.the-variants.{Unmapped, Ima
 use Rattle.model.specs.declared.machine.Served.{Served}
 use Rattle.model.specs.declared.machine.Served.the-variants.{All, Refused}
 use Rattle.model.specs.Choice.{pick}
+use Rattle.model.specs.Image.{bankSize}
 
 pub record Memory : Type 0 where
   pub ram : List ℕ
@@ -73,7 +74,7 @@ abbrev pub longFrom : ℕ → ℕ → ℕ → Act ℕ
 longFrom at then last = do
   low ← wordFrom at then
   bank ← byteFrom last
-  ret (low + 65_536 * bank)
+  ret (low + bankSize * bank)
 
 -- data of one byte or two
 abbrev pub dataFrom : Bool → ℕ → ℕ → Act ℕ

@@ -22,7 +22,7 @@ use Rattle.model.specs.declared.rules.Owed.{Owed}
 use Rattle.model.specs.declared.rules.Owed.the-variants.{Nothing, One, Two}
 use Rattle.model.specs.Choice.{pick}
 use Rattle.model.specs.Status.{maskX, maskM}
-use Rattle.model.specs.Image.{addressLimit, isStart, markM, markX, markKind, returnM, returnX}
+use Rattle.model.specs.Image.{bankSize, addressLimit, isStart, markM, markX, markKind, returnM, returnX}
 use Rattle.model.specs.Image.{markOf, isFormed, lengthFits, baseFits, markAt, inBankOf, resetFits}
 use Rattle.model.specs.Decode.{decode}
 
@@ -41,15 +41,16 @@ offsetBy half address offset =
 
 -- an 8-bit offset is the last byte of the operand
 abbrev pub lastByte : ℕ → ℕ → ℕ
-lastByte operand n = operand / 256 ^ (n - 2)
+lastByte operand n = operand / 256 ^ (n - 2) % 256
 
--- 'next address plus signed offset (8 or 16 bits)'; 'JMP and JSR absolute .. stay in the instruction's bank'
+-- 'next address plus signed offset (8 or 16 bits)'; 'JMP and JSR absolute .. stay in the instruction's bank'. Of an
+-- operand the bits count that the form has.
 unfoldable pub targetOf : Target → ℕ → ℕ → ℕ → ℕ
 targetOf NoTarget address n operand = nextAddress address n
 targetOf Offset8 address n operand = offsetBy 128 (nextAddress address n) (lastByte operand n)
-targetOf Offset16 address n operand = offsetBy 32_768 (nextAddress address n) operand
-targetOf Address16 address n operand = inBankOf address operand
-targetOf Address24 address n operand = operand
+targetOf Offset16 address n operand = offsetBy 32_768 (nextAddress address n) (operand % bankSize)
+targetOf Address16 address n operand = inBankOf address (operand % bankSize)
+targetOf Address24 address n operand = operand % addressLimit
 
 -- 'the widths in force after the instruction. Only SEM, CLM, SEP and CLP change them, by their fixed bits': the places of m
 -- and x in the status register
@@ -117,6 +118,10 @@ owedAt marks base i address mark =
     owedBy (i .entry .flow) mark (markAfter (i .entry .effect) (i .operand) mark) (nextAddress address (i .length)) (targetAddress i address)
     (markAt marks base (targetAddress i address))
 
+-- what an instruction at a place of the image, with the mark there, owes
+abbrev pub owedThere : List ℕ → ℕ → ℕ → Instruction → Owed
+owedThere marks base at i = owedAt marks base i (base + at) (getD marks at 0)
+
 -- 'RTS stands only under kind 1, RTL only under kind 2, each at the marked return widths.'
 unfoldable pub returnsBy : Kind → ℕ → Bool
 returnsBy kind mark =
@@ -147,7 +152,7 @@ pub record StartRules (image marks : List ℕ) (base at : ℕ) : Type 0 where
   pub whole : instructionAt image marks at ≡ Whole instruction
   pub no-overlap : (k : ℕ) → at < k → k < at + instruction .length → isStart (getD marks k 0) ≡ false
   pub returns : returnFits (instruction .entry .flow) (getD marks at 0) ≡ true
-  pub successors : AllMet marks base (owedAt marks base instruction (base + at) (getD marks at 0))
+  pub successors : AllMet marks base (owedThere marks base at instruction)
 
 -- The rules of acceptance, all of them.
 pub record Accepts (image marks : List ℕ) (base reset : ℕ) : Type 0 where

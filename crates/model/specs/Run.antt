@@ -10,19 +10,18 @@ use Rattle.model.specs.declared.code.Kind.the-variants.{ByRts, ByRtl}
 use Rattle.model.specs.declared.machine.State.{State}
 use Rattle.model.specs.declared.machine.Answer.{Answer}
 use Rattle.model.specs.declared.machine.Answer.the-variants.{Completed, Called, Stopped}
-use Rattle.model.specs.declared.runs.RunRefusal.{RunRefusal}
-use Rattle.model.specs.declared.runs.RunRefusal.the-variants.{WrongLength, WrongBase, WrongRam}
-use Rattle.model.specs.declared.runs.RunRefusal.the-variants.{WrongState, ManySteps}
-use Rattle.model.specs.declared.runs.Admission.{Admission}
-use Rattle.model.specs.declared.runs.Admission.the-variants.{Admitted, Refused}
+use Rattle.model.specs.declared.refusals.Refusal.the-variants as refusal
+use Rattle.model.specs.declared.refusals.TestResult.{TestResult}
+use Rattle.model.specs.declared.refusals.TestResult.the-variants.{Passed, Failed}
 use Rattle.model.specs.declared.runs.End.{End}
 use Rattle.model.specs.declared.runs.End.the-variants.{Done, AtStop}
 use Rattle.model.specs.declared.runs.RunAnswer.{RunAnswer}
 use Rattle.model.specs.declared.runs.RunAnswer.the-variants.{NotRun, Ended}
 use Rattle.model.specs.Choice.{pick}
-use Rattle.model.specs.Image.{addressLimit, lengthFits, baseFits}
+use Rattle.model.specs.Refusals.{Tests, firstRefusal}
+use Rattle.model.specs.Image.{addressLimit}
 use Rattle.model.specs.Rules.{kindNumber}
-use Rattle.model.specs.Verdict.{firstFrom}
+use Rattle.model.specs.Verdict.{firstFrom, imageTests}
 use Rattle.model.specs.Status.{bit}
 use Rattle.model.specs.Memory.{Memory, memory}
 use Rattle.model.specs.Step.{callLimit, returnOf, kindOf, stopNumber, Stepped, step}
@@ -137,46 +136,32 @@ stateFits s =
     && callsFit (s .calls) (s .core .depth)
 
 -- 'Run: 1, 2, 11, 12, 13.' A run takes no marks. Whether the state is one that a run takes is given.
-unfoldable pub admissionBy : Memory → Bool → ℕ → Admission
-admissionBy m fits asked =
-    pick (lengthFits (length (m .image)) (length (m .image)))
-    (pick (baseFits (m .base) (length (m .image)))
-    (pick (ramFits (length (m .ram)) (m .base))
-    (pick fits
-    (pick (leb asked stepLimit)
-    Admitted
-    (Refused ManySteps))
-    (Refused WrongState))
-    (Refused WrongRam))
-    (Refused WrongBase))
-    (Refused WrongLength)
+abbrev pub runTests : Memory → Bool → ℕ → Tests
+runTests m fits asked =
+    imageTests (length (m .image)) (length (m .image)) (m .base)
+    ++ ((ramFits (length (m .ram)) (m .base), refusal.Ram)
+    ∷ (fits, refusal.State)
+    ∷ (leb asked stepLimit, refusal.Steps)
+    ∷ [])
 
-abbrev pub admission : Memory → State → ℕ → Admission
-admission m s asked = admissionBy m (stateFits s) asked
-
--- the numbers of 'Numbers'
-abbrev pub runRefusalNumber : RunRefusal → ℕ
-runRefusalNumber WrongLength = 1
-runRefusalNumber WrongBase = 2
-runRefusalNumber WrongRam = 11
-runRefusalNumber WrongState = 12
-runRefusalNumber ManySteps = 13
+abbrev pub admission : Memory → State → ℕ → TestResult
+admission m s asked = firstRefusal (runTests m (stateFits s) asked)
 
 -- ---- a run
 
 -- 'A run is refused exactly when one of the numbers tested for a run holds ..; its history is empty.'
-unfoldable pub admittedHistory : Admission → Memory → State → ℕ → List Event
-admittedHistory Admitted m s asked = history m s asked
-admittedHistory (Refused why) m s asked = []
+unfoldable pub admittedHistory : TestResult → Memory → State → ℕ → List Event
+admittedHistory Passed m s asked = history m s asked
+admittedHistory (Failed why) m s asked = []
 
 abbrev pub runHistory : Memory → State → ℕ → List Event
 runHistory m s asked = admittedHistory (admission m s asked) m s asked
 
 -- '.. and answers the first such number'; 'A run that is not refused answers exactly its history's end, its number of
 -- completed steps, and the number of its calls'
-abbrev pub answerBy : Admission → List Event → RunAnswer
-answerBy Admitted h = Ended (endOf h) (completedSteps h) (callsAmong h)
-answerBy (Refused why) h = NotRun why
+abbrev pub answerBy : TestResult → List Event → RunAnswer
+answerBy Passed h = Ended (endOf h) (completedSteps h) (callsAmong h)
+answerBy (Failed why) h = NotRun why
 
 -- A run's answer, and state and RAM after it. A step by itself is a run of one.
 pub record Ran : Type 0 where
@@ -185,12 +170,12 @@ pub record Ran : Type 0 where
   pub ram : List ℕ
 
 -- what a run with this history comes to
-abbrev pub ranBy : Admission → Memory → State → List Event → Ran
+abbrev pub ranBy : TestResult → Memory → State → List Event → Ran
 ranBy a m s h = record { answer = answerBy a h; state = stateLeft s h; ram = ramLeft (m .ram) h }
 
 -- what a run comes to that is not refused
 abbrev pub played : Memory → State → ℕ → Ran
-played m s asked = ranBy Admitted m s (history m s asked)
+played m s asked = ranBy Passed m s (history m s asked)
 
 unfoldable pub ran : Memory → State → ℕ → Ran
 ran m s asked = ranBy (admission m s asked) m s (runHistory m s asked)

@@ -5,12 +5,13 @@ use mathlib.Core.Bool.{Bool, _&&_}
 use mathlib.Core.List.{List}
 use lib.Dec.{eqb}
 use lib.ListN.{length}
-use Rattle.model.specs.declared.runs.Admission.{Admission}
-use Rattle.model.specs.declared.runs.Admission.the-variants.{Admitted, Refused}
+use Rattle.model.specs.declared.refusals.TestResult.{TestResult}
+use Rattle.model.specs.declared.refusals.TestResult.the-variants.{Passed, Failed}
 use Rattle.model.specs.declared.runs.RunAnswer.{RunAnswer}
 use Rattle.model.specs.declared.runs.RunAnswer.the-variants.{NotRun}
+use Rattle.model.specs.Refusals.{firstRefusal}
 use Rattle.model.specs.Memory.{Memory}
-use Rattle.model.specs.Run.{stateFits, admissionBy, Ran, played}
+use Rattle.model.specs.Run.{stateFits, runTests, Ran, played}
 use Rattle.model.specs.StateBytes.{stateSize, stateOf, bytesOf}
 
 -- number 12: 'A buffer of another length is refused with 12'
@@ -28,9 +29,9 @@ abbrev pub asBytes : Ran → RanBytes
 asBytes r = record { answer = r .answer; state = bytesOf (r .state); ram = r .ram }
 
 -- 'On a refusal .. every buffer is as given.'
-abbrev pub ranBytesBy : Admission → Memory → List ℕ → ℕ → RanBytes
-ranBytesBy Admitted m bytes asked = asBytes (played m (stateOf bytes) asked)
-ranBytesBy (Refused why) m bytes asked = record { answer = NotRun why; state = bytes; ram = m .ram }
+abbrev pub ranBytesBy : TestResult → Memory → List ℕ → ℕ → RanBytes
+ranBytesBy Passed m bytes asked = asBytes (played m (stateOf bytes) asked)
+ranBytesBy (Failed why) m bytes asked = record { answer = NotRun why; state = bytes; ram = m .ram }
 
 unfoldable pub ranBytes : Memory → List ℕ → ℕ → RanBytes
-ranBytes m bytes asked = ranBytesBy (admissionBy m (bytesFit bytes) asked) m bytes asked
+ranBytes m bytes asked = ranBytesBy (firstRefusal (runTests m (bytesFit bytes) asked)) m bytes asked

@@ -1,20 +1,11 @@
 // What the reader and the writer of mark lists answer.
+use crate::refusals::Refusal;
 
 // The first line of a list.
 pub struct Header {
     pub base: u32,
     pub length: u32,
     pub reset: u32,
-}
-
-// Why a list is not read or not written.
-pub enum Refusal {
-    WrongLength,
-    WrongBase,
-    WrongReset,
-    WrongMark,
-    NotAList,
-    ShortPage,
 }
 
 // The reader's answer; what it read beside the marks is the first line.

@@ -100,6 +100,9 @@ pub struct Core {
 // At most so many calls are open.
 pub const CALL_LIMIT: usize = 64;
 
+// The place of an open call's kind in its entry.
+pub const ENTRY_UNIT: u64 = 4_294_967_296;
+
 // The state: the open calls stand in the first `depth` entries, the first opened first, each as one number
 // (model/specs/Step.antt, `entryOf`).
 pub struct State {

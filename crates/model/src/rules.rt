@@ -1,8 +1,9 @@
 // What the rules of acceptance speak of: what a start owes its successors, and the check's answer.
+use crate::refusals::Refusal;
 
 // At an address stands a start with this mark.
 pub struct Want {
-    pub address: u64,
+    pub address: u32,
     pub mark: u8,
 }
 
@@ -13,8 +14,8 @@ pub enum Owed {
     Two(Want, Want),
 }
 
-// The check's answer: the paper's number of the first broken rule, and its offset.
+// The check's answer: the first rule that is broken, and its offset.
 pub enum Verdict {
     Accepted,
-    Refused { number: u8, offset: u32 },
+    Refused { why: Refusal, offset: u32 },
 }

@@ -1,20 +1,6 @@
 // What a run of the stepping machine answers: document 01, 'A run takes ..'.
 use crate::machine::Stop;
-
-// Why a run is refused: numbers 1, 2, 11, 12 and 13 of document 01.
-pub enum RunRefusal {
-    WrongLength,
-    WrongBase,
-    WrongRam,
-    WrongState,
-    ManySteps,
-}
-
-// Whether a run is taken up.
-pub enum Admission {
-    Admitted,
-    Refused(RunRefusal),
-}
+use crate::refusals::Refusal;
 
 // How a run ended: all asked steps are done, or one stopped.
 pub enum End {
@@ -24,6 +10,6 @@ pub enum End {
 
 // A run's answer: the refusal, or the end, the steps completed and the calls among them.
 pub enum RunAnswer {
-    NotRun(RunRefusal),
+    NotRun(Refusal),
     Ended { end: End, steps: u32, calls: u32 },
 }

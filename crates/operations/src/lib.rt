@@ -70,7 +70,7 @@ pub fn effect_by(
     mode: Mode,
     short: bool,
     operand: u64,
-    next: u64,
+    next: u32,
     given: Data,
     registers: &[u16; FILE_SIZE],
 ) -> Effect

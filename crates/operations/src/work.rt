@@ -29,6 +29,7 @@ use cpu::flags::with_flags_cleared;
 use cpu::flags::with_flags_set;
 use cpu::flags::with_overflow;
 use cpu::flags::with_result;
+use model::addresses::BANK_SIZE;
 use model::code::Mode;
 use model::machine::Data;
 use model::machine::Status;
@@ -617,7 +618,7 @@ pub fn push_data(short: bool, v: u16, registers: &[u16; FILE_SIZE]) -> Effect
 }
 
 // PER
-pub fn push_relative(short: bool, next: u64, operand: u64, registers: &[u16; FILE_SIZE]) -> Effect
+pub fn push_relative(short: bool, next: u32, operand: u64, registers: &[u16; FILE_SIZE]) -> Effect
     requires { ⌜ (next < addressLimit) × (operand < operandLimit) ⌝ }
     ensures { λ r. ⌜
         (viewed r (registersOf (now (registers .entry)))
@@ -625,18 +626,18 @@ pub fn push_relative(short: bool, next: u64, operand: u64, registers: &[u16; FIL
         × Placed r
         ⌝ }
 {
-    pushes(short, next + operand, registers)
+    pushes(short, next as u64 + operand, registers)
 }
 
 // PHG
-pub fn push_program_bank(short: bool, next: u64, registers: &[u16; FILE_SIZE]) -> Effect
+pub fn push_program_bank(short: bool, next: u32, registers: &[u16; FILE_SIZE]) -> Effect
     ensures { λ r. ⌜
         (viewed r (registersOf (now (registers .entry)))
         ≡ spec.pushes short (next / bankSize) (registersOf (now (registers .entry))))
         × Placed r
         ⌝ }
 {
-    pushes(short, next / 65_536, registers)
+    pushes(short, (next / BANK_SIZE) as u64, registers)
 }
 
 // PHP

@@ -8,13 +8,14 @@ use lib.Dec.{eqb, ltb, leb}
 use lib.ListN.{length}
 use borrow.Author.Tests.{leb-true, eqb-true}
 use Rattle.model.specs.declared.machine.Core.{Core}
-use Rattle.model.specs.declared.runs.Admission.{Admission}
-use Rattle.model.specs.declared.runs.Admission.the-variants.{Admitted, Refused}
-use Rattle.model.specs.declared.runs.RunRefusal.{RunRefusal}
+use Rattle.model.specs.declared.refusals.Refusal.{Refusal}
+use Rattle.model.specs.declared.refusals.TestResult.{TestResult}
+use Rattle.model.specs.declared.refusals.TestResult.the-variants.{Passed, Failed}
 use Rattle.model.specs.declared.runs.RunAnswer.the-variants.{NotRun}
+use Rattle.model.specs.Refusals.{firstRefusal}
 use Rattle.model.specs.Memory.{Memory}
 use Rattle.model.specs.Step.{callLimit}
-use Rattle.model.specs.Run.{levelLimit, callsFit, stateFits, admissionBy, Ran, played}
+use Rattle.model.specs.Run.{levelLimit, callsFit, stateFits, runTests, Ran, played}
 use Rattle.model.specs.RunBytes.{bytesFit, asBytes, ranBytes}
 use Rattle.model.specs.StateBytes.{stateSize, stateOf}
 use Rattle.model.proofs.Verdict.{both-true}
@@ -37,18 +38,18 @@ module _ (bytes : ℕ) (c : Core) (calls : List ℕ) (taken : (eqb bytes stateSi
 module _ (m : Memory) (bytes : List ℕ) (asked : ℕ) (c : Core) (calls : List ℕ) (is-core : c ≡ stateOf bytes .core)
     (is-calls : calls ≡ stateOf bytes .calls) (taken : Bool)
     (is-taken : taken ≡ (eqb (length bytes) stateSize && stateFits (state c calls)))
-    (a : Admission) (is-admission : a ≡ admissionBy m taken asked) where
+    (a : TestResult) (is-admission : a ≡ firstRefusal (runTests m taken asked)) where
   same-state : state c calls ≡ stateOf bytes
   same-state = λ j. record { core = is-core j; calls = is-calls j }
 
   same-fits : taken ≡ bytesFit bytes
   same-fits = rw (← same-state) is-taken
 
-  pub run-refused : (why : RunRefusal) → a ≡ Refused why
+  pub run-refused : (why : Refusal) → a ≡ Failed why
       → ranBytes m bytes asked ≡ record { answer = NotRun why; state = bytes; ram = m .ram }
   unfolding ranBytes
   run-refused why e = rw (← same-fits, ← is-admission, e) refl
 
-  pub run-taken : a ≡ Admitted → (r : Ran) → r ≡ played m (state c calls) asked → ranBytes m bytes asked ≡ asBytes r
+  pub run-taken : a ≡ Passed → (r : Ran) → r ≡ played m (state c calls) asked → ranBytes m bytes asked ≡ asBytes r
   unfolding ranBytes
   run-taken e r is-run = rw (← same-fits, ← is-admission, e, is-run, same-state) refl

@@ -2,13 +2,12 @@
 use crate::course::run_in;
 use actions::tasks;
 use codepages::pages;
-use image::base_fits;
-use image::length_fits;
+use image::test_image;
 use model::machine::CALL_LIMIT;
 use model::machine::Core;
-use model::runs::Admission;
+use model::refusals::Refusal;
+use model::refusals::TestResult;
 use model::runs::RunAnswer;
-use model::runs::RunRefusal;
 use statebytes::STATE_SIZE;
 use statebytes::calls_of;
 use statebytes::core_of;
@@ -19,7 +18,8 @@ ghost use mathlib.Core.Path.{_≡_};
 ghost use mathlib.Core.Bool.{_&&_};
 ghost use lib.Dec.{eqb};
 ghost use Rattle.model.specs.Memory.{memory};
-ghost use Rattle.model.specs.Run.{stateFits, admissionBy};
+ghost use Rattle.model.specs.Refusals.{firstRefusal};
+ghost use Rattle.model.specs.Run.{stateFits, runTests};
 ghost use Rattle.model.specs.RunBytes.{ranBytes};
 ghost use Rattle.model.specs.StateBytes.{stateSize};
 ghost use Rattle.machine.specs.Turns.{state};
@@ -37,26 +37,24 @@ fn fits(bytes: usize, core: Core, calls: &[u64; CALL_LIMIT]) -> bool
     state_fits(core, calls)
 }
 
-// Whether a run is taken up: 1, 2, 11, 12, 13.
-fn admission_by(image: &[u8], base: u32, ram: &[u8], fits: bool, asked: u32) -> Admission
-    ensures { λ r. ⌜ r ≡ admissionBy (memory (now (ram .entry)) (now (image .entry)) base) fits asked ⌝ }
+// 1, 2, 11, 12, 13: what a run tests.
+fn test_run(image: &[u8], base: u32, ram: &[u8], fits: bool, asked: u32) -> TestResult
+    ensures { λ r. ⌜ r ≡ firstRefusal (runTests (memory (now (ram .entry)) (now (image .entry)) base) fits asked) ⌝ }
 {
-    if !length_fits(image.len(), image.len()) {
-        return Admission::Refused(RunRefusal::WrongLength);
-    }
-    if !base_fits(base, image.len()) {
-        return Admission::Refused(RunRefusal::WrongBase);
+    let tested = test_image(image.len(), image.len(), base);
+    if let TestResult::Failed(_) = tested {
+        return tested;
     }
     if !ram_fits(ram.len(), base) {
-        return Admission::Refused(RunRefusal::WrongRam);
+        return TestResult::Failed(Refusal::Ram);
     }
     if !fits {
-        return Admission::Refused(RunRefusal::WrongState);
+        return TestResult::Failed(Refusal::State);
     }
     if STEP_LIMIT < asked {
-        return Admission::Refused(RunRefusal::ManySteps);
+        return TestResult::Failed(Refusal::Steps);
     }
-    Admission::Admitted
+    TestResult::Passed
 }
 
 // The run: its answer, and the state and RAM that it leaves.
@@ -76,8 +74,8 @@ pub fn run(image: &[u8], base: u32, bytes: &mut [u8], ram: &mut [u8], asked: u32
     let core = core_of(bytes);
     let mut calls = calls_of(bytes);
     let taken = fits(bytes.len(), core, &calls);
-    let admission = admission_by(image, base, ram, taken, asked);
-    if let Admission::Refused(why) = admission {
+    let tested = test_run(image, base, ram, taken, asked);
+    if let TestResult::Failed(why) = tested {
         return RunAnswer::NotRun(why);
     }
     let course = run_in(

@@ -1,8 +1,11 @@
 // Steps one after another, until the asked number is done or one stops.
+use actions::TaskTable;
+use codepages::CodePages;
 use cpu::file::FILE_SIZE;
 use cpu::file::file_of;
 use cpu::file::registers_in;
 use machine::step::step_in;
+use model::addresses::BANK_SIZE;
 use model::machine::Answer;
 use model::machine::CALL_LIMIT;
 use model::machine::Core;
@@ -64,28 +67,28 @@ fn with_call(made: u32, answer: Answer) -> u32
 }
 
 // PG and PC as one number.
-fn place_of(core: Core) -> u64
+fn place_of(core: Core) -> u32
     ensures { λ r. ⌜ (r ≡ placeOf core) × (r % bankSize ≡ core .pc) × (r / bankSize % 256 ≡ core .pg) ⌝ }
 {
-    core.pg as u64 * 65_536 + core.pc as u64
+    core.pg as u32 * BANK_SIZE + core.pc as u32
 }
 
 // The core of a place, the number of open calls and a register file.
-fn core_of(place: u64, depth: usize, registers: &[u16; FILE_SIZE]) -> Core
+fn core_of(place: u32, depth: usize, registers: &[u16; FILE_SIZE]) -> Core
     ensures { λ r. ⌜ r ≡ coreOf place depth (now (registers .entry)) ⌝ }
 {
     Core {
         registers: registers_in(registers),
-        pc: (place % 65_536) as u16,
-        pg: (place / 65_536 % 256) as u8,
+        pc: (place % BANK_SIZE) as u16,
+        pg: (place / BANK_SIZE % 256) as u8,
         depth,
     }
 }
 
 // The steps of a core with its open calls.
 pub fn run_in(
-    codes: &[[[u32; 16]; 16]; 3],
-    tasks: &[[u16; 128]; 4],
+    codes: &CodePages,
+    tasks: &TaskTable,
     image: &[u8],
     base: u32,
     given: Core,

@@ -3,8 +3,10 @@ pub mod fields;
 
 use crate::fields::field_at;
 use crate::fields::put_fields;
+use model::addresses::ADDRESS_LIMIT;
 use model::machine::CALL_LIMIT;
 use model::machine::Core;
+use model::machine::ENTRY_UNIT;
 use model::machine::Registers;
 use model::machine::Status;
 ghost use mathlib.Core.Path.{_≡_};
@@ -20,10 +22,6 @@ const HEAD_SIZE: usize = 20;
 const ENTRY_SIZE: usize = 8;
 
 pub const STATE_SIZE: usize = HEAD_SIZE + ENTRY_SIZE * CALL_LIMIT;
-
-const ENTRY_UNIT: u64 = 4_294_967_296;
-
-const ADDRESS_LIMIT: u64 = 16_777_216;
 
 const LEVEL_LIMIT: u8 = 8;
 
@@ -134,7 +132,7 @@ fn call_fits(entry: u64) -> bool
     ensures { λ r. ⌜ r ≡ callFits entry ⌝ }
 {
     let kind = entry / ENTRY_UNIT % 256;
-    let inside = entry % ENTRY_UNIT < ADDRESS_LIMIT;
+    let inside = entry % ENTRY_UNIT < ADDRESS_LIMIT as u64;
     if kind == 1 {
         return inside;
     }

@@ -1,29 +1,28 @@
 // Where control goes from an instruction: the next address and the target, for the check and the machine alike.
 pub mod widths;
 
+use model::addresses::ADDRESS_LIMIT;
+use model::addresses::in_bank_of;
+use model::addresses::low_long;
+use model::addresses::low_word;
 use model::code::Kind;
 use model::code::Target;
 ghost use mathlib.Core.Path.{_≡_};
 ghost use Prim.Native.Nat.{_≤_, _<_};
-ghost use Rattle.model.specs.Image.{addressLimit, inBankOf};
+ghost use Rattle.model.specs.Image.{addressLimit, bankSize};
 ghost use Rattle.model.specs.Rules as rules;
 
-// The limits of model/specs/Image.antt.
-const BANK_SIZE: u64 = 65_536;
-
-const ADDRESS_LIMIT: u64 = 16_777_216;
-
 // The address after n bytes more.
-pub fn next_address(address: u64, n: u8) -> u64
-    requires { ⌜ address < 4_294_967_296 ⌝ }
+pub fn next_address(address: u32, n: u8) -> u32
+    requires { ⌜ address < addressLimit ⌝ }
     ensures { λ r. ⌜ r ≡ rules.nextAddress address n ⌝ }
 {
-    (address + n as u64) % ADDRESS_LIMIT
+    (address + n as u32) % ADDRESS_LIMIT
 }
 
 // An address plus a signed offset whose half range is 128 or 32,768.
-fn offset_by(half: u64, address: u64, offset: u64) -> u64
-    requires { ⌜ (half ≤ 32_768) × (address < addressLimit) × (offset < 1_099_511_627_776) ⌝ }
+fn offset_by(half: u32, address: u32, offset: u32) -> u32
+    requires { ⌜ (half ≤ 32_768) × (address < addressLimit) × (offset < bankSize) ⌝ }
     ensures { λ r. ⌜ r ≡ rules.offsetBy half address offset ⌝ }
 {
     if offset < half {
@@ -33,36 +32,28 @@ fn offset_by(half: u64, address: u64, offset: u64) -> u64
 }
 
 // The last byte of an operand of an instruction of 2 to 6 bytes.
-fn last_byte(operand: u64, n: u8) -> u64
+fn last_byte(operand: u64, n: u8) -> u32
     requires { ⌜ n ≤ 6 ⌝ }
-    ensures { λ r. ⌜ r ≡ rules.lastByte operand n ⌝ }
+    ensures { λ r. ⌜ (r ≡ rules.lastByte operand n) × (r < 256) ⌝ }
 {
     if n < 2 {
-        return operand;
+        return (operand % 256) as u32;
     }
     let bits = 8 * (n - 2) as u32;
-    operand >> bits
-}
-
-// An address in the bank of another.
-pub fn in_bank_of(address: u64, low: u64) -> u64
-    requires { ⌜ (address < 4_294_967_296) × (low < 1_099_511_627_776) ⌝ }
-    ensures { λ r. ⌜ r ≡ inBankOf address low ⌝ }
-{
-    address / BANK_SIZE * BANK_SIZE + low
+    ((operand >> bits) % 256) as u32
 }
 
 // Where an instruction of n bytes at an address goes by its target.
-pub fn target_of(target: Target, address: u64, n: u8, operand: u64) -> u64
-    requires { ⌜ (address < 4_294_967_296) × (n ≤ 6) × (operand < 1_099_511_627_776) ⌝ }
+pub fn target_of(target: Target, address: u32, n: u8, operand: u64) -> u32
+    requires { ⌜ (address < addressLimit) × (n ≤ 6) ⌝ }
     ensures { λ r. ⌜ r ≡ rules.targetOf target address n operand ⌝ }
 {
     match target {
         Target::NoTarget => next_address(address, n),
         Target::Offset8 => offset_by(128, next_address(address, n), last_byte(operand, n)),
-        Target::Offset16 => offset_by(32_768, next_address(address, n), operand),
-        Target::Address16 => in_bank_of(address, operand),
-        Target::Address24 => operand,
+        Target::Offset16 => offset_by(32_768, next_address(address, n), low_word(operand)),
+        Target::Address16 => in_bank_of(address, low_word(operand)),
+        Target::Address24 => low_long(operand),
     }
 }
 

@@ -1,6 +1,7 @@
 // The read-only view of an image: 01, 'Image, marks and base travel together as one read-only view'.
 pub mod plain;
 
+use codepages::CodePages;
 use decoder::decode_at;
 use image::byte_at;
 use model::code::Decoded;
@@ -12,7 +13,7 @@ ghost use Rattle.model.specs.Rules.{instructionAt};
 ghost use Rattle.model.specs.Verdict.{verdict};
 
 // What stands at an offset of an image, at the widths marked there.
-fn decode_marked(image: &[u8], marks: &[u8], codes: &[[[u32; 16]; 16]; 3], at: usize) -> Decoded
+fn decode_marked(image: &[u8], marks: &[u8], codes: &CodePages, at: usize) -> Decoded
     requires { ⌜ now codes ≡ numbers ⌝ }
     ensures { λ r. ⌜ r ≡ instructionAt (now (image .entry)) (now (marks .entry)) at ⌝ }
 {
@@ -46,7 +47,7 @@ impl<'i, 'm> View<'i, 'm> {
     }
 
     // What stands at an offset, at the widths marked there. The code pages are lent.
-    pub fn instruction_at(self, codes: &[[[u32; 16]; 16]; 3], at: usize) -> Decoded
+    pub fn instruction_at(self, codes: &CodePages, at: usize) -> Decoded
         requires { ⌜ now codes ≡ numbers ⌝ }
         ensures { λ r. ⌜ r ≡ instructionAt (now (self .entry .image)) (now (self .entry .marks)) at ⌝ }
     {

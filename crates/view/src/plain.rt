@@ -1,5 +1,6 @@
 // A view's functions for callers who have its parts: each makes one view and asks it.
 use crate::View;
+use codepages::CodePages;
 use model::code::Decoded;
 use model::rules::Verdict;
 ghost use mathlib.Core.Path.{_≡_};
@@ -31,7 +32,7 @@ pub fn instruction_at(
     image: &[u8],
     marks: &[u8],
     base: u32,
-    codes: &[[[u32; 16]; 16]; 3],
+    codes: &CodePages,
     at: usize,
 ) -> Decoded
     requires { ⌜ now codes ≡ numbers ⌝ }

@@ -1,10 +1,11 @@
 -- The invariant: every place passed breaks no rule. A step may end past the last mark.
 -- Assumes nothing.
+use mathlib.Core.Path.{refl}
 use borrow.Author.Needs.{needs}
 use Prim.Native.Nat.{_+_, _-_, _≤_}
 use native.Mathlib.Omega.{arith}
 use lib.ListN.{length}
-use Rattle.checker.proofs.Steps.{step-number, few-bytes, goes-on, ends-at, passed-past}
+use Rattle.checker.proofs.Steps.{step-result, few-bytes, goes-on, passed-past}
 use Rattle.model.specs.Verdict as spec
 use Rattle.model.specs.Verdict.{badStart}
 use Rattle.model.proofs.First.{Passed, none-passed, passed-to}
@@ -26,96 +27,76 @@ loop-holds c = (
 )
 
 step-at-requires : tie.Need-step-at-requires Inv-loop μ-loop
-step-at-requires c κs =
-    (c .before .before .before .before .pre .0, c .before .before .before .before .pre .1, omega arith)
+step-at-requires c κs = (
+  c .before .before .before .before .pre .0,
+  omega (arith, c .before .before .before .before .pre .1, c .loop-test .taken),
+)
 
 cast-offset : tie.Need-cast-offset Inv-loop μ-loop
-cast-offset c =
-    omega (arith, c .before .before .before .before .before .before .pre .2, c .before .before .loop-test .taken)
+cast-offset c = omega (
+  arith,
+  c .before .before .before .before .before .before .before .before .pre .1,
+  c .before .before .before .before .loop-test .taken,
+)
 
 returns : tie.Need-returns Inv-loop μ-loop
 unfolding badStart
 returns c =
-    let broken = spec.brokenAt (c .before .before .before .before .before .before .args .image .now) (c .before
-    .before .before .before .before .before .args .marks .now) (c .before .before .before .before .before .before
-    .args .base) in let here = passed-to broken 0 (c .before .before .before .loop .i) (length (c .before .before
-    .before .before .before .before .args .marks .now)) (c .before .before .before .loop .inv .0) (omega (
-      arith,
-      c
-          .before .before .loop-test .taken,
-    )) (ends-at (c .before .before .before .before .before .before .args .image
-    .now) (c .before .before .before .before .before .before .args .marks .now) (c .before .before .before .before
-    .before .before .args .base) (c .before .before .before .loop .i) (c .before .step-at .result) (c .before
-    .step-at .ensures) (c .if1 .taken)) in stopped-at (c .before .before .before .before .before .before .args
-    .image .now) (c .before .before .before .before .before .before .args .marks .now) (c .before .before .before
-    .before .before .before .args .base) (c .before .before .before .loop .i) (c .before .step-at .result .number)
-    here (c .before .before .loop-test .taken) (step-number (c .before .before .before .before .before .before .args
-    .image .now) (c .before .before .before .before .before .before .args .marks .now) (c .before .before .before
-    .before .before .before .args .base) (c .before .before .before .loop .i) (c .before .step-at .result) (c
-    .before .step-at .ensures))
+    let args = c .before .before .before .before .before .before .before .before .args in
+    let i = c .before .before .before .before .before .loop .i in
+    let failed = step-result (args .image .now) (args .marks .now) (args .base) i
+    (c .before .before .before .step-at .result)
+    (c .before .before .before .step-at .ensures) (c .before .result .given .1) in
+    let here = passed-to (spec.brokenAt (args .image .now) (args .marks .now) (args .base)) 0 i
+    (length (args .marks .now))
+    (c .before .before .before .before .before .loop .inv .0)
+    (omega (arith, c .before .before .before .before .loop-test .taken)) (rw failed refl) in
+    stopped-at (args .image .now) (args .marks .now) (args .base) i _ here failed
 
 add-i : tie.Need-add-i Inv-loop μ-loop
 add-i c =
+    let args = c .before .before .before .before .before .before .before .before .args in
+    let few = few-bytes (args .image .now) (args .marks .now) (args .base)
+    (c .before .before .before .before .before .loop .i) (c .before .before .before .step-at .result)
+    (c .before .before .before .step-at .ensures) in
     omega (
       arith,
-      few-bytes (c .before .before .before .before .before .before .before .args .image .now) (c .before
-          .before .before .before .before .before .before .args .marks .now) (c .before .before .before .before .before
-          .before .before .args .base) (c .before .before .before .before .loop .i) (c .before .before .step-at .result)
-          (c .before .before .step-at .ensures) .1,
-      c .before .before .before .before .loop .inv .1,
-      c .before .before
-          .before .before .before .before .before .pre .2,
+      few .1,
+      c .before .before .before .before .before .loop .inv .1,
+      c .before .before .before .before .before .before .before .before .pre .1,
     )
 
 loop-less : tie.Need-loop-less Inv-loop μ-loop
 loop-less c =
-    omega (
-      arith,
-      few-bytes (c .before .before .before .before .before .before .before .args .image .now) (c .before
-          .before .before .before .before .before .before .args .marks .now) (c .before .before .before .before .before
-          .before .before .args .base) (c .before .before .before .before .loop .i) (c .before .before .step-at .result)
-          (c .before .before .step-at .ensures) .0,
-      c .before .before .before .loop-test .taken,
-    )
+    let args = c .before .before .before .before .before .before .before .before .args in
+    let few = few-bytes (args .image .now) (args .marks .now) (args .base)
+    (c .before .before .before .before .before .loop .i) (c .before .before .before .step-at .result)
+    (c .before .before .before .step-at .ensures) in
+    omega (arith, few .0, c .before .before .before .before .loop-test .taken)
 
 loop-again : tie.Need-loop-again Inv-loop μ-loop
-loop-again c = (
-  goes-on (c .before .before .before .before .before .before .before .args .image .now) (c .before .before
-      .before .before .before .before .before .args .marks .now) (c .before .before .before .before .before .before
-      .before .args .base) (c .before .before .before .before .loop .i) (c .before .before .step-at .result) (c
-      .before .before .step-at .ensures) (c .before .if1 .left) (c .before .before .before .before .loop .inv .0),
-  omega (
-    arith,
-    few-bytes (c .before .before .before .before .before .before .before .args .image .now) (c .before
-        .before .before .before .before .before .before .args .marks .now) (c .before .before .before .before .before
-        .before .before .args .base) (c .before .before .before .before .loop .i) (c .before .before .step-at .result)
-        (c .before .before .step-at .ensures) .1,
-    c .before .before .before .loop-test .taken,
-  ),
-)
+loop-again c =
+    let args = c .before .before .before .before .before .before .before .before .args in
+    let few = few-bytes (args .image .now) (args .marks .now) (args .base)
+    (c .before .before .before .before .before .loop .i) (c .before .before .before .step-at .result)
+    (c .before .before .before .step-at .ensures) in (
+      goes-on (args .image .now) (args .marks .now) (args .base) (c .before .before .before .before .before .loop .i)
+          (c .before .before .before .step-at .result)
+          (c .before .before .before .step-at .ensures) (c .before .enum-told .given .1)
+          (c .before .before .before .before .before .loop .inv .0),
+      omega (arith, few .1, c .before .before .before .before .loop-test .taken),
+    )
 
 returns-2 : tie.Need-returns-2 Inv-loop μ-loop
 unfolding badStart
 returns-2 c =
-    let here = passed-past (spec.brokenAt (c .before .before .before .before .args .image .now) (c .before .before
-    .before .before .args .marks .now) (c .before .before .before .before .args .base)) (c .before .loop .i) (length
-    (c .before .before .before .before .args .marks .now)) (c .before .loop .inv .0) (c .loop-test .left) in
-    passed-over (c .before .before .before .before .args .image .now) (c .before .before .before .before .args
-    .marks .now) (c .before .before .before .before .args .base) (length (c .before .before .before .before .args
-    .marks .now)) here (omega arith) (omega arith)
+    let args = c .before .before .before .before .args in
+    passed-over (args .image .now) (args .marks .now) (args .base)
+    (passed-past (spec.brokenAt (args .image .now) (args .marks .now) (args .base)) (c .before .loop .i)
+    (length (args .marks .now)) (c .before .loop .inv .0) (c .loop-test .left))
 
 pub starts-verdict-spec : {M : Type 1} → statement M
 starts-verdict-spec =
     tie.close
-    (tie.spec
-    Inv-loop
-    μ-loop
-    loop-holds
-    step-at-requires
-    cast-offset
-    returns
-    (λ c. search needs)
-    add-i
-    loop-less
-    loop-again
-    returns-2)
+    (tie.spec Inv-loop μ-loop loop-holds step-at-requires (λ c. search needs) cast-offset returns (λ c. search needs)
+    (λ c. search needs) add-i loop-less loop-again returns-2)

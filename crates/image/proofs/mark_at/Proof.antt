@@ -19,4 +19,4 @@ returns-2 c =
 pub mark-at-spec : {M : Type 1} → statement M
 mark-at-spec = tie.close
     (tie.spec
-    returns (λ c κs. search needs) returns-2)
+    returns (λ c. search needs) (λ c κs. search needs) returns-2)

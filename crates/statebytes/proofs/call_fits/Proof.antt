@@ -4,6 +4,7 @@ use mathlib.Core.Path.{refl}
 use borrow.Author.Tests.{ne-eqb}
 use Rattle.model.specs.Run.{callFits}
 use Rattle.model.specs.Step.{kindOf}
+use borrow.Author.Needs.{needs}
 use Rattle.statebytes.proofs.call_fits.Statement.{statement}
 use Rattle.statebytes.proofs.call_fits.Tie as tie
 
@@ -22,4 +23,4 @@ returns-3 c =
     rw (ne-eqb kind 1 (c .before .if1 .left), ne-eqb kind 2 (c .if2 .left)) refl
 
 pub call-fits-spec : {M : Type 1} → statement M
-call-fits-spec = tie.close (tie.spec returns returns-2 returns-3)
+call-fits-spec = tie.close (tie.spec (λ c. search needs) returns returns-2 returns-3)

@@ -50,8 +50,8 @@ address-of-spec =
       c .index-y2 .ensures .0,
       c .before .absolute4 .ensures .0,
     ) refl)
-    (λ c. rw (c .before .enum-told17 .given .1, c .long .ensures .0) refl)
-    (λ c. rw (c .before .before .enum-told18 .given .1, c .index-x4 .ensures .0, c .before .long2 .ensures .0) refl)
+    (λ c. rw (c .before .enum-told17 .given .1, c .low-long .ensures .0) refl)
+    (λ c. rw (c .before .before .enum-told18 .given .1, c .index-x4 .ensures .0, c .before .low-long2 .ensures .0) refl)
     (λ c. rw (c .enum-told19 .given .1) refl) (λ c. rw (c .enum-told20 .given .1) refl)
     (λ c. rw (c .enum-told21 .given .1) refl) (λ c. rw (c .enum-told22 .given .1) refl)
     (λ c. rw (c .enum-told23 .given .1) refl)

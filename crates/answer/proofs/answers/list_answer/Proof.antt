@@ -7,10 +7,10 @@ use Rattle.answer.proofs.answers.list_answer.Tie as tie
 
 returns : tie.Need-returns
 returns c =
-    let start = c .before .before .before .before .before .before .before .before .before .before .before in
-    rw (c .refusal-number .ensures) (list-refused (start .args .image .now) (start .args .text .now)
-    (start .args .marks .now) (start .pre) (c .before .before .refusal .given .0 .0) (rw (←
-    c .before .before .before .before .before .before .read-list .ensures .0) (c .before .before .refusal .given .1)))
+    let start = c .before .before .before .before .before .before .before .before .before .before in
+    list-refused (start .args .image .now) (start .args .text .now) (start .args .marks .now) (start .pre)
+    (c .before .why .given .0 .0) (rw (← c .before .before .before .before .before .read-list .ensures .0)
+    (c .before .why .given .1))
 
 returns-2 : tie.Need-returns-2
 returns-2 c =
@@ -25,5 +25,5 @@ pub list-answer-spec : {M : Type 1} → statement M
 list-answer-spec =
     tie.close
     (tie.spec
-    (λ c κs. search needs) (λ c. search needs) (λ c κs. search needs) (λ c. search needs) (λ c κs. search needs)
-    (λ c. search needs) returns (λ c. search needs) returns-2)
+    (λ c κs. search needs) (λ c. search needs) (λ c. search needs) (λ c κs. search needs) (λ c. search needs) returns
+    (λ c. search needs) returns-2)

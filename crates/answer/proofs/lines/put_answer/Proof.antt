@@ -22,11 +22,15 @@ returns-2 c =
 returns-3 : tie.Need-returns-3
 unfolding spec.lineFor
 returns-3 c =
-    rw (c .before .before .before .before .before .answer2 .given .1) (c .before .before .put-refused .ensures)
+    rw (
+      c .before .before .before .before .before .before .answer2 .given .1,
+      ← c .before .before .before .refusal-number .ensures,
+    ) (c .before .before .put-refused .ensures)
 
 pub put-answer-spec : {M : Type 1} → statement M
 put-answer-spec =
     tie.close
     (tie.spec
     (λ c. search needs) (λ c κs. search needs) (λ c. search needs) (λ c κs. search needs) (λ c. search needs)
-    (λ c κs. search needs) (λ c. search needs) returns (λ c. search needs) returns-2 (λ c. search needs) returns-3)
+    (λ c κs. search needs) (λ c κs. search needs) (λ c. search needs) returns (λ c. search needs) returns-2
+    (λ c. search needs) returns-3)

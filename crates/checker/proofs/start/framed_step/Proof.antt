@@ -1,28 +1,26 @@
 -- In each arm the frame is known.
 -- Assumes nothing.
-use Rattle.model.specs.Verdict.{decodedNumber}
+use Rattle.model.specs.Verdict.{decodedResult}
 use borrow.Author.Needs.{needs}
 use Rattle.checker.proofs.start.framed_step.Statement.{statement}
 use Rattle.checker.proofs.start.framed_step.Tie as tie
 
-whole-number-requires : tie.Need-whole-number-requires
-whole-number-requires c κs = (
+test-whole-requires : tie.Need-test-whole-requires
+test-whole-requires c κs = (
   rw (c .before .framed .given .1) at (c .before .before .before .before .before .pre .0),
-  c .before .before
-      .before .before .before .pre .1,
-  c .before .before .before .before .before .pre .2,
+  c .before .before .before .before .before .pre .1,
 )
 
 returns : tie.Need-returns
-unfolding decodedNumber
-returns c = rw (c .before .before .framed .given .1, c .whole-number .ensures)
+unfolding decodedResult
+returns c = rw (c .before .before .framed .given .1, c .test-whole .ensures)
 
 returns-2 : tie.Need-returns-2
-unfolding decodedNumber
+unfolding decodedResult
 returns-2 c = rw (c .enum-told .given .1)
 
 returns-3 : tie.Need-returns-3
-unfolding decodedNumber
+unfolding decodedResult
 returns-3 c = rw (c .enum-told2 .given .1)
 
 pub framed-step-spec : {M : Type 1} → statement M
@@ -30,7 +28,7 @@ framed-step-spec =
     tie.close
     (tie.spec
     (λ c. search needs)
-    whole-number-requires
+    test-whole-requires
     (λ c. search needs)
     (λ c. search needs)
     returns

@@ -5,13 +5,13 @@ use lib.ListN.{drop}
 use borrow.Author.Tests.{not-true, not-false}
 use Rattle.decoder.proofs.Frames.{fits-in, decoded-framed}
 use Rattle.checker.specs.Steps.{bytesAt}
-use Rattle.model.specs.Verdict.{startNumber}
+use Rattle.model.specs.Verdict.{startResult}
 use borrow.Author.Needs.{needs}
 use Rattle.checker.proofs.start.step_at.Statement.{statement}
 use Rattle.checker.proofs.start.step_at.Tie as tie
 
 returns : tie.Need-returns
-unfolding startNumber bytesAt
+unfolding startResult bytesAt
 returns c =
     rw (
       ← c .before .before .byte-at .ensures,
@@ -22,16 +22,15 @@ returns c =
 
 framed-step-requires : tie.Need-framed-step-requires
 framed-step-requires c κs = (
-  fits-in (c .before .before .before .before .before .before .args .image .now) (c .before .before .before
-      .before .before .before .args .at) (c .before .before .before .byte-at .result / 2 % 2) (c .before .before
-      .before .byte-at .result / 4 % 2) (c .frame-at .result) (c .frame-at .ensures),
-  c .before .before .before
-      .before .before .before .pre .1,
-  c .before .before .before .before .before .before .pre .2,
+  fits-in (c .before .before .before .before .before .before .args .image .now)
+      (c .before .before .before .before .before .before .args .at)
+      (c .before .before .before .byte-at .result / 2 % 2) (c .before .before .before .byte-at .result / 4 % 2)
+      (c .frame-at .result) (c .frame-at .ensures),
+  c .before .before .before .before .before .before .pre .1,
 )
 
 returns-2 : tie.Need-returns-2
-unfolding startNumber bytesAt
+unfolding startResult bytesAt
 returns-2 c =
     rw (
       ← c .before .before .before .before .byte-at .ensures,

@@ -85,6 +85,7 @@ fetch-at-spec =
     tie.close
     (tie.spec
     returns
+    (λ c. search needs)
     (λ c κs. search needs)
     (λ c κs. search needs)
     (λ c κs. search needs)

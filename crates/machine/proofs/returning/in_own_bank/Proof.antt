@@ -10,12 +10,5 @@ returns c = rw (c .before .before .read .given .1, c .in-bank-of .ensures) refl
 
 pub in-own-bank-spec : {M : Type 1} → statement M
 in-own-bank-spec =
-    tie.close
-    (tie.spec
-    (λ c. search needs)
-    (λ c. search needs)
-    (λ c κs. search needs)
-    (λ c. search needs)
-    (λ c. search needs)
-    returns
+    tie.close (tie.spec (λ c. search needs) (λ c. search needs) (λ c κs. search needs) (λ c. search needs) returns
     (λ c. search needs))

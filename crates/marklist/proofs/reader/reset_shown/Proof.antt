@@ -5,52 +5,61 @@ use native.Mathlib.Nat.{mod-lt}
 use native.Mathlib.Omega.{arith}
 use Rattle.model.specs.Image.{bankSize}
 use Rattle.marklist.proofs.Pages.{part-whole}
-use Rattle.marklist.proofs.Reading.{list-headed, below-base, past-end, at-offset}
+use Rattle.marklist.proofs.Reading.{reset-past, list-headed, below-base, past-end, at-offset}
 use borrow.Author.Needs.{needs}
 use Rattle.marklist.proofs.reader.reset_shown.Statement.{statement}
 use Rattle.marklist.proofs.reader.reset_shown.Tie as tie
 
 returns : tie.Need-returns
-returns c =
-    let start = c .before .before .before .before in
-    below-base (start .args .h) (start .args .text .now) (c .before .in-bank-of .result)
-    (c .before .in-bank-of .ensures) (c .if1 .taken)
+returns c = reset-past (c .before .before .before .args .h) (c .before .before .before .args .text .now) (c .if1 .taken)
 
 returns-2 : tie.Need-returns-2
 returns-2 c =
-    let start = c .before .before .before .before .before .before in
-    past-end (start .args .h) (start .args .text .now) (c .before .before .before .in-bank-of .result)
-    (c .before .before .before .in-bank-of .ensures) (c .before .before .if1 .left) (rw (length-marks-of
-    (start .args .h) (start .args .text .now)) (c .if2 .taken))
+    let args = c .before .before .before .before .before .before .args in
+    below-base (args .h) (args .text .now) (c .before .before .before .if1 .left)
+    (c .before .before .in-bank-of .result) (c .before .before .in-bank-of .ensures)
+    (c .if2 .taken)
+
+returns-3 : tie.Need-returns-3
+returns-3 c =
+    let args = c .before .before .before .before .before .before .before .before .before .args in
+    past-end (args .h) (args .text .now) (c .before .before .before .before .before .before .if1 .left)
+    (c .before .before .before .before .before .in-bank-of .result)
+    (c .before .before .before .before .before .in-bank-of .ensures)
+    (c .before .before .before .if2 .left) (rw (length-marks-of (args .h) (args .text .now)) (c .if3 .taken))
 
 lines-end-requires : tie.Need-lines-end-requires
 lines-end-requires c κs =
-    let start = c .before .before .before .before .before .before .before .before in
+    let start = c .before .before .before .before .before .before .before .before .before .before .before in
     let known = list-headed (start .args .h) (start .args .text .now) (start .pre) in (
       rw (c .header-size .ensures) (known .inside),
       omega (
         arith,
         known .few,
-        c .before .before .if2 .left,
+        c .before .before .if3 .left,
         c .before .low .ensures,
         mod-lt (start .args .h .base) {m = bankSize} (omega arith),
       ),
     )
 
-returns-3 : tie.Need-returns-3
-returns-3 c =
-    let start = c .before .before .before .before .before .before .before .before .before .before .before in
-    at-offset (start .args .h) (start .args .text .now)
-    (c .before .before .before .before .before .before .before .before .in-bank-of .result)
-    (c .before .before .before .before .before .before .before .before .in-bank-of .ensures)
+returns-4 : tie.Need-returns-4
+returns-4 c =
+    let args = c .before .before .before .before .before .before .before .before .before .before .before .before
+    .before .before .args in
+    at-offset (args .h) (args .text .now) (c .before .before .before .before .before .before .before .before .before
+    .before .before .if1 .left) (c .before .before .before .before .before .before .before .before .before .before
+    .in-bank-of .result) (c .before .before .before .before .before .before .before .before .before .before
+    .in-bank-of .ensures)
     (c .before .before .before .before .low .result) (c .before .before .lines-end .result) (c .mark-shown .result)
-    (c .before .before .before .before .before .before .before .if1 .left)
-    (c .before .before .before .before .before .if2 .left) (c .before .before .before .before .low .ensures) (rw (←
-    c .before .before .before .header-size .ensures) (c .before .before .lines-end .ensures .1))
-    (rw (part-whole (c .before .before .lines-end .result) (start .args .text .now)) at (c .mark-shown .ensures))
+    (c .before .before .before .before .before .before .before .before .if2 .left)
+    (c .before .before .before .before .before .if3 .left)
+    (c .before .before .before .before .low .ensures)
+    (rw (← c .before .before .before .header-size .ensures) (c .before .before .lines-end .ensures .1))
+    (rw (part-whole (c .before .before .lines-end .result) (args .text .now)) at (c .mark-shown .ensures))
 
 pub reset-shown-spec : {M : Type 1} → statement M
 reset-shown-spec =
-    tie.close (tie.spec (λ c. search needs) (λ c κs. search needs) returns (λ c. search needs) returns-2 (λ c κs.
-    search needs) (λ c. search needs) (λ c. search needs) (λ c κs. search needs) lines-end-requires (λ c. search
-    needs) (λ c. search needs) (λ c. search needs) (λ c. search needs) (λ c κs. search needs) returns-3)
+    tie.close (tie.spec returns (λ c κs. search needs) returns-2 returns-3 (λ c κs. search needs) (λ c. search needs)
+    (λ c κs. search needs)
+    lines-end-requires (λ c. search needs) (λ c. search needs) (λ c. search needs) (λ c. search needs)
+    (λ c κs. search needs) returns-4)

@@ -20,8 +20,8 @@ returns c =
     .core-of .result) (c .before .before .before .before .before .before .before .calls-of .result) (c .before
     .before .before .before .before .before .before .before .before .core-of .ensures) (c .before .before .before
     .before .before .before .before .calls-of .ensures) (c .before .before .before .before .before .fits2
-    .result) (c .before .before .before .before .before .fits2 .ensures) (c .before .before .before .admission-by
-    .result) (c .before .before .before .admission-by .ensures) _ (c .before .admission .given .1)) in (
+    .result) (c .before .before .before .before .before .fits2 .ensures) (c .before .before .before .test-run
+    .result) (c .before .before .before .test-run .ensures) _ (c .before .tested .given .1)) in (
       ap (λ r.
           r .answer) e,
       (ap (λ r. r .state) e, ap (λ r. r .ram) e),
@@ -33,7 +33,7 @@ run-in-requires c κs =
     .before .before .before .before .before .before .before in
     let b = admitted (memory (start .args .ram .now) (start .args .image .now) (start .args .base)) (c .before
     .before .before .before .before .before .before .before .before .before .fits2 .result) (start .args .asked)
-    (sym (c .before .before .before .before .before .before .before .before .admission-by .ensures) ∙ c .before
+    (sym (c .before .before .before .before .before .before .before .before .test-run .ensures) ∙ c .before
     .before .before .before .before .before .enum-told .given .1) in let taken = sym (c .before .before .before
     .before .before .before .before .before .before .before .fits2 .ensures) ∙ b .taken in (
       c .before .before
@@ -55,7 +55,7 @@ put-state-requires c κs =
     let b = admitted (memory (start .args .ram .now) (start .args .image .now) (start .args .base)) (c .before
     .before .before .before .before .before .before .before .before .before .before .before .before .before .before
     .before .fits2 .result) (start .args .asked) (sym (c .before .before .before .before .before .before .before
-    .before .before .before .before .before .before .before .admission-by .ensures) ∙ c .before .before .before
+    .before .before .before .before .before .before .before .test-run .ensures) ∙ c .before .before .before
     .before .before .before .before .before .before .before .before .before .enum-told .given .1) in let taken = sym
     (c .before .before .before .before .before .before .before .before .before .before .before .before .before
     .before .before .before .fits2 .ensures) ∙ b .taken in long (length (start .args .bytes .now)) (c .before
@@ -82,8 +82,8 @@ returns-2 c =
     .result) (c .before .before .before .before .before .before .before .before .before .before .before .before
     .before .before .before .before .before .before .before .fits2 .ensures) (c .before .before .before .before
     .before .before .before .before .before .before .before .before .before .before .before .before .before
-    .admission-by .result) (c .before .before .before .before .before .before .before .before .before .before
-    .before .before .before .before .before .before .before .admission-by .ensures) (c .before .before .before
+    .test-run .result) (c .before .before .before .before .before .before .before .before .before .before
+    .before .before .before .before .before .before .before .test-run .ensures) (c .before .before .before
     .before .before .before .before .before .before .before .before .before .before .before .before .enum-told
     .given .1) _ (c .before .before .before .before .before .before .before .before .run-in .ensures)) in (
       ap (λ r.

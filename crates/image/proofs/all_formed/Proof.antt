@@ -4,13 +4,13 @@ use Prim.Native.Nat.{_-_, _≤_}
 use native.Mathlib.Omega.{arith}
 use lib.ListN.{length, getD}
 use borrow.Author.Needs.{needs}
-use Rattle.checker.proofs.Forms.{Told, nothing-told, one-more-told, all-told-at, misfit-unformed}
+use Rattle.image.proofs.Forms.{Told, nothing-told, one-more-told, all-told-at, misfit-unformed}
 use Rattle.model.specs.Verdict as spec
 use Rattle.model.specs.Verdict.{badMark}
 use Rattle.model.specs.Image.{isFormed}
 use mathlib.Core.Path.{_∙_}
-use Rattle.checker.proofs.all_formed.Statement.{statement}
-use Rattle.checker.proofs.all_formed.Tie as tie
+use Rattle.image.proofs.all_formed.Statement.{statement}
+use Rattle.image.proofs.all_formed.Tie as tie
 
 abbrev Inv-loop : tie.InvT-loop
 Inv-loop marks bad₀ i₀ bad i = Told (spec.unformedAt marks) bad i × (i ≤ length marks)

@@ -1,0 +1,112 @@
+-- Tests in an order: all hold, or there is a first that fails, and it gives the refusal. This is read off the
+-- definition once, for tests of any number; for the tests of a call `Says` computes to what each of them shows.
+-- Assumes nothing.
+use mathlib.Core.Path.{_≡_, refl, sym, _∙_}
+use mathlib.Core.Logic.{_⊎_, inl, inr}
+use mathlib.Core.Bool.{Bool, true, false, not}
+use mathlib.Core.List.{[], _∷_, _++_}
+use Prim.Native.Nat.{ℕ, _<_}
+use native.Mathlib.Omega.{arith}
+use borrow.Author.Tests.{not-true, not-false}
+use Rattle.model.specs.declared.refusals.Refusal.{Refusal}
+use Rattle.model.specs.declared.refusals.Refusal.the-variants as refusal
+use Rattle.model.specs.declared.refusals.TestResult.{TestResult}
+use Rattle.model.specs.declared.refusals.TestResult.the-variants.{Passed, Failed}
+use Rattle.model.specs.Refusals.{refusalNumber, Tests, firstRefusal, isFailed, answered}
+
+pub failed-passed : {why : Refusal} → Failed why ≡ Passed → ⊥
+failed-passed e = let z : _≡_ {A = ℕ} 0 1 = cc in absurd (omega arith)
+
+-- ---- what a result says
+
+abbrev pub AllHold : Tests → Type 0
+AllHold [] = Unit {0}
+AllHold (test ∷ rest) = (test .0 ≡ true) × AllHold rest
+
+abbrev pub FirstFails : Refusal → Tests → Type 0
+FirstFails why [] = ⊥
+FirstFails why (test ∷ rest) = ((test .0 ≡ false) × (test .1 ≡ why)) ⊎ ((test .0 ≡ true) × FirstFails why rest)
+
+abbrev pub Says : Tests → TestResult → Type 0
+Says tests Passed = AllHold tests
+Says tests (Failed why) = FirstFails why tests
+
+one-held : (why : Refusal) (rest : Tests) (so : TestResult) → Says rest so → Says ((true, why) ∷ rest) so
+one-held why rest Passed s = (refl, s)
+one-held why rest (Failed other) s = inr (refl, s)
+
+says : (tests : Tests) → Says tests (firstRefusal tests)
+unfolding firstRefusal
+says [] = tt
+says ((true, why) ∷ rest) = one-held why rest (firstRefusal rest) (says rest)
+says ((false, why) ∷ rest) = inl (refl, refl)
+
+pub shown : {so : TestResult} (tests : Tests) → firstRefusal tests ≡ so → Says tests so
+shown tests e = rw e at (says tests)
+
+pub none-fails : (tests : Tests) → AllHold tests → firstRefusal tests ≡ Passed
+unfolding firstRefusal
+none-fails [] h = refl
+none-fails (test ∷ rest) h = rw (h .0) (none-fails rest (h .1))
+
+-- ---- tests made one after another, each by a function that gives what the definition gives
+
+pub passes : Passed ≡ firstRefusal []
+unfolding firstRefusal
+passes = refl
+
+pub fails : {given test : Bool} (why : Refusal) (rest : Tests) → given ≡ test → not given ≡ true
+    → Failed why ≡ firstRefusal ((test, why) ∷ rest)
+unfolding firstRefusal
+fails {given} why rest e failed = rw (← e, not-true given failed)
+
+pub holds : {given test : Bool} {so : TestResult} (why : Refusal) (rest : Tests) → given ≡ test → not given ≡ false
+    → so ≡ firstRefusal rest → so ≡ firstRefusal ((test, why) ∷ rest)
+unfolding firstRefusal
+holds {given} why rest e held more = rw (← e, not-false given held) more
+
+-- where tests that were made before refuse, that stays; else the others decide
+pub ends : {so : TestResult} {why : Refusal} (tests more : Tests) → so ≡ firstRefusal tests → so ≡ Failed why
+    → so ≡ firstRefusal (tests ++ more)
+unfolding firstRefusal
+ends [] more e f = absurd (failed-passed (sym f ∙ e))
+ends ((true, why) ∷ rest) more e f = ends rest more e f
+ends ((false, why) ∷ rest) more e f = e
+
+pub goes-on : {before so : TestResult} (tests more : Tests) → before ≡ firstRefusal tests → before ≡ Passed
+    → so ≡ firstRefusal more → so ≡ firstRefusal (tests ++ more)
+unfolding firstRefusal
+goes-on [] more e p m = m
+goes-on ((true, why) ∷ rest) more e p m = goes-on rest more e p m
+goes-on ((false, why) ∷ rest) more e p m = absurd (failed-passed (sym e ∙ p))
+
+-- ---- answers
+
+pub not-failed : (so : TestResult) → isFailed so ≡ false → so ≡ Passed
+not-failed Passed e = refl
+not-failed (Failed why) e = let z : _≡_ {A = ℕ} 0 1 = cc in absurd (omega arith)
+
+-- an answer that is no refusal was given because all passed
+pub all-passed : {A : Type 0} {a done : A} (so : TestResult) (refused : Refusal → A)
+    → ((why : Refusal) → refused why ≡ a → ⊥)
+    → answered so refused done ≡ a → (so ≡ Passed) × (done ≡ a)
+all-passed Passed refused never e = (refl, e)
+all-passed (Failed why) refused never e = absurd (never why e)
+
+-- a refusal's number is one of a byte, and not 0
+pub refusal-range : (why : Refusal) → (0 < refusalNumber why) × (refusalNumber why < 256)
+refusal-range refusal.Length = omega arith
+refusal-range refusal.Base = omega arith
+refusal-range refusal.Reset = omega arith
+refusal-range refusal.Mark = omega arith
+refusal-range refusal.Code = omega arith
+refusal-range refusal.CutOff = omega arith
+refusal-range refusal.Overlap = omega arith
+refusal-range refusal.Flow = omega arith
+refusal-range refusal.Widths = omega arith
+refusal-range refusal.Return = omega arith
+refusal-range refusal.Ram = omega arith
+refusal-range refusal.State = omega arith
+refusal-range refusal.Steps = omega arith
+refusal-range refusal.List = omega arith
+refusal-range refusal.Page = omega arith
