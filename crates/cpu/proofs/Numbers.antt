@@ -8,7 +8,7 @@ use native.Mathlib.Omega.{arith}
 use lib.Dec.{eqb}
 use Rattle.model.specs.declared.machine.Status.{Status}
 use Rattle.model.specs.AnyWidth.{low, isNegative}
-use Rattle.model.specs.Arithmetic.{withCarry, withDisable, withOverflow, withWidths, withResult}
+use Rattle.model.specs.Arithmetic.{withCarry, withOverflow, withWidths, withResult}
 use Rattle.model.specs.Status.{bit, isSet, statusOf, numberOf}
 use Rattle.model.proofs.Status.{status-number, number-status}
 
@@ -29,10 +29,6 @@ changed n r s h = rw same (number-status s)
 
 pub carry-changed : (flag : Bool) (n : ℕ) → statusOf (n - n / 1 % 2 * 1 + 1 * bit flag) ≡ withCarry flag (statusOf n)
 carry-changed flag n = changed n _ (withCarry flag (statusOf n)) (omega (arith, bit-of 1 n))
-
-pub disable-changed : (flag : Bool) (n : ℕ)
-    → statusOf (n - n / 4 % 2 * 4 + 4 * bit flag) ≡ withDisable flag (statusOf n)
-disable-changed flag n = changed n _ (withDisable flag (statusOf n)) (omega (arith, bit-of 4 n))
 
 pub overflow-changed : (flag : Bool) (n : ℕ)
     → statusOf (n - n / 64 % 2 * 64 + 64 * bit flag) ≡ withOverflow flag (statusOf n)

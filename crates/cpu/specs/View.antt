@@ -2,8 +2,10 @@
 -- Assumes nothing.
 use Prim.Native.Nat.{ℕ, _<_}
 use mathlib.Core.Bool.{Bool}
+use Rattle.cpu.specs.declared.arithmetic.Worked.{Worked as KeptWork}
 use Rattle.cpu.specs.declared.effects.Effect.{Effect as Kept}
 use Rattle.cpu.specs.File.{put, fileSize}
+use Rattle.cpu.specs.Rows.{Worked, worked}
 use Rattle.memory.specs.Listed.{listed}
 use Rattle.memory.specs.declared.stores.Stores.{Stores}
 use Rattle.model.specs.declared.machine.Registers.{Registers}
@@ -30,3 +32,7 @@ abbrev pub viewed : Kept → Registers → Effect
 viewed e r =
     effect (withStatus (statusOf (e .status)) (put (e .second) (e .other) (put (e .first) (e .value) r)))
     (listed (e .stores)) (e .taken)
+
+-- what was worked out, its status by its number
+abbrev pub seen : KeptWork → Worked
+seen w = worked (w .value) (statusOf (w .status))

@@ -1,12 +1,16 @@
 // What operations do with data and a register of the file, over the width of the data.
+use crate::data::bit_of;
 use crate::data::difference;
 use crate::data::difference_overflows;
+use crate::data::half;
 use crate::data::is_past;
 use crate::data::low;
 use crate::data::merged;
 use crate::data::rotated;
+use crate::data::size;
 use crate::data::sum;
 use crate::data::sum_overflows;
+use crate::data::top_bit;
 use crate::data::wide;
 use crate::effects::Effect;
 use crate::effects::bytes;
@@ -14,6 +18,7 @@ use crate::effects::leaves;
 use crate::effects::pulled_at;
 use crate::effects::puts;
 use crate::effects::puts_both;
+use crate::effects::residence_of;
 use crate::effects::stores_to;
 use crate::file::A;
 use crate::file::B;
@@ -24,16 +29,17 @@ use crate::flags::is_set;
 use crate::flags::with_carry;
 use crate::flags::with_overflow;
 use crate::flags::with_result;
+use model::code::Mode;
+use model::machine::Data;
 use model::machine::Residence;
 use model::machine::Status;
 ghost use mathlib.Core.Path.{_≡_};
-ghost use Prim.Native.Nat.{_<_};
-ghost use Rattle.model.specs.Addressing.{bits};
-ghost use Rattle.model.specs.Arithmetic as arithmetic;
+ghost use Prim.Native.Nat.{_≤_, _<_};
+ghost use Rattle.model.specs.Addressing.{bits, residenceOf};
 ghost use Rattle.model.specs.Status.{statusOf};
 ghost use Rattle.cpu.specs.File.{registersOf, fileSize};
 ghost use Rattle.cpu.specs.Rows as rows;
-ghost use Rattle.cpu.specs.View.{viewed, Placed};
+ghost use Rattle.cpu.specs.View.{viewed, Placed, seen};
 
 // A register gets data, and N and Z with it.
 pub fn loads(to: usize, short: bool, v: u64, status: u16, registers: &[u16; FILE_SIZE]) -> Effect
@@ -50,54 +56,110 @@ pub fn loads(to: usize, short: bool, v: u64, status: u16, registers: &[u16; FILE
     )
 }
 
-// The status after a sum.
-fn sum_status(short: bool, a: u16, v: u16, status: u16) -> u16
-    ensures { λ r. ⌜ statusOf r ≡ arithmetic.sumStatus (bits short) a v (statusOf status) ⌝ }
-{
-    let carry = is_set(Status::C, status);
-    let carried = with_carry(is_past(short, sum(a, v, carry)), status);
-    with_overflow(sum_overflows(short, a, v, carry), carried)
-}
-
-// The status after a difference.
-fn difference_status(short: bool, a: u16, v: u16, status: u16) -> u16
-    ensures { λ r. ⌜ statusOf r ≡ arithmetic.differenceStatus (bits short) a v (statusOf status) ⌝ }
-{
-    let carry = is_set(Status::C, status);
-    let carried = with_carry(is_past(short, difference(short, a, v, carry)), status);
-    with_overflow(difference_overflows(short, a, v, carry), carried)
+// What an operation works out: data, of any size, and the status.
+pub struct Worked {
+    pub value: u64,
+    pub status: u16,
 }
 
 // ADC
-pub fn adds(to: usize, short: bool, v: u16, registers: &[u16; FILE_SIZE]) -> Effect
-    requires { ⌜ to < fileSize ⌝ }
-    ensures { λ r. ⌜
-        (viewed r (registersOf (now (registers .entry))) ≡ rows.adding (now (registers .entry)) to short v) × Placed r
-        ⌝ }
+fn added(short: bool, a: u16, v: u16, status: u16) -> Worked
+    ensures { λ r. ⌜ seen r ≡ rows.added (bits short) a v (statusOf status) ⌝ }
 {
-    let status = registers[PS];
-    let a = low(short, wide(registers[to]));
-    let total = sum(a, v, is_set(Status::C, status));
-    loads(to, short, total, sum_status(short, a, v, status), registers)
+    let carry = is_set(Status::C, status);
+    let value = sum(a, v, carry);
+    let carried = with_carry(is_past(short, value), status);
+    Worked {
+        value,
+        status: with_overflow(sum_overflows(short, a, v, carry), carried),
+    }
 }
 
 // SBC
-pub fn subtracts(to: usize, short: bool, v: u16, registers: &[u16; FILE_SIZE]) -> Effect
+fn subtracted(short: bool, a: u16, v: u16, status: u16) -> Worked
+    ensures { λ r. ⌜ seen r ≡ rows.subtracted (bits short) a v (statusOf status) ⌝ }
+{
+    let carry = is_set(Status::C, status);
+    let value = difference(short, a, v, carry);
+    let carried = with_carry(is_past(short, value), status);
+    Worked {
+        value,
+        status: with_overflow(difference_overflows(short, a, v, carry), carried),
+    }
+}
+
+// ADC, SBC, AND, ORA, EOR, in the order of their numbers.
+fn combined(which: usize, short: bool, a: u16, v: u16, status: u16) -> Worked
+    ensures { λ r. ⌜ seen r ≡ rows.combined which (bits short) a v (statusOf status) ⌝ }
+{
+    match which {
+        1 => subtracted(short, a, v, status),
+        2 => Worked {
+            value: wide(a & v),
+            status,
+        },
+        3 => Worked {
+            value: wide(a | v),
+            status,
+        },
+        4 => Worked {
+            value: wide(a ^ v),
+            status,
+        },
+        _ => added(short, a, v, status),
+    }
+}
+
+// ASL, LSR, ROL, ROR, INC, DEC, in the order of their numbers.
+fn modified(which: usize, short: bool, v: u64, status: u16) -> Worked
+    requires { ⌜ v ≤ 65_535 ⌝ }
+    ensures { λ r. ⌜ seen r ≡ rows.modified which (bits short) v (statusOf status) ⌝ }
+{
+    match which {
+        1 => Worked {
+            value: v / 2,
+            status: with_carry(v % 2 == 1, status),
+        },
+        2 => Worked {
+            value: 2 * v + bit_of(is_set(Status::C, status)),
+            status: with_carry(half(short) <= v, status),
+        },
+        3 => Worked {
+            value: v / 2 + top_bit(short, is_set(Status::C, status)),
+            status: with_carry(v % 2 == 1, status),
+        },
+        4 => Worked {
+            value: v + 1,
+            status,
+        },
+        5 => Worked {
+            value: v + size(short) - 1,
+            status,
+        },
+        _ => Worked {
+            value: 2 * v,
+            status: with_carry(half(short) <= v, status),
+        },
+    }
+}
+
+// A register and data, combined into the register.
+pub fn combines(
+    which: usize,
+    to: usize,
+    short: bool,
+    v: u16,
+    registers: &[u16; FILE_SIZE],
+) -> Effect
     requires { ⌜ to < fileSize ⌝ }
     ensures { λ r. ⌜
-        (viewed r (registersOf (now (registers .entry))) ≡ rows.subtracting (now (registers .entry)) to short v) × Placed r
+        (viewed r (registersOf (now (registers .entry))) ≡ rows.combining (now (registers .entry)) to short which v)
+        × Placed r
         ⌝ }
 {
-    let status = registers[PS];
     let a = low(short, wide(registers[to]));
-    let rest = difference(short, a, v, is_set(Status::C, status));
-    loads(
-        to,
-        short,
-        rest,
-        difference_status(short, a, v, status),
-        registers,
-    )
+    let done = combined(which, short, a, v, registers[PS]);
+    loads(to, short, done.value, done.status, registers)
 }
 
 // CMP, CPX, CPY
@@ -153,32 +215,33 @@ pub fn pulls(to: usize, short: bool, v: u16, status: u16, registers: &[u16; FILE
     puts_both(to, v, S, pulled_at(registers[S], bytes(short)), status)
 }
 
-// A result goes where the data came from.
+// Data, modified where it came from.
 pub fn modifies(
-    residence: Residence,
+    which: usize,
+    mode: Mode,
     to: usize,
     short: bool,
-    address: u32,
-    carry: bool,
-    v: u64,
+    given: Data,
     registers: &[u16; FILE_SIZE],
 ) -> Effect
     requires { ⌜ to < fileSize ⌝ }
     ensures { λ r. ⌜
         (viewed r (registersOf (now (registers .entry)))
-        ≡ rows.modifying (now (registers .entry)) to short residence address carry v)
+        ≡ rows.modifying (now (registers .entry)) to short (residenceOf mode) (given .address)
+        (rows.modified which (bits short) (given .value) (rows.status (now (registers .entry)))))
         × Placed r
         ⌝ }
 {
-    let carried = with_carry(carry, registers[PS]);
+    let done = modified(which, short, wide(given.value), registers[PS]);
+    let residence = residence_of(mode);
     match residence {
         Residence::Memory => stores_to(
             short,
-            address,
-            low(short, v) as u64,
-            with_result(short, v, carried),
+            given.address,
+            wide(low(short, done.value)),
+            with_result(short, done.value, done.status),
         ),
-        Residence::Instruction => loads(to, short, v, carried, registers),
-        Residence::Register => loads(to, short, v, carried, registers),
+        Residence::Instruction => loads(to, short, done.value, done.status, registers),
+        Residence::Register => loads(to, short, done.value, done.status, registers),
     }
 }

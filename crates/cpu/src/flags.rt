@@ -4,8 +4,7 @@ use crate::data::half;
 use crate::data::low;
 use model::machine::Status;
 ghost use mathlib.Core.Path.{_≡_};
-ghost use Prim.Native.Nat.{_≤_, _<_};
-ghost use mathlib.Core.Bool.{not, _&&_, _||_};
+ghost use Prim.Native.Nat.{_^_, _≤_, _<_};
 ghost use lib.Dec.{eqb};
 ghost use Rattle.model.specs.Addressing.{bits};
 ghost use Rattle.model.specs.Arithmetic as spec;
@@ -30,12 +29,6 @@ pub fn with_carry(flag: bool, status: u16) -> u16
     ensures { λ r. ⌜ statusOf r ≡ spec.withCarry flag (statusOf status) ⌝ }
 {
     status - status / Status::C % 2 * Status::C + Status::C * bit_of(flag) as u16
-}
-
-pub fn with_disable(flag: bool, status: u16) -> u16
-    ensures { λ r. ⌜ statusOf r ≡ spec.withDisable flag (statusOf status) ⌝ }
-{
-    status - status / Status::I % 2 * Status::I + Status::I * bit_of(flag) as u16
 }
 
 pub fn with_overflow(flag: bool, status: u16) -> u16
@@ -64,48 +57,27 @@ pub fn with_result(short: bool, v: u64, status: u16) -> u16
         + negative
 }
 
-fn either(a: bool, b: bool) -> bool
-    ensures { λ r. ⌜ r ≡ (a || b) ⌝ }
-{
-    if a {
-        return true;
-    }
-    b
-}
-
-fn without(a: bool, b: bool) -> bool
-    ensures { λ r. ⌜ r ≡ (not a && b) ⌝ }
-{
-    if a {
-        return false;
-    }
-    b
-}
+// The flags that a mask may change: m and x are the width effect's.
+const CHANGED: u16 = 207;
 
 // SEP: the flags that a mask names are set.
 pub fn with_flags_set(mask: u16, status: u16) -> u16
     ensures { λ r. ⌜ statusOf r ≡ spec.withFlagsSet mask (statusOf status) ⌝ }
 {
-    let mut changed = Status::from_number(status);
-    changed.carry = either(is_set(Status::C, mask), changed.carry);
-    changed.zero = either(is_set(Status::Z, mask), changed.zero);
-    changed.disable = either(is_set(Status::I, mask), changed.disable);
-    changed.decimal = either(is_set(Status::D, mask), changed.decimal);
-    changed.overflow = either(is_set(Status::V, mask), changed.overflow);
-    changed.negative = either(is_set(Status::N, mask), changed.negative);
-    changed.number()
+    CHANGED & mask | status
 }
 
 // CLP: the flags that a mask names are cleared.
 pub fn with_flags_cleared(mask: u16, status: u16) -> u16
     ensures { λ r. ⌜ statusOf r ≡ spec.withFlagsCleared mask (statusOf status) ⌝ }
 {
-    let mut changed = Status::from_number(status);
-    changed.carry = without(is_set(Status::C, mask), changed.carry);
-    changed.zero = without(is_set(Status::Z, mask), changed.zero);
-    changed.disable = without(is_set(Status::I, mask), changed.disable);
-    changed.decimal = without(is_set(Status::D, mask), changed.decimal);
-    changed.overflow = without(is_set(Status::V, mask), changed.overflow);
-    changed.negative = without(is_set(Status::N, mask), changed.negative);
-    changed.number()
+    CHANGED & mask & status ^ status
+}
+
+// The flag at a place of the status.
+pub fn flag_at(place: usize, status: u16) -> bool
+    requires { ⌜ place < 8 ⌝ }
+    ensures { λ r. ⌜ r ≡ isSet (2 ^ place) status ⌝ }
+{
+    (status >> place) % 2 == 1
 }

@@ -113,5 +113,5 @@ pub extern "C" fn m7700_step(image: &[u8], base: u32, state: &mut [u8], ram: &mu
         ≡ ranBytes (memory (now (ram .entry)) (now (image .entry)) base) (now (state .entry)) 1 .ram
         ⌝ }
 {
-    m7700_run(image, base, state, ram, 1)
+    pack_run(run(image, base, state, ram, 1))
 }

@@ -5,8 +5,6 @@ use mathlib.Core.Bool.{Bool, true, false}
 use mathlib.Core.List.{List, []}
 use Prim.Native.Nat.{ℕ, _<_}
 use lib.ListN.{getD}
-use Rattle.actions.specs.Tasks.{taskOf, packed, unpackedTask}
-use Rattle.actions.proofs.Unpacked.{task-kept, access-kept}
 use Rattle.addressing.specs.declared.reach.DataRead.{DataRead}
 use Rattle.addressing.specs.declared.reach.DataRead.the-variants.{Found, Unmapped as NoData}
 use Rattle.addressing.specs.Found.{dataRead}
@@ -37,8 +35,8 @@ use Rattle.model.specs.Status.{maskM, maskX, isSet}
 use Rattle.model.specs.Step as spec
 use Rattle.model.specs.Step.{Plan, stops, changes, change, isDecimal, widthsAfter, operates}
 use Rattle.model.proofs.Step.{decimal-first}
-use Rattle.operations.specs.Works.{effectBy}
-use Rattle.operations.proofs.ByTask.{by-number}
+use Rattle.operations.specs.Tasks.{unpackedTask}
+use Rattle.operations.specs.Works.{effectBy, Does}
 use Rattle.machine.specs.declared.commit.Turn.{Turn}
 use Rattle.machine.specs.declared.fetch.Fetched.{Fetched}
 use Rattle.machine.specs.Fetches.{instruction}
@@ -74,14 +72,10 @@ module _ (i : Fetched) (m : Memory) (place depth : ℕ) (file : List ℕ) where
   entry = unpacked (i .number)
 
   module _ (goes : Bool → ℕ) (task : ℕ) (access : Access)
-      (is-task : task ≡ packed (taskOf (entry .accumulator) (entry .operation)))
+      (is-task : Does (entry .accumulator) (entry .operation) task)
       (is-access : access ≡ unpackedTask task .access) (decimal : Bool) (tested : decimal ≡ isDecimal access r) where
     asked-so : access ≡ accessOf (entry .operation)
-    asked-so =
-        is-access
-        ∙ ap (λ t. unpackedTask t .access) is-task
-        ∙ ap (λ t. t .access) (task-kept (entry .accumulator) (entry .operation))
-        ∙ access-kept (entry .accumulator) (entry .operation)
+    asked-so = is-access ∙ is-task .0
 
     is-tested : isDecimal (accessOf (entry .operation)) r ≡ decimal
     is-tested = ap (λ a. isDecimal a r) (sym asked-so) ∙ sym tested
@@ -130,8 +124,7 @@ module _ (i : Fetched) (m : Memory) (place depth : ℕ) (file : List ℕ) where
             (spec.next c (instruction i)) given r (entry .operation)
         effect-so =
             is-effect
-            ∙ ap (λ t. effectBy mode short (i .operand) next given file (unpackedTask t)) is-task
-            ∙ by-number mode short (i .operand) next given file (i .number)
+            ∙ is-task .1 mode short (i .operand) next given file
             ∙ rw (is-mode, short-so, next-so) refl
 
         works-so : changes (change (viewed e r .registers) to Keep (listed (e .stores)))

@@ -4,9 +4,6 @@ use crate::commit::finish;
 use crate::commit::put;
 use crate::commit::stopped;
 use crate::fetch::Fetched;
-use actions::TaskTable;
-use actions::access_of;
-use actions::task_at;
 use addressing::access::is_short;
 use addressing::reach::DataRead;
 use addressing::reach::data_of;
@@ -35,6 +32,9 @@ use model::machine::Served;
 use model::machine::Status;
 use model::machine::Stop;
 use operations::effect_by;
+use operations::table::TaskTable;
+use operations::table::access_of;
+use operations::table::task_at;
 use successors::kind_number;
 use successors::next_address;
 use successors::target_of;
@@ -42,7 +42,6 @@ ghost use mathlib.Core.Path.{_≡_};
 ghost use mathlib.Core.List.{List, []};
 ghost use Prim.Native.Nat.{ℕ, _≤_, _<_};
 ghost use lib.ListN.{length};
-ghost use Rattle.actions.specs.Tasks.{numbers};
 ghost use Rattle.cpu.specs.File.{registersOf, fileSize};
 ghost use Rattle.memory.specs.Listed.{listed};
 ghost use Rattle.model.specs.declared.machine.CallChange.the-variants.{Keep};
@@ -50,6 +49,7 @@ ghost use Rattle.model.specs.Image.{addressLimit};
 ghost use Rattle.model.specs.Memory.{Memory, memory};
 ghost use Rattle.model.specs.Rules.{targetAddress, kindNumber};
 ghost use Rattle.model.specs.Step as spec;
+ghost use Rattle.operations.specs.Works.{Tasked};
 ghost use Rattle.machine.specs.Fetches.{instruction, Bounded};
 ghost use Rattle.machine.specs.Turns.{coreOf, left, finished, goesBy};
 
@@ -100,7 +100,7 @@ pub fn operates(
     ram: &mut [u8],
 ) -> Turn
     requires { ⌜
-        (now tasks ≡ numbers) × (place < addressLimit) × Bounded i × (length (now registers) ≡ fileSize)
+        Tasked (now tasks) × (place < addressLimit) × Bounded i × (length (now registers) ≡ fileSize)
         ⌝ }
     ensures { λ r. ⌜
         ((calls : List ℕ) → left r (now (registers .exit)) calls (now (ram .exit))

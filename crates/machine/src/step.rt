@@ -8,7 +8,6 @@ use crate::flows::calls_to;
 use crate::flows::jumps;
 use crate::flows::operates;
 use crate::returning::returns;
-use actions::TaskTable;
 use codepages::CodePages;
 use cpu::file::FILE_SIZE;
 use cpu::file::PS;
@@ -17,16 +16,17 @@ use model::addresses::ADDRESS_LIMIT;
 use model::code::Flow;
 use model::machine::CALL_LIMIT;
 use model::machine::Stop;
+use operations::table::TaskTable;
 ghost use mathlib.Core.Path.{_≡_};
 ghost use Prim.Native.Nat.{_+_, _-_, _≤_, _<_};
 ghost use lib.ListN.{length, getD};
-ghost use Rattle.actions.specs.Tasks as table;
 ghost use Rattle.codepages.specs.Packing.{numbers};
 ghost use Rattle.cpu.specs.File.{fileSize};
 ghost use Rattle.model.specs.declared.code.Decoded.the-variants.{Whole};
 ghost use Rattle.model.specs.Image.{addressLimit, imageLimit};
 ghost use Rattle.model.specs.Memory.{memory};
 ghost use Rattle.model.specs.Step as spec;
+ghost use Rattle.operations.specs.Works.{Tasked};
 ghost use Rattle.machine.specs.Fetches.{instruction, Bounded, isBranch};
 ghost use Rattle.machine.specs.Turns.{state, coreOf, left};
 
@@ -67,7 +67,7 @@ fn perform(
     ram: &mut [u8],
 ) -> Turn
     requires { ⌜
-        (now tasks ≡ table.numbers) × (place < addressLimit) × Bounded i × (length (now registers) ≡ fileSize)
+        Tasked (now tasks) × (place < addressLimit) × Bounded i × (length (now registers) ≡ fileSize)
         × (depth ≤ spec.callLimit)
         ⌝ }
     ensures { λ r. ⌜
@@ -113,7 +113,7 @@ pub fn step_in(
     ram: &mut [u8],
 ) -> Turn
     requires { ⌜
-        (now codes ≡ numbers) × (now tasks ≡ table.numbers) × (base + length (now image) ≤ addressLimit)
+        (now codes ≡ numbers) × Tasked (now tasks) × (base + length (now image) ≤ addressLimit)
         × (length (now image) ≤ imageLimit) × (depth ≤ spec.callLimit) × (length (now registers) ≡ fileSize)
         ⌝ }
     ensures { λ r. ⌜

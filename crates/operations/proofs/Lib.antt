@@ -1,2 +1,2 @@
--- What the proofs of this crate share.
-pub mod ByTask
+-- That a table of tasks does what the operations do.
+pub mod Tables

@@ -1,42 +1,78 @@
--- What each action does: the operations of model/specs/Effects.antt, those that differ in their registers alone in one line.
+-- What each action does: the operations of model/specs/Effects.antt, those that differ in a register or a value alone
+-- in one line. That a table of tasks is right is said by them: each task does what its operation does.
 -- Assumes nothing.
-use Prim.Native.Nat.{ℕ, _+_, _/_, _%_}
-use mathlib.Core.Bool.{Bool, false, not}
-use mathlib.Core.List.{List}
-use lib.Bits.{bitAnd, bitOr, bitXor}
-use lib.Dec.{eqb}
+use Prim.Native.Nat.{ℕ, _+_, _/_, _%_, _^_}
+use mathlib.Core.Path.{_≡_}
+use mathlib.Core.Bool.{Bool, not}
+use mathlib.Core.List.{List, [], _∷_}
+use lib.Bits.{bitAnd, bitOr}
+use lib.Dec.{eqb, ltb}
 use lib.ListN.{getD}
-use Rattle.actions.specs.declared.Action.{Action}
-use Rattle.actions.specs.declared.Action.the-variants.{Leave, Add, And, ShiftLeft, BranchBitsClear, BranchBitsSet, BranchCarry, BranchZero}
-use Rattle.actions.specs.declared.Action.the-variants.{BranchNegative, BranchOverflow, ClearBits, SetCarry, SetDisable, ClearFlags, SetOverflow, Compare}
-use Rattle.actions.specs.declared.Action.the-variants.{Decrement, CountDown, ExclusiveOr, Increment, CountUp, Load, StoreImmediate, LoadBank}
-use Rattle.actions.specs.declared.Action.the-variants.{ShiftRight, Or, PushOperand, PushData, PushRelative, Push, PushProgramBank, PushStatus}
-use Rattle.actions.specs.declared.Action.the-variants.{PushDataBank, Pull, PullPage, PullBank, Rotate, RotateLeft, RotateRight, Subtract}
-use Rattle.actions.specs.declared.Action.the-variants.{SetBits, SetFlags, Store, Move, Transfer, Swap}
-use Rattle.actions.specs.Tasks.{Task}
+use Rattle.model.specs.declared.code.Accumulator.{Accumulator}
 use Rattle.model.specs.declared.code.Mode.{Mode}
+use Rattle.model.specs.declared.code.Operation.{Operation}
 use Rattle.model.specs.declared.machine.Data.{Data}
+use Rattle.model.specs.declared.machine.Status.{Status}
+use Rattle.model.specs.AnyWidth.{merged, decremented, clearedBy}
+use Rattle.model.specs.Addressing.{bits, accessOf, residenceOf}
+use Rattle.model.specs.Arithmetic.{withResult, withFlagsSet, withFlagsCleared}
 use Rattle.model.specs.Choice.{pick}
-use Rattle.model.specs.AnyWidth.{merged, isNegative, decremented, clearedBy, shiftedLeft, shiftedRight, isOdd}
-use Rattle.model.specs.Addressing.{bits, residenceOf}
-use Rattle.model.specs.Arithmetic.{withCarry, withDisable, withOverflow, withResult, withFlagsSet, withFlagsCleared}
-use Rattle.model.specs.Effects.{Effect, only, pushes, behindAddress}
+use Rattle.model.specs.Effects.{Effect, effectOf, pushes, behindAddress}
 use Rattle.model.specs.Image.{bankSize}
-use Rattle.model.specs.Status.{maskC, maskZ, maskV, maskN, isSet}
+use Rattle.model.specs.Status.{numberOf, isSet}
+use Rattle.codepages.specs.Packing.{unpacked}
 use Rattle.cpu.specs.File.{registersOf}
-use Rattle.cpu.specs.Rows.{status, lowOld, putting, leaving, loading, adding, subtracting, comparing, rotating, modifying}
+use Rattle.cpu.specs.Rows.{status, putting, leaving, loading, combining, comparing, rotating, modified, modifying}
 use Rattle.cpu.specs.Rows.{pulling, swapping, storing, branching}
+use Rattle.operations.specs.declared.table.Action.{Action}
+use Rattle.operations.specs.declared.table.Action.the-variants.{Add, And, Branch}
+use Rattle.operations.specs.declared.table.Action.the-variants.{BranchBits, ChangeBits, ChangeFlags}
+use Rattle.operations.specs.declared.table.Action.the-variants.{Compare, Count, ExclusiveOr, Leave, Load, Modify}
+use Rattle.operations.specs.declared.table.Action.the-variants.{Move, Or, Pull, PullWhole}
+use Rattle.operations.specs.declared.table.Action.the-variants.{Push, Rotate, Store, Subtract}
+use Rattle.operations.specs.declared.table.Action.the-variants.{Swap}
+use Rattle.operations.specs.Tasks.{Task, unpackedTask}
 
--- a flag is as a branch wants it
-abbrev pub matches : ℕ → Bool → Bool
-matches wanted flag = pick (eqb wanted 1) flag (not flag)
+-- what is loaded or moved: the data, or, by choices from 16 on, a register
+abbrev pub wordOf : ℕ → List ℕ → ℕ → ℕ
+wordOf v file choice = pick (ltb choice 16) v (getD file (choice % 8) 0)
+
+-- what is stored or pushed: one of these by choices from 1 on, or that
+abbrev pub others : Mode → Bool → ℕ → ℕ → List ℕ → List ℕ
+others mode short operand next file =
+    operand ∷ (next + operand) ∷ (next / bankSize) ∷ behindAddress mode short operand ∷ registersOf file .dt ∷
+    numberOf (status file) ∷ []
+
+abbrev pub valueOf : Mode → Bool → ℕ → ℕ → ℕ → List ℕ → ℕ → ℕ
+valueOf mode short operand next v file choice =
+    getD (wordOf v file choice ∷ others mode short operand next file) choice (wordOf v file choice)
+
+-- the flags that are changed: those that the data names, C, I or V
+abbrev pub maskOf : ℕ → ℕ → ℕ
+maskOf v choice = getD (v ∷ 1 ∷ 4 ∷ 64 ∷ []) choice v
+
+-- a number counted up or down by one
+abbrev pub counted : ℕ → Bool → ℕ → ℕ
+counted n down v = pick down (decremented n v) (v + 1)
+
+-- flags that a mask names, as they are wanted
+abbrev pub withFlags : Bool → ℕ → Status → Status
+withFlags wanted mask s = pick wanted (withFlagsSet mask s) (withFlagsCleared mask s)
+
+-- bits that a mask names, as they are wanted; those of them that are not so
+abbrev pub withBits : Bool → ℕ → ℕ → ℕ → ℕ
+withBits wanted n mask v = pick wanted (bitOr v mask) (clearedBy n mask v)
+
+abbrev pub otherBits : Bool → ℕ → ℕ → ℕ → ℕ
+otherBits wanted n mask v = pick wanted (clearedBy n v mask) (bitAnd v mask)
+
+-- a flag is as it is wanted
+abbrev pub isWanted : Bool → Bool → Bool
+isWanted wanted flag = pick wanted flag (not flag)
 
 module _ (mode : Mode) (short : Bool) (operand next : ℕ) (d : Data) (file : List ℕ) where
   abbrev v : ℕ
   v = d .value
-
-  abbrev address : ℕ
-  address = d .address
 
   abbrev n : ℕ
   n = bits short
@@ -44,62 +80,50 @@ module _ (mode : Mode) (short : Bool) (operand next : ℕ) (d : Data) (file : Li
   abbrev behind : ℕ
   behind = behindAddress mode short operand
 
-  abbrev carry : Bool
-  carry = isSet maskC (getD file 7 0)
-
-  abbrev modifies : ℕ → Bool → ℕ → Effect
-  modifies to flag result = modifying file to short (residenceOf mode) address flag result
-
-  abbrev branchesOn : ℕ → ℕ → Effect
-  branchesOn wanted mask = branching file (matches wanted (isSet mask (getD file 7 0)))
+  abbrev value : ℕ → ℕ
+  value = valueOf mode short operand next v file
 
   unfoldable pub byAction : Action → ℕ → ℕ → Effect
-  byAction Leave source to = only (registersOf file)
-  byAction Add source to = adding file to short v
-  byAction And source to = loading file to short (bitAnd (lowOld file to short) v) (status file)
-  byAction ShiftLeft source to = modifies to (isNegative n v) (shiftedLeft v false)
-  byAction BranchBitsClear source to = branching file (eqb (bitAnd v behind) 0)
-  byAction BranchBitsSet source to = branching file (eqb (clearedBy n v behind) 0)
-  byAction BranchCarry source to = branchesOn source maskC
-  byAction BranchZero source to = branchesOn source maskZ
-  byAction BranchNegative source to = branchesOn source maskN
-  byAction BranchOverflow source to = branchesOn source maskV
-  byAction ClearBits source to = storing file short address (clearedBy n behind v)
-  byAction SetCarry source to = leaving file (withCarry (eqb source 1) (status file))
-  byAction SetDisable source to = leaving file (withDisable (eqb source 1) (status file))
-  byAction ClearFlags source to = leaving file (withFlagsCleared v (status file))
-  byAction SetOverflow source to = leaving file (withOverflow (eqb source 1) (status file))
-  byAction Compare source to = comparing file source short v
-  byAction Decrement source to = modifies to carry (decremented n v)
-  byAction CountDown source to = loading file to short (decremented n (getD file to 0)) (status file)
-  byAction ExclusiveOr source to = loading file to short (bitXor (lowOld file to short) v) (status file)
-  byAction Increment source to = modifies to carry (v + 1)
-  byAction CountUp source to = loading file to short (getD file to 0 + 1) (status file)
-  byAction Load source to = loading file to short v (status file)
-  byAction StoreImmediate source to = storing file short address behind
-  byAction LoadBank source to = putting file 6 v (status file)
-  byAction ShiftRight source to = modifies to (isOdd v) (shiftedRight n v false)
-  byAction Or source to = loading file to short (bitOr (lowOld file to short) v) (status file)
-  byAction PushOperand source to = pushes short operand (registersOf file)
-  byAction PushData source to = pushes short v (registersOf file)
-  byAction PushRelative source to = pushes short (next + operand) (registersOf file)
-  byAction Push source to = pushes short (getD file source 0) (registersOf file)
-  byAction PushProgramBank source to = pushes short (next / bankSize) (registersOf file)
-  byAction PushStatus source to = pushes short (getD file 7 0) (registersOf file)
-  byAction PushDataBank source to = pushes short (getD file 6 0 % 256) (registersOf file)
-  byAction Pull source to = pulling file to short (merged n (getD file to 0) v) (withResult n v (status file))
-  byAction PullPage source to = pulling file 5 short v (status file)
-  byAction PullBank source to = pulling file 6 short v (withResult n v (status file))
-  byAction Rotate source to = rotating file to short v
-  byAction RotateLeft source to = modifies to (isNegative n v) (shiftedLeft v carry)
-  byAction RotateRight source to = modifies to (isOdd v) (shiftedRight n v carry)
-  byAction Subtract source to = subtracting file to short v
-  byAction SetBits source to = storing file short address (bitOr v behind)
-  byAction SetFlags source to = leaving file (withFlagsSet v (status file))
-  byAction Store source to = storing file short address (getD file source 0)
-  byAction Move source to = putting file to (getD file source 0) (status file)
-  byAction Transfer source to = loading file to short (getD file source 0) (status file)
-  byAction Swap source to = swapping file short
+  byAction Leave choice to = leaving file (status file)
+  byAction Load choice to = loading file to short (wordOf v file choice) (status file)
+  byAction Move choice to = putting file to (wordOf v file choice) (status file)
+  byAction Store choice to = storing file short (d .address) (value choice)
+  byAction Push choice to = pushes short (value choice) (registersOf file)
+  byAction Pull choice to = pulling file to short (merged n (getD file to 0) v) (withResult n v (status file))
+  byAction PullWhole choice to =
+      pulling file to short v (pick (eqb choice 1) (withResult n v (status file)) (status file))
+  byAction Add choice to = combining file to short 0 v
+  byAction Subtract choice to = combining file to short 1 v
+  byAction And choice to = combining file to short 2 v
+  byAction Or choice to = combining file to short 3 v
+  byAction ExclusiveOr choice to = combining file to short 4 v
+  byAction Compare choice to = comparing file to short v
+  byAction Count choice to = loading file to short (counted n (eqb choice 1) (getD file to 0)) (status file)
+  byAction Modify choice to =
+      modifying file to short (residenceOf mode) (d .address) (modified choice n v (status file))
+  byAction Rotate choice to = rotating file to short v
+  byAction Swap choice to = swapping file short
+  byAction ChangeBits choice to = storing file short (d .address) (withBits (eqb to 1) n behind v)
+  byAction ChangeFlags choice to = leaving file (withFlags (eqb to 1) (maskOf v choice) (status file))
+  byAction Branch choice to = branching file (isWanted (eqb to 1) (isSet (2 ^ (choice % 8)) (getD file 7 0)))
+  byAction BranchBits choice to = branching file (eqb (otherBits (eqb to 1) n behind v) 0)
 
   abbrev pub effectBy : Task → Effect
-  effectBy task = byAction (task .action) (task .source) (task .destination)
+  effectBy task = byAction (task .action) (task .choice) (task .destination)
+
+-- a task does what an operation does
+abbrev pub Does : Accumulator → Operation → ℕ → Type 0
+Does named operation n =
+    (unpackedTask n .access ≡ accessOf operation)
+    × ((mode : Mode) (short : Bool) (operand next : ℕ) (d : Data) (file : List ℕ)
+    → effectBy mode short operand next d file (unpackedTask n)
+    ≡ effectOf mode named short operand next d (registersOf file) operation)
+
+-- the place of an entry's task in its operation's row
+abbrev pub columnOf : ℕ → ℕ
+columnOf n = pick (eqb (n / 4096 % 4) 2) 1 0
+
+-- every entry's task in a table does what the entry's operation does
+unfoldable pub Tasked : List (List ℕ) → Type 0
+Tasked table =
+    (n : ℕ) → Does (unpacked n .accumulator) (unpacked n .operation) (getD (getD table (n % 128) []) (columnOf n) 0)

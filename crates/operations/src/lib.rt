@@ -1,68 +1,184 @@
-// What each operation does with its data (manual 4.2).
-pub mod work;
+// What each operation does with its data (manual 4.2): its task is looked up in a table, and the task's action is done.
+pub mod table;
+pub mod values;
 
-use crate::work::and_with;
-use crate::work::branch_bits_clear;
-use crate::work::branch_bits_set;
-use crate::work::branch_carry;
-use crate::work::branch_negative;
-use crate::work::branch_overflow;
-use crate::work::branch_zero;
-use crate::work::clear_bits;
-use crate::work::clear_flags;
-use crate::work::count_down;
-use crate::work::count_up;
-use crate::work::decrement;
-use crate::work::exclusive_or_with;
-use crate::work::increment;
-use crate::work::leave;
-use crate::work::load;
-use crate::work::load_bank;
-use crate::work::move_whole;
-use crate::work::or_with;
-use crate::work::pull;
-use crate::work::pull_bank;
-use crate::work::pull_page;
-use crate::work::push;
-use crate::work::push_data;
-use crate::work::push_data_bank;
-use crate::work::push_program_bank;
-use crate::work::push_relative;
-use crate::work::push_status;
-use crate::work::rotate_left;
-use crate::work::rotate_right;
-use crate::work::set_bits;
-use crate::work::set_carry;
-use crate::work::set_disable;
-use crate::work::set_flags;
-use crate::work::set_overflow;
-use crate::work::shift_left;
-use crate::work::shift_right;
-use crate::work::store;
-use crate::work::store_immediate;
-use crate::work::transfer;
-use actions::Action;
-use actions::action_of;
-use actions::destination_of;
-use actions::source_of;
-use cpu::arithmetic::adds;
+use crate::table::Action;
+use crate::table::action_of;
+use crate::table::choice_of;
+use crate::table::destination_of;
+use crate::values::is_wanted;
+use crate::values::mask_of;
+use crate::values::other_bits;
+use crate::values::step_of;
+use crate::values::value_of;
+use crate::values::with_bits;
+use crate::values::with_flags;
+use crate::values::word_of;
+use cpu::arithmetic::combines;
 use cpu::arithmetic::compares;
+use cpu::arithmetic::loads;
+use cpu::arithmetic::modifies;
+use cpu::arithmetic::pulls;
 use cpu::arithmetic::rotates;
-use cpu::arithmetic::subtracts;
 use cpu::arithmetic::swaps;
+use cpu::data::merged;
+use cpu::data::wide;
 use cpu::effects::Effect;
+use cpu::effects::behind_address;
+use cpu::effects::branches_if;
+use cpu::effects::leaves;
 use cpu::effects::pushes;
+use cpu::effects::puts;
+use cpu::effects::stores_to;
 use cpu::file::FILE_SIZE;
+use cpu::file::PS;
+use cpu::flags::flag_at;
+use cpu::flags::with_result;
 use model::code::Mode;
 use model::machine::Data;
 ghost use mathlib.Core.Path.{_≡_};
-ghost use Prim.Native.Nat.{_<_};
-ghost use Rattle.actions.specs.Tasks.{unpackedTask};
+ghost use Prim.Native.Nat.{_+_, _<_};
+ghost use lib.ListN.{getD};
+ghost use Rattle.model.specs.Addressing.{bits};
+ghost use Rattle.model.specs.AnyWidth as width;
+ghost use Rattle.model.specs.Arithmetic as arithmetic;
+ghost use Rattle.model.specs.Choice.{pick};
 ghost use Rattle.model.specs.Decode.{operandLimit};
 ghost use Rattle.model.specs.Image.{addressLimit};
-ghost use Rattle.cpu.specs.File.{registersOf};
+ghost use Rattle.cpu.specs.File.{registersOf, fileSize};
+ghost use Rattle.cpu.specs.Rows as rows;
 ghost use Rattle.cpu.specs.View.{viewed, Placed};
-ghost use Rattle.operations.specs.Works.{effectBy};
+ghost use Rattle.operations.specs.Tasks.{unpackedTask};
+ghost use Rattle.operations.specs.Works.{counted, byAction, effectBy};
+
+// A register off the stack, with N and Z.
+fn pulls_data(to: usize, short: bool, v: u16, registers: &[u16; FILE_SIZE]) -> Effect
+    requires { ⌜ to < fileSize ⌝ }
+    ensures { λ r. ⌜
+        (viewed r (registersOf (now (registers .entry)))
+        ≡ rows.pulling (now (registers .entry)) to short
+        (width.merged (bits short) (getD (now (registers .entry)) to 0) v)
+        (arithmetic.withResult (bits short) v (rows.status (now (registers .entry)))))
+        × Placed r
+        ⌝ }
+{
+    let value = merged(short, registers[to], wide(v));
+    let status = with_result(short, wide(v), registers[PS]);
+    pulls(to, short, value, status, registers)
+}
+
+// A register off the stack whole, with N and Z or without.
+fn pulls_whole(
+    flagged: bool,
+    to: usize,
+    short: bool,
+    v: u16,
+    registers: &[u16; FILE_SIZE],
+) -> Effect
+    requires { ⌜ to < fileSize ⌝ }
+    ensures { λ r. ⌜
+        (viewed r (registersOf (now (registers .entry)))
+        ≡ rows.pulling (now (registers .entry)) to short v
+        (pick flagged (arithmetic.withResult (bits short) v (rows.status (now (registers .entry))))
+        (rows.status (now (registers .entry)))))
+        × Placed r
+        ⌝ }
+{
+    let status = registers[PS];
+    if flagged {
+        return pulls(to, short, v, with_result(short, wide(v), status), registers);
+    }
+    pulls(to, short, v, status, registers)
+}
+
+// A register with a number added.
+fn counted(v: u16, by: u16) -> u64
+    ensures { λ r. ⌜ r ≡ v + by ⌝ }
+{
+    v as u64 + by as u64
+}
+
+// A register counted up or down.
+fn counts(down: bool, to: usize, short: bool, registers: &[u16; FILE_SIZE]) -> Effect
+    requires { ⌜ to < fileSize ⌝ }
+    ensures { λ r. ⌜
+        (viewed r (registersOf (now (registers .entry)))
+        ≡ rows.loading (now (registers .entry)) to short
+        (counted (bits short) down (getD (now (registers .entry)) to 0)) (rows.status (now (registers .entry))))
+        × Placed r
+        ⌝ }
+{
+    let value = counted(registers[to], step_of(down));
+    loads(to, short, value, registers[PS], registers)
+}
+
+// What an action does with its data, by its choice and to its register.
+fn by_action(
+    action: Action,
+    choice: usize,
+    to: usize,
+    mode: Mode,
+    short: bool,
+    operand: u64,
+    next: u32,
+    given: Data,
+    registers: &[u16; FILE_SIZE],
+) -> Effect
+    requires { ⌜ (to < fileSize) × (next < addressLimit) × (operand < operandLimit) ⌝ }
+    ensures { λ r. ⌜
+        (viewed r (registersOf (now (registers .entry)))
+        ≡ byAction mode short operand next given (now (registers .entry)) action choice to)
+        × Placed r
+        ⌝ }
+{
+    let v = given.value;
+    let status = registers[PS];
+    match action {
+        Action::Leave => leaves(status),
+        Action::Load => loads(
+            to,
+            short,
+            wide(word_of(choice, v, registers)),
+            status,
+            registers,
+        ),
+        Action::Move => puts(to, word_of(choice, v, registers), status),
+        Action::Store => stores_to(
+            short,
+            given.address,
+            value_of(choice, mode, short, operand, next, v, registers),
+            status,
+        ),
+        Action::Push => pushes(
+            short,
+            value_of(choice, mode, short, operand, next, v, registers),
+            registers,
+        ),
+        Action::Pull => pulls_data(to, short, v, registers),
+        Action::PullWhole => pulls_whole(choice == 1, to, short, v, registers),
+        Action::Add => combines(0, to, short, v, registers),
+        Action::Subtract => combines(1, to, short, v, registers),
+        Action::And => combines(2, to, short, v, registers),
+        Action::Or => combines(3, to, short, v, registers),
+        Action::ExclusiveOr => combines(4, to, short, v, registers),
+        Action::Compare => compares(to, short, v, registers),
+        Action::Count => counts(choice == 1, to, short, registers),
+        Action::Modify => modifies(choice, mode, to, short, given, registers),
+        Action::Rotate => rotates(to, short, v, registers),
+        Action::Swap => swaps(short, registers),
+        Action::ChangeBits => {
+            let mask = behind_address(mode, short, operand);
+            let changed = with_bits(to == 1, short, mask, v);
+            stores_to(short, given.address, wide(changed), status)
+        }
+        Action::ChangeFlags => leaves(with_flags(to == 1, mask_of(choice, v), status)),
+        Action::Branch => branches_if(is_wanted(to == 1, flag_at(choice % 8, status)), status),
+        Action::BranchBits => {
+            let mask = behind_address(mode, short, operand);
+            branches_if(other_bits(to == 1, short, mask, v) == 0, status)
+        }
+    }
+}
 
 // What a task does with its data. The place of execution, the widths and the open calls are not its business.
 pub fn effect_by(
@@ -82,55 +198,17 @@ pub fn effect_by(
         ⌝ }
 {
     let action = action_of(task);
-    let source = source_of(task);
+    let choice = choice_of(task);
     let to = destination_of(task);
-    let v = given.value;
-    match action {
-        Action::Leave => leave(registers),
-        Action::Add => adds(to, short, v, registers),
-        Action::And => and_with(to, short, v, registers),
-        Action::ShiftLeft => shift_left(mode, to, short, given, registers),
-        Action::BranchBitsClear => branch_bits_clear(mode, short, operand, v, registers),
-        Action::BranchBitsSet => branch_bits_set(mode, short, operand, v, registers),
-        Action::BranchCarry => branch_carry(source, registers),
-        Action::BranchZero => branch_zero(source, registers),
-        Action::BranchNegative => branch_negative(source, registers),
-        Action::BranchOverflow => branch_overflow(source, registers),
-        Action::ClearBits => clear_bits(mode, short, operand, given, registers),
-        Action::SetCarry => set_carry(source, registers),
-        Action::SetDisable => set_disable(source, registers),
-        Action::ClearFlags => clear_flags(v, registers),
-        Action::SetOverflow => set_overflow(source, registers),
-        Action::Compare => compares(source, short, v, registers),
-        Action::Decrement => decrement(mode, to, short, given, registers),
-        Action::CountDown => count_down(to, short, registers),
-        Action::ExclusiveOr => exclusive_or_with(to, short, v, registers),
-        Action::Increment => increment(mode, to, short, given, registers),
-        Action::CountUp => count_up(to, short, registers),
-        Action::Load => load(to, short, v, registers),
-        Action::StoreImmediate => store_immediate(mode, short, operand, given, registers),
-        Action::LoadBank => load_bank(v, registers),
-        Action::ShiftRight => shift_right(mode, to, short, given, registers),
-        Action::Or => or_with(to, short, v, registers),
-        Action::PushOperand => pushes(short, operand, registers),
-        Action::PushData => push_data(short, v, registers),
-        Action::PushRelative => push_relative(short, next, operand, registers),
-        Action::Push => push(source, short, registers),
-        Action::PushProgramBank => push_program_bank(short, next, registers),
-        Action::PushStatus => push_status(short, registers),
-        Action::PushDataBank => push_data_bank(short, registers),
-        Action::Pull => pull(to, short, v, registers),
-        Action::PullPage => pull_page(short, v, registers),
-        Action::PullBank => pull_bank(short, v, registers),
-        Action::Rotate => rotates(to, short, v, registers),
-        Action::RotateLeft => rotate_left(mode, to, short, given, registers),
-        Action::RotateRight => rotate_right(mode, to, short, given, registers),
-        Action::Subtract => subtracts(to, short, v, registers),
-        Action::SetBits => set_bits(mode, short, operand, given, registers),
-        Action::SetFlags => set_flags(v, registers),
-        Action::Store => store(source, short, given.address, registers),
-        Action::Move => move_whole(source, to, registers),
-        Action::Transfer => transfer(source, to, short, registers),
-        Action::Swap => swaps(short, registers),
-    }
+    by_action(
+        action,
+        choice,
+        to,
+        mode,
+        short,
+        operand,
+        next,
+        given,
+        registers,
+    )
 }

@@ -1,6 +1,5 @@
 // A run of a state that is given as bytes: any bytes are answered.
 use crate::course::run_in;
-use actions::tasks;
 use codepages::pages;
 use image::test_image;
 use model::machine::CALL_LIMIT;
@@ -8,6 +7,7 @@ use model::machine::Core;
 use model::refusals::Refusal;
 use model::refusals::TestResult;
 use model::runs::RunAnswer;
+use operations::table::tasks;
 use statebytes::STATE_SIZE;
 use statebytes::calls_of;
 use statebytes::core_of;

@@ -1,5 +1,4 @@
 // Steps one after another, until the asked number is done or one stops.
-use actions::TaskTable;
 use codepages::CodePages;
 use cpu::file::FILE_SIZE;
 use cpu::file::file_of;
@@ -10,10 +9,10 @@ use model::machine::Answer;
 use model::machine::CALL_LIMIT;
 use model::machine::Core;
 use model::runs::End;
+use operations::table::TaskTable;
 ghost use mathlib.Core.Path.{_≡_};
 ghost use Prim.Native.Nat.{_+_, _/_, _%_, _≤_};
 ghost use lib.ListN.{length};
-ghost use Rattle.actions.specs.Tasks as table;
 ghost use Rattle.codepages.specs.Packing.{numbers};
 ghost use Rattle.model.specs.Image.{addressLimit, bankSize, imageLimit};
 ghost use Rattle.model.specs.Memory.{memory};
@@ -22,6 +21,7 @@ ghost use Rattle.model.specs.Run.{stepLimit, isCompleted, isCall, endAfter, pla
 ghost use Rattle.model.specs.Status.{bit};
 ghost use Rattle.model.specs.Step.{callLimit, placeOf};
 ghost use Rattle.machine.specs.Turns.{state, coreOf};
+ghost use Rattle.operations.specs.Works.{Tasked};
 ghost use Rattle.runs.specs.Courses.{leftBy};
 
 // How a run ended, the steps completed, the calls among them, and the registers after it.
@@ -97,7 +97,7 @@ pub fn run_in(
     asked: u32,
 ) -> Course
     requires { ⌜
-        (now codes ≡ numbers) × (now tasks ≡ table.numbers) × (base + length (now image) ≤ addressLimit)
+        (now codes ≡ numbers) × Tasked (now tasks) × (base + length (now image) ≤ addressLimit)
         × (length (now image) ≤ imageLimit) × (given .depth ≤ callLimit) × (asked ≤ stepLimit)
         ⌝ }
     ensures { λ r. ⌜
