@@ -4,7 +4,7 @@
 -- left, by induction over the list.
 -- Assumes nothing.
 use mathlib.Core.Path.{_≡_, refl, sym, ap, _∙_}
-use mathlib.Core.Logic.{_⊎_, inl, inr}
+use mathlib.Core.Logic.{_↔_, _⊎_, inl, inr}
 use mathlib.Core.List.{List, [], _∷_, _++_}
 use Prim.Native.Nat.{ℕ, _≤_, _<_}
 use native.Mathlib.Omega.{arith}
@@ -23,10 +23,12 @@ use Rattle.model.specs.declared.lists.ListRead.{ListRead}
 use Rattle.model.specs.declared.lists.ListRead.the-variants.{NotRead, Read}
 use Rattle.model.specs.declared.lists.ListWritten.{ListWritten}
 use Rattle.model.specs.declared.lists.ListWritten.the-variants.{NotWritten, Written}
+use Rattle.model.specs.declared.refusals.Refusal.the-variants as refusal
 use Rattle.model.specs.declared.refusals.TestResult.{TestResult}
 use Rattle.model.specs.declared.refusals.TestResult.the-variants.{Passed, Failed}
 use Rattle.model.specs.declared.runs.RunAnswer.{RunAnswer}
 use Rattle.model.specs.declared.runs.RunAnswer.the-variants.{NotRun, Ended}
+use Rattle.model.specs.ListForm.{IsMarkList}
 use Rattle.model.specs.MarkList.{marksBy, marksRead, pageBy, pageWritten}
 use Rattle.model.specs.Memory.{memory}
 use Rattle.model.specs.Step.{stopNumber, step}
@@ -38,7 +40,8 @@ use Rattle.model.specs.Guarantee.{Every, EndsWell, done, stopped, Accounted, ad
 use Rattle.model.proofs.CodeMap.{carried-length}
 use Rattle.model.proofs.Verdict.{accepts-exactly}
 use Rattle.model.proofs.Meaning.{refused-means}
-use Rattle.model.proofs.TestResults.{refusal-range}
+use Rattle.model.proofs.TestResults.{refusal-range, same-refusal}
+use Rattle.model.proofs.ListForm.{not-a-list-exactly}
 use Rattle.model.proofs.RoundTrips.{read-then-written, written-then-read}
 use Rattle.model.proofs.Run.{stops-leave, played-one}
 use Rattle.model.proofs.RunBytes.{bytes-ran, said-left, long-left, taken, refused-leaves, none-leaves}
@@ -204,6 +207,19 @@ module _ (c : RunCall) (zero : numbers c .refusal ≡ 0) where
         promised c .ram ∙ ap (λ r. r .ram) stepped,
       ))
 
+-- 14 is the number of one answer alone
+list-number : (a : ListRead) → listReadNumbers a .number ≡ 14 → a ≡ NotRead refusal.List
+list-number (NotRead why) e = ap NotRead (same-refusal why refusal.List e)
+list-number (Read h) e = absurd (omega (arith, e))
+
+not-a-list : (c : ReadCall) → (readNumbers (c .result) .number ≡ 14) ↔ (IsMarkList (holds (c .text)) → ⊥)
+not-a-list c =
+    let exactly = not-a-list-exactly (holds (c .text)) (holds (c .marks)) in
+    let told = ap (λ n. n .number) (read-numbers c) in (
+      λ is. exactly .0 (list-number (readOf c) (sym told ∙ is)),
+      λ none. told ∙ ap (λ a. listReadNumbers a .number) (exactly .1 none),
+    )
+
 read-written : (r : ReadCall) (w : WriteCall) → readNumbers (r .result) .number ≡ 0
     → holds (w .marks) ≡ r .marks-left → w .base ≡ readNumbers (r .result) .base
     → w .reset ≡ readNumbers (r .result) .reset → length (holds (r .text)) ≤ length (holds (w .page))
@@ -258,6 +274,7 @@ demand-2 = record {
   one-step = λ c one zero. one-step c zero one;
   each-step = by-history;
   lengths = λ page code m x carried. let l = carried-length page code m x carried in (omega (arith, l .0), l .1);
+  not-a-list = not-a-list;
   read-written = read-written;
   written-read = written-read;
   check-numbers = check-numbers;

@@ -6,8 +6,9 @@
 -- what a buffer holds when it is given, `..-left` what it holds after the call. The numbers that the macros of
 -- m7700.h take out of a result are `checkNumbers`, `readNumbers`, `writtenNumbers` and, of a run, `numbers`
 -- (loader/specs/Packed.antt). Every other notion is document 01's, in model/specs: `Accepts` (Rules), what a number
--- means, `Breaks` (Meaning), the answers `verdict`, `readList`, `writeList`, `ranBytes` (Verdict, MarkList,
--- RunBytes), `step` (Step), histories and lists of runs (Run), `Safe` and `Begins` (Guarantee).
+-- means, `Breaks` (Meaning), which texts are mark lists, `IsMarkList` (ListForm), the answers `verdict`, `readList`,
+-- `writeList`, `ranBytes` (Verdict, MarkList, RunBytes), `step` (Step), histories and lists of runs (Run), `Safe` and
+-- `Begins` (Guarantee).
 -- Assumes nothing.
 use mathlib.Core.Path.{_≡_}
 use mathlib.Core.Logic.{_↔_, _⊎_}
@@ -25,6 +26,7 @@ use Rattle.model.specs.Rules.{Accepts}
 use Rattle.model.specs.Verdict.{verdict}
 use Rattle.model.specs.Meaning.{Breaks}
 use Rattle.model.specs.MarkList.{readList, marksRead, writeList, pageWritten}
+use Rattle.model.specs.ListForm.{IsMarkList}
 use Rattle.model.specs.Memory.{memory}
 use Rattle.model.specs.Step.{step}
 use Rattle.model.specs.Run.{isCompleted, Event, endOf, completedSteps, callsAmong, stateLeft, ramLeft, oneStep}
@@ -92,6 +94,7 @@ pub record ByHistory (c : RunCall) : Type 0 where
 -- settles it, prescribes for that code at the widths then in force; a mark list read, and written again to a page long
 -- enough, is the same list, and marks written and read again are the same marks.'
 pub record Demand2 : Type 0 where
+  -- 'accepts .. exactly when all rules of document 01 are met, and otherwise gives the number and place'
   pub accepts : (c : CheckCall)
       → (c .result ≡ 0) ↔ Accepts (holds (c .image)) (holds (c .marks)) (c .base) (c .reset)
   pub refuses : (c : CheckCall) → 0 < c .result → RefusedCheck c
@@ -104,6 +107,10 @@ pub record Demand2 : Type 0 where
   -- 01: 'a carried code has 1 to 6 bytes at each of the four widths'
   pub lengths : (page code m x : ℕ) → entryAt page code .carried ≡ true
       → (1 ≤ lengthAt (entryAt page code) m x) × (lengthAt (entryAt page code) m x ≤ 6)
+  -- 01: 14, 'text is not a mark list'
+  pub not-a-list : (c : ReadCall) → (readNumbers (c .result) .number ≡ 14) ↔ (IsMarkList (holds (c .text)) → ⊥)
+  -- 'a mark list read, and written again to a page long enough, is the same list, and marks written and read again are
+  -- the same marks'
   pub read-written : (r : ReadCall) (w : WriteCall) → readNumbers (r .result) .number ≡ 0
       → holds (w .marks) ≡ r .marks-left → w .base ≡ readNumbers (r .result) .base
       → w .reset ≡ readNumbers (r .result) .reset → length (holds (r .text)) ≤ length (holds (w .page))

@@ -1,6 +1,6 @@
--- 01: 'One rule holds for every entry: a carried code has 1 to 6 bytes at each of the four widths.' The rule is one test
--- over the 768 entries, which antt computes, and a lemma that turns it into the rule at any page, code and widths. The test
--- asks a little more, that the prefix and the code are among the bytes, which the decoder needs.
+-- 01: 'One rule holds for every entry: a carried code has 1 to 6 bytes at each of the four widths.' The rule is one
+-- test over the 768 entries, which antt computes, and a lemma that turns it into the rule at any page, code and widths.
+-- The test asks a little more, that the prefix and the code are among the bytes, which the decoder needs.
 -- Assumes nothing.
 use mathlib.Core.Path.{_≡_, refl}
 use mathlib.Core.Bool.{Bool, true, false, not, _&&_, _||_}

@@ -1,6 +1,6 @@
--- What a decoded instruction is, for users of the decoder that need not open its definition: its code is carried, it has 1 to 6
--- bytes, they lie within the bytes that it was read from, and its operand is below the bound of its bytes. Each test on the way to
--- `Whole` must have passed, and the length's bounds are the code map's rule.
+-- What a decoded instruction is, for users of the decoder that need not open its definition: its code is carried, it
+-- has 1 to 6 bytes, they lie within the bytes that it was read from, and its operand is below the bound of its bytes.
+-- Each test on the way to `Whole` must have passed, and the length's bounds are the code map's rule.
 -- Assumes nothing.
 use mathlib.Core.Path.{_≡_, refl}
 use mathlib.Core.Bool.{Bool, true, false}
@@ -9,7 +9,7 @@ use Prim.Native.Nat.{ℕ, zero, suc, _+_, _-_, _^_, _≤_, _<_}
 use native.Mathlib.Nat.{pow-suc}
 use native.Mathlib.Omega.{arith}
 use borrow.Author.Tests.{leb-true}
-use lib.Dec.{eqb, ltb, leb}
+use lib.Dec.{ltb, leb}
 use lib.ListN.{length, getD, take, drop, length-take, length-drop}
 use lib.Seq.{getD-drop, take-all}
 use Rattle.model.specs.declared.code.Entry.{Entry}
@@ -26,7 +26,8 @@ passed-or-cut : (t : Bool) (d : Decoded) (i : Instruction) → pick t d CutOff �
 passed-or-cut true d i h = (refl, h)
 passed-or-cut false d i h = let z : _≡_ {A = ℕ} 0 1 = cc in absurd (omega arith)
 
-passed-or-not-carried : (t : Bool) (d : Decoded) (i : Instruction) → pick t d NotCarried ≡ Whole i → (t ≡ true) × (d ≡ Whole i)
+passed-or-not-carried : (t : Bool) (d : Decoded) (i : Instruction) → pick t d NotCarried ≡ Whole i
+    → (t ≡ true) × (d ≡ Whole i)
 passed-or-not-carried true d i h = (refl, h)
 passed-or-not-carried false d i h = let z : _≡_ {A = ℕ} 0 1 = cc in absurd (omega arith)
 
@@ -53,7 +54,8 @@ made page bytes m x e n at-code at-widths carried inside =
       operand = refl;
     }
 
-passed : (page : ℕ) (bytes : List ℕ) (m x : ℕ) (i : Instruction) → decodeOn page bytes m x ≡ Whole i → Passed page bytes m x i
+passed : (page : ℕ) (bytes : List ℕ) (m x : ℕ) (i : Instruction) → decodeOn page bytes m x ≡ Whole i
+    → Passed page bytes m x i
 unfolding decodeOn judged
 passed page bytes m x i h =
     let e = entryAt page (getD bytes (prefixBytes page) 0) in

@@ -56,7 +56,8 @@ counted-end (b ∷ bs) = counted-end bs
 pub none-counted : (marks : List ℕ) → Counted marks 0 (length marks)
 none-counted marks = (omega arith, counted-end marks, omega arith)
 
-pub one-more-counted : (marks : List ℕ) (i n k : ℕ) → 0 < i → Counted marks n i → k ≡ pick (isStart (getD marks (i - 1) 0)) 1 0
+pub one-more-counted : (marks : List ℕ) (i n k : ℕ) → 0 < i → Counted marks n i
+    → k ≡ pick (isStart (getD marks (i - 1) 0)) 1 0
     → Counted marks (n + k) (i - 1)
 unfolding startCount
 one-more-counted marks zero n k h c e = absurd (omega arith)

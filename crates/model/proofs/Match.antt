@@ -1,5 +1,5 @@
--- A `match` on a number whose keys are 1, 2, .. gives the values of a list in order, and the list's first value for any other
--- number: where no key fits, the number is 0 or past the list.
+-- A `match` on a number whose keys are 1, 2, .. gives the values of a list in order, and the list's first value for any
+-- other number: where no key fits, the number is 0 or past the list.
 -- Assumes nothing.
 use mathlib.Core.Path.{_≡_, refl, sym}
 use mathlib.Core.Logic.{_⊎_, inl, inr, ⊎-elim}
@@ -16,7 +16,8 @@ NoKey n (suc j) = NoKey n j × (OneOf (suc j ∷ []) n → ⊥)
 
 outside : (n j : ℕ) → NoKey n j → (n ≡ 0) ⊎ (j < n)
 outside n zero k = eq-zero-or-pos n
-outside n (suc j) k = ⊎-elim (λ (z : n ≡ 0). inl z) (λ (past : j < n). further (eq-or-lt-of-le past)) (outside n j (k .0))
+outside n (suc j) k =
+    ⊎-elim (λ (z : n ≡ 0). inl z) (λ (past : j < n). further (eq-or-lt-of-le past)) (outside n j (k .0))
   where
     further : (suc j ≡ n) ⊎ (suc j < n) → (n ≡ 0) ⊎ (suc j < n)
     further (inl e) = absurd (k .1 (sym e))

@@ -1,5 +1,5 @@
--- Each refusal means what its number says. The tests of the verdict are taken in their order: the first that fails gives the
--- number, and those before it have passed.
+-- Each refusal means what its number says. The tests of the verdict are taken in their order: the first that fails
+-- gives the number, and those before it have passed.
 -- Assumes nothing.
 use mathlib.Core.Path.{_≡_, refl, sym}
 use mathlib.Core.Logic.{inl, inr, ⊎-elim}

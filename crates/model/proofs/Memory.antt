@@ -1,8 +1,8 @@
--- The byte at an address and whether a store there is served, by the parts of memory; and what an action comes to that is made
--- of two.
+-- The byte at an address and whether a store there is served, by the parts of memory; and what an action comes to that
+-- is made of two.
 -- Assumes nothing.
 use mathlib.Core.Path.{_≡_, refl, ap}
-use mathlib.Core.Bool.{Bool, true, false, _&&_}
+use mathlib.Core.Bool.{_&&_}
 use mathlib.Core.List.{List, [], _∷_}
 use Prim.Native.Nat.{ℕ, zero, suc, _-_, _≤_, _<_}
 use native.Mathlib.Nat.{not-suc-le-zero, le-of-suc-le-suc}
@@ -32,7 +32,8 @@ module _ (ram image : List ℕ) (base address : ℕ) where
 
     in-image : length ram ≤ address → base ≤ address → address - base < length image → choice ≡ b
     in-image h above inside =
-        rw (le-ltb address (length ram) h, le-leb base address above, lt-ltb (address - base) (length image) inside) refl
+        rw (le-ltb address (length ram) h, le-leb base address above, lt-ltb (address - base) (length image) inside)
+        refl
 
     past-image : length ram ≤ address → base ≤ address → length image ≤ address - base → choice ≡ c
     past-image h above past =
@@ -54,7 +55,8 @@ module _ (ram image : List ℕ) (base address : ℕ) where
   unfolding byteAt
   byte-in-image = in-image _ _ _
 
-  pub byte-past-image : length ram ≤ address → base ≤ address → length image ≤ address - base → byteAt m address ≡ NoByte
+  pub byte-past-image : length ram ≤ address → base ≤ address → length image ≤ address - base
+      → byteAt m address ≡ NoByte
   unfolding byteAt
   byte-past-image = past-image _ _ _
 
@@ -88,7 +90,8 @@ come-bind m (ret v) f = refl
 come-bind {A} {B} m (load at more) f = by (byteAt m at) (λ byte. come-bind m (more byte) f)
   where
     by : (b : ByteRead) → ((byte : ℕ) → come m (more byte >>= f) ≡ onDone (come m (more byte)) (λ v. come m (f v)))
-        → onByte b (λ byte. come m (more byte >>= f)) ≡ onDone (onByte b (λ byte. come m (more byte))) (λ v. come m (f v))
+        → onByte b (λ byte. come m (more byte >>= f))
+        ≡ onDone (onByte b (λ byte. come m (more byte))) (λ v. come m (f v))
     by (Byte byte) step = step byte
     by NoByte step = refl
 

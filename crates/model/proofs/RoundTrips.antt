@@ -7,9 +7,9 @@ use mathlib.Core.Bool.{true}
 use mathlib.Core.List.{List, [], _∷_, _++_, append-nil}
 use Prim.Native.Nat.{ℕ, _+_, _%_, _≤_, _<_}
 use native.Mathlib.Omega.{arith}
-use borrow.Author.Tests.{leb-true, le-leb, lt-ltb, eqb-true, eq-eqb, not-false}
+use borrow.Author.Tests.{leb-true, le-leb, lt-ltb, eqb-true, eq-eqb}
 use lib.Dec.{eqb, ltb, leb}
-use lib.ListN.{length, getD, take, drop}
+use lib.ListN.{length, take, drop}
 use lib.Seq.{take-at, drop-at}
 use Rattle.model.specs.declared.lists.Header.{Header}
 use Rattle.model.specs.declared.lists.ListRead.the-variants.{Read}
@@ -17,7 +17,7 @@ use Rattle.model.specs.declared.lists.ListWritten.the-variants.{Written}
 use Rattle.model.specs.declared.refusals.TestResult.the-variants.{Passed}
 use Rattle.model.specs.Refusals.{firstRefusal}
 use Rattle.model.specs.Digits.{startsWith}
-use Rattle.model.specs.Image.{bankSize, addressLimit, isFormed, baseFits}
+use Rattle.model.specs.Image.{bankSize, addressLimit, baseFits}
 use Rattle.model.specs.Verdict.{firstFrom, badMark, unformedAt, allFormed}
 use Rattle.model.specs.MarkList.{lengthLimit, headerText, lines, listText, headerShown, isHeader, linesLeft}
 use Rattle.model.specs.MarkList.{linesText, leftOf}

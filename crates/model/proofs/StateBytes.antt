@@ -121,7 +121,8 @@ module _ (s : State) (k : Keeps s) where
       given = s .core .registers .status
 
       same-status : statusOf (number (lowBytes 2 (numberOf given))) ≡ given
-      same-status = ap statusOf (number-low 2 (numberOf given) (status-bound given (k .registers .level))) ∙ number-status given
+      same-status =
+          ap statusOf (number-low 2 (numberOf given) (status-bound given (k .registers .level))) ∙ number-status given
 
   pub state-bytes : stateOf (bytesOf s) ≡ s
   unfolding stateOf

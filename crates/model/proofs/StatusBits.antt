@@ -180,7 +180,7 @@ sep-sets m s i fetches is =
       set-width maskM (i .operand) (status .m) (omega arith),
       set-width maskX (i .operand) (status .x) (omega arith),
     )
-    (set-number (byteBehind i) status (omega arith))
+    (refl, set-number (byteBehind i) status (omega arith))
 
 pub clp-clears : ClpClears
 unfolding step planBy operates dataOf operandBy effectOf mAfter xAfter
@@ -197,4 +197,4 @@ clp-clears m s i fetches is small =
       clear-width maskM (i .operand) (status .m) (omega arith),
       clear-width maskX (i .operand) (status .x) (omega arith),
     )
-    (cleared-number (byteBehind i) status (omega arith) small)
+    (refl, cleared-number (byteBehind i) status (omega arith) small)

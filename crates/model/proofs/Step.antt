@@ -1,5 +1,6 @@
--- The bytes that a step fetches, each at its own address, are those of the image from there on: an image lies within the 24-bit
--- addresses, so that they wrap only behind its last byte, where no image byte lies. And the order of a step's stops.
+-- The bytes that a step fetches, each at its own address, are those of the image from there on: an image lies within
+-- the 24-bit addresses, so that they wrap only behind its last byte, where no image byte lies. And the order of a
+-- step's stops.
 -- Assumes nothing.
 use mathlib.Core.Path.{_≡_, refl, sym, ap, ap₂, _∙_}
 use mathlib.Core.Logic.{_⊎_, inl, inr}
@@ -39,9 +40,9 @@ use Rattle.model.specs.Arithmetic.{withS}
 use Rattle.model.specs.Effects.{store, storesOf, pushOf, pushedAt}
 use Rattle.model.specs.Decode.{decode}
 use Rattle.model.specs.Status.{bit}
-use Rattle.model.specs.Step.{callLimit, stopNumber, placeOf, bytesFrom, fetched, stops, isDecimal, operates, calls, pullsReturn}
-use Rattle.model.specs.Step.{planBy, stopped, returnsTo, returnBytes, next, target, short, access, works, pushesReturn}
-use Rattle.model.specs.Step.{isReturn, Change, change, changes, Plan, plan, onRead}
+use Rattle.model.specs.Step.{callLimit, stopNumber, placeOf, bytesFrom, fetched, stops, isDecimal, operates}
+use Rattle.model.specs.Step.{calls, pullsReturn, planBy, stopped, returnsTo, returnBytes, next, target, short}
+use Rattle.model.specs.Step.{access, works, pushesReturn, isReturn, Change, change, changes, Plan, plan, onRead}
 use Rattle.model.specs.Step.{depthAfter, onServed, finish, onDecoded, lastOpened, step}
 use Rattle.model.proofs.Decode.{decode-nothing}
 
@@ -203,7 +204,8 @@ opens-below c i m opened = by
     pulls-so : (kind : Kind) (o : Outcome ℕ) → PlanOpens (onRead o (returnsTo c i opened kind)) (c .depth)
     pulls-so kind unmapped = tt
     pulls-so kind (done address) =
-        returns-so (isReturn c i opened kind address) (withS (pulledAt (c .registers) (returnBytes kind)) (c .registers)) address
+        returns-so (isReturn c i opened kind address)
+        (withS (pulledAt (c .registers) (returnBytes kind)) (c .registers)) address
 
     by : (flow : Flow) → PlanOpens (planBy c i m opened flow) (c .depth)
     by Next = works-so decimal asked (λ taken. next c i)
@@ -216,7 +218,8 @@ opens-below c i m opened = by
     by (Return kind) = pulls-so kind (come m (pullsReturn c i kind))
     by Halt = tt
 
-depth-after : (change : CallChange) (depth : ℕ) → Opens change depth → depth ≤ callLimit → depthAfter change depth ≤ callLimit
+depth-after : (change : CallChange) (depth : ℕ) → Opens change depth → depth ≤ callLimit
+    → depthAfter change depth ≤ callLimit
 depth-after Keep depth o h = h
 depth-after (Open address kind) depth o h = omega arith
 depth-after Close depth o h = omega arith
@@ -230,7 +233,8 @@ depth-kept m s h = by (fetched m (s .core))
     serves-so i d All o = depth-after (d .calls) (s .core .depth) o h
     serves-so i d (Refused stop) o = h
 
-    plans-so : (i : Instruction) (p : Plan) → PlanOpens p (s .core .depth) → finish p i m s .state .core .depth ≤ callLimit
+    plans-so : (i : Instruction) (p : Plan) → PlanOpens p (s .core .depth)
+        → finish p i m s .state .core .depth ≤ callLimit
     plans-so i (stops stop) o = h
     plans-so i (changes d) o = serves-so i d (served m (d .stores)) o
 
@@ -240,7 +244,8 @@ depth-kept m s h = by (fetched m (s .core))
     by (Whole i) = plans-so i (plan m s i) (opens-below (s .core) i m (lastOpened s) (i .entry .flow))
 
 -- a stop leaves state and RAM as given
-pub stop-leaves : (m : Memory) (s : State) (stop : Stop) → (stopped stop m s .state ≡ s) × (stopped stop m s .ram ≡ m .ram)
+pub stop-leaves : (m : Memory) (s : State) (stop : Stop)
+    → (stopped stop m s .state ≡ s) × (stopped stop m s .ram ≡ m .ram)
 stop-leaves m s stop = (refl, refl)
 
 -- the stops are numbers 20 to 27

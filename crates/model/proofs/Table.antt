@@ -1,5 +1,5 @@
--- A rule of a table holds at every place of it by one test that antt computes over the whole table. The test is told the
--- place, so that a table of tables can be tested by place; past the end the rule is asked of the default.
+-- A rule of a table holds at every place of it by one test that antt computes over the whole table. The test is told
+-- the place, so that a table of tables can be tested by place; past the end the rule is asked of the default.
 -- Assumes nothing.
 use mathlib.Core.Path.{_≡_, refl}
 use mathlib.Core.Logic.{_⊎_, inl, inr}

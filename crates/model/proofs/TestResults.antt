@@ -1,12 +1,13 @@
 -- Tests in an order: all hold, or there is a first that fails, and it gives the refusal. This is read off the
 -- definition once, for tests of any number; for the tests of a call `Says` computes to what each of them shows.
 -- Assumes nothing.
-use mathlib.Core.Path.{_≡_, refl, sym, _∙_}
+use mathlib.Core.Path.{_≡_, refl, sym, ap, _∙_}
 use mathlib.Core.Logic.{_⊎_, inl, inr}
 use mathlib.Core.Bool.{Bool, true, false, not}
-use mathlib.Core.List.{[], _∷_, _++_}
+use mathlib.Core.List.{List, [], _∷_, _++_}
 use Prim.Native.Nat.{ℕ, _<_}
 use native.Mathlib.Omega.{arith}
+use lib.ListN.{getD}
 use borrow.Author.Tests.{not-true, not-false}
 use Rattle.model.specs.declared.refusals.Refusal.{Refusal}
 use Rattle.model.specs.declared.refusals.Refusal.the-variants as refusal
@@ -93,20 +94,39 @@ pub all-passed : {A : Type 0} {a done : A} (so : TestResult) (refused : Refusal 
 all-passed Passed refused never e = (refl, e)
 all-passed (Failed why) refused never e = absurd (never why e)
 
--- a refusal's number is one of a byte, and not 0
+-- ---- numbers
+
+-- the refusals in the order of their numbers; at 0, which is no refusal's, stands the first
+abbrev refusals : List Refusal
+refusals =
+    refusal.Length ∷ refusal.Length ∷ refusal.Base ∷ refusal.Reset ∷ refusal.Mark ∷ refusal.Code ∷ refusal.CutOff
+    ∷ refusal.Overlap ∷ refusal.Flow ∷ refusal.Widths ∷ refusal.Return ∷ refusal.Ram ∷ refusal.State ∷ refusal.Steps
+    ∷ refusal.List ∷ refusal.Page ∷ []
+
+abbrev refusalAt : ℕ → Refusal
+refusalAt n = getD refusals n refusal.Length
+
+numbered : (why : Refusal)
+    → (0 < refusalNumber why) × (refusalNumber why < 256) × (refusalAt (refusalNumber why) ≡ why)
+numbered refusal.Length = (omega arith, omega arith, refl)
+numbered refusal.Base = (omega arith, omega arith, refl)
+numbered refusal.Reset = (omega arith, omega arith, refl)
+numbered refusal.Mark = (omega arith, omega arith, refl)
+numbered refusal.Code = (omega arith, omega arith, refl)
+numbered refusal.CutOff = (omega arith, omega arith, refl)
+numbered refusal.Overlap = (omega arith, omega arith, refl)
+numbered refusal.Flow = (omega arith, omega arith, refl)
+numbered refusal.Widths = (omega arith, omega arith, refl)
+numbered refusal.Return = (omega arith, omega arith, refl)
+numbered refusal.Ram = (omega arith, omega arith, refl)
+numbered refusal.State = (omega arith, omega arith, refl)
+numbered refusal.Steps = (omega arith, omega arith, refl)
+numbered refusal.List = (omega arith, omega arith, refl)
+numbered refusal.Page = (omega arith, omega arith, refl)
+
+-- a refusal's number is one of a byte, not 0, and no other refusal's
 pub refusal-range : (why : Refusal) → (0 < refusalNumber why) × (refusalNumber why < 256)
-refusal-range refusal.Length = omega arith
-refusal-range refusal.Base = omega arith
-refusal-range refusal.Reset = omega arith
-refusal-range refusal.Mark = omega arith
-refusal-range refusal.Code = omega arith
-refusal-range refusal.CutOff = omega arith
-refusal-range refusal.Overlap = omega arith
-refusal-range refusal.Flow = omega arith
-refusal-range refusal.Widths = omega arith
-refusal-range refusal.Return = omega arith
-refusal-range refusal.Ram = omega arith
-refusal-range refusal.State = omega arith
-refusal-range refusal.Steps = omega arith
-refusal-range refusal.List = omega arith
-refusal-range refusal.Page = omega arith
+refusal-range why = (numbered why .0, numbered why .1)
+
+pub same-refusal : (why other : Refusal) → refusalNumber why ≡ refusalNumber other → why ≡ other
+same-refusal why other same = sym (numbered why .2) ∙ ap refusalAt same ∙ numbered other .2

@@ -1,6 +1,6 @@
--- The verdict is 'accepted' exactly when all rules of acceptance hold. Each test of the verdict is turned into the rule that it
--- tests, and no test refuses exactly when all of them hold, in whatever order they stand: what the order means is said
--- in Meaning.antt.
+-- The verdict is 'accepted' exactly when all rules of acceptance hold. Each test of the verdict is turned into the rule
+-- that it tests, and no test refuses exactly when all of them hold, in whatever order they stand: what the order means
+-- is said in Meaning.antt.
 -- Assumes nothing.
 use mathlib.Core.Path.{_≡_, refl}
 use mathlib.Core.Logic.{_↔_}

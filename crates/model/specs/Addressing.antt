@@ -1,7 +1,8 @@
--- Where an instruction's data lies and what it is: manual 3.2, and 01, 'Data addresses don't wrap: carries go to the next bank',
--- 'Under x=1 only the low byte of X or Y enters an address', 'S is a 16-bit number that wraps within bank 0'.
+-- Where an instruction's data lies and what it is: manual 3.2, and 01, 'Data addresses don't wrap: carries go to the
+-- next bank', 'Under x=1 only the low byte of X or Y enters an address', 'S is a 16-bit number that wraps within bank
+-- 0'.
 -- Assumes nothing.
-use Prim.Native.Nat.{ℕ, _+_, _*_, _/_, _%_}
+use Prim.Native.Nat.{ℕ, _+_, _*_, _%_}
 use mathlib.Core.Bool.{Bool, true, false}
 use mathlib.Core.List.{List, [], _∷_}
 use Rattle.model.specs.declared.code.Operation.{Operation}

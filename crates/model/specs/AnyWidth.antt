@@ -47,8 +47,8 @@ difference n a v carry = a + complement n (low n v) + bit carry
 abbrev pub isPast : ℕ → ℕ → Bool
 isPast n v = leb (size n) v
 
--- V: 'binary addition of signed data result in a value outside the range of -32768 to +32767 (-128 to +127 ..)'; data is
--- counted from the lowest signed number on
+-- V: 'binary addition of signed data result in a value outside the range of -32768 to +32767 (-128 to +127 ..)'; data
+-- is counted from the lowest signed number on
 abbrev pub signed : ℕ → ℕ → ℕ
 signed n v = (v + half n) % size n
 

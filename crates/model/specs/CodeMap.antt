@@ -1,6 +1,6 @@
--- What an entry of the code map says: 01, 'Each entry gives operation, addressing mode, and how its length hangs on m or x',
--- and what the rules of acceptance and the machine ask of a code. Of a code that is not carried only the length is ever
--- asked, by the listing of the code map.
+-- What an entry of the code map says: 01, 'Each entry gives operation, addressing mode, and how its length hangs on m
+-- or x', and what the rules of acceptance and the machine ask of a code. Of a code that is not carried only the length
+-- is ever asked, by the listing of the code map.
 -- Assumes nothing.
 use Prim.Native.Nat.{ℕ, _+_, _/_, _%_}
 use mathlib.Core.Bool.{Bool, true, false, not, _&&_, _||_}
@@ -42,9 +42,9 @@ use Rattle.model.specs.Operations.{isIn, neverCarried, branches, jumps, 
 use Rattle.model.specs.Operations.{withoutData}
 use Rattle.model.specs.CodePages.{Form, none, pages}
 
--- What a mode puts behind the code (manual 3.2): how many bytes at m=1 and x=1; whether immediate data is among them, which
--- has one byte more where the data has 16 bits; whether they end in a branch offset; whether they name the memory that
--- holds a jump's target.
+-- What a mode puts behind the code (manual 3.2): how many bytes at m=1 and x=1; whether immediate data is among them,
+-- which has one byte more where the data has 16 bits; whether they end in a branch offset; whether they name the memory
+-- that holds a jump's target.
 pub record Shape : Type 0 where
   pub bytes : ℕ
   pub hasImmediate : Bool
@@ -93,8 +93,8 @@ shapeOf StackPointerRelative = operand 1
 shapeOf StackPointerRelativeIndirectIndexedY = operand 1
 shapeOf BlockTransfer = operand 2
 
--- the bytes that an operation has besides its mode's (manual 4.2): BRK's ignored byte, the mask of PSH and PUL, the data
--- of LDM, PEA, PEI and PER
+-- the bytes that an operation has besides its mode's (manual 4.2): BRK's ignored byte, the mask of PSH and PUL, the
+-- data of LDM, PEA, PEI and PER
 abbrev pub ownBytes : Operation → ℕ
 ownBytes operation =
     pick (isIn (BRK ∷ PSH ∷ PUL ∷ LDM ∷ PEI ∷ []) operation) 1

@@ -1,5 +1,5 @@
--- The instruction at a place: 01, 'length is read from there at the marked widths', and numbers 5 and 6, which are 21 and 20
--- in a step. It is read from the bytes that begin with the instruction's first one, wherever those come from.
+-- The instruction at a place: 01, 'length is read from there at the marked widths', and numbers 5 and 6, which are 21
+-- and 20 in a step. It is read from the bytes that begin with the instruction's first one, wherever those come from.
 -- Assumes nothing.
 use Prim.Native.Nat.{ℕ, _+_, _-_, _*_}
 use mathlib.Core.List.{List, [], _∷_}

@@ -1,5 +1,5 @@
--- What each operation does with its data: manual 4.2, a line an instruction. The place of execution, the widths and the open
--- calls are not the operation's: they go by its flow and its width effect (Step).
+-- What each operation does with its data: manual 4.2, a line an instruction. The place of execution, the widths and the
+-- open calls are not the operation's: they go by its flow and its width effect (Step).
 -- Assumes nothing.
 use Prim.Native.Nat.{ℕ, _+_, _-_, _/_, _%_}
 use mathlib.Core.Bool.{Bool, true, false, not}
@@ -109,7 +109,8 @@ modifiesBy Instruction named short address carry v r =
 modifiesBy Register named short address carry v r =
     only (loads named (bits short) v (withStatus (withCarry carry (r .status)) r))
 
--- SEB, CLB, BBS, BBC and LDM have immediate data behind an address of one byte or of two: how many numbers that address can be
+-- SEB, CLB, BBS, BBC and LDM have immediate data behind an address of one byte or of two: how many numbers that address
+-- can be
 abbrev pub addressSize : Mode → ℕ
 addressSize Implied = 1
 addressSize Immediate = 1
@@ -143,8 +144,9 @@ addressSize BlockTransfer = 1
 abbrev pub behindAddress : Mode → Bool → ℕ → ℕ
 behindAddress mode short operand = low (bits short) (operand / addressSize mode)
 
--- An operation at its data: `named` is the accumulator that the entry names, `short` the width of its data, which has `n` bits,
--- `operand` the number behind its code, `next` the address after the instruction, `v` the data and `address` its place.
+-- An operation at its data: `named` is the accumulator that the entry names, `short` the width of its data, which has
+-- `n` bits, `operand` the number behind its code, `next` the address after the instruction, `v` the data and `address`
+-- its place.
 module _ (mode : Mode) (named : Accumulator) (short : Bool) (operand next : ℕ) (d : Data) (r : Registers) where
   abbrev pub v : ℕ
   v = d .value

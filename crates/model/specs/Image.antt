@@ -72,8 +72,8 @@ markAt marks base address = pick (leb base address) (getD marks (address - base)
 abbrev pub inBankOf : ℕ → ℕ → ℕ
 inBankOf address low = address / bankSize * bankSize + low
 
--- number 3: 'At the reset address stands a start with m=0, x=0, return kind 0.' With the form of a mark that is mark 01.
--- 'The reset address is a 16-bit address in that bank.'
+-- number 3: 'At the reset address stands a start with m=0, x=0, return kind 0.' With the form of a mark that is mark
+-- 01. 'The reset address is a 16-bit address in that bank.'
 unfoldable pub resetFits : List ℕ → ℕ → ℕ → Bool
 resetFits marks base reset =
     ltb reset bankSize && eqb (markAt marks base (inBankOf base reset)) (markOf 0 0 0 0 0)

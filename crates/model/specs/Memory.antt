@@ -1,5 +1,6 @@
--- Memory: 01, 'RAM is 1 to 4,096 bytes from address 000000; the image lies above it. Image bytes may be read as data. Nothing
--- else is mapped.' What a step reads is an action, which names its addresses in their order; what it stores is a list.
+-- Memory: 01, 'RAM is 1 to 4,096 bytes from address 000000; the image lies above it. Image bytes may be read as data.
+-- Nothing else is mapped.' What a step reads is an action, which names its addresses in their order; what it stores is
+-- a list.
 -- Assumes nothing.
 use Prim.Native.Nat.{ℕ, _+_, _-_, _*_}
 use mathlib.Core.Bool.{Bool, true, false, _&&_}

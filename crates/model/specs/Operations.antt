@@ -19,7 +19,19 @@ use Rattle.model.specs.declared.code.Operation.the-variants.{TAD, TAS, T
 use Rattle.model.specs.declared.code.Operation.the-variants.{TDB, TSA, TSB, TSX, TXA, TXB, TXS, TXY, TYA}
 use Rattle.model.specs.declared.code.Operation.the-variants.{TYB, TYX, WIT, XAB}
 
--- an operation's place in the manual's alphabetical order (4.2), counted from 1; 0 for an unassigned code
+-- the manual's alphabetical order (4.2), behind an unassigned code
+abbrev pub operations : List Operation
+operations =
+    Unassigned ∷
+    ADC ∷ AND ∷ ASL ∷ BBC ∷ BBS ∷ BCC ∷ BCS ∷ BEQ ∷ BMI ∷ BNE ∷ BPL ∷ BRA ∷ BRK ∷ BVC ∷ BVS ∷ CLB ∷
+    CLC ∷ CLI ∷ CLM ∷ CLP ∷ CLV ∷ CMP ∷ CPX ∷ CPY ∷ DEC ∷ DEX ∷ DEY ∷ DIV ∷ EOR ∷ INC ∷ INX ∷ INY ∷
+    JMP ∷ JSR ∷ LDA ∷ LDM ∷ LDT ∷ LDX ∷ LDY ∷ LSR ∷ MPY ∷ MVN ∷ MVP ∷ NOP ∷ ORA ∷ PEA ∷ PEI ∷ PER ∷
+    PHA ∷ PHB ∷ PHD ∷ PHG ∷ PHP ∷ PHT ∷ PHX ∷ PHY ∷ PLA ∷ PLB ∷ PLD ∷ PLP ∷ PLT ∷ PLX ∷ PLY ∷ PSH ∷
+    PUL ∷ RLA ∷ ROL ∷ ROR ∷ RTI ∷ RTL ∷ RTS ∷ SBC ∷ SEB ∷ SEC ∷ SEI ∷ SEM ∷ SEP ∷ STA ∷ STP ∷ STX ∷
+    STY ∷ TAD ∷ TAS ∷ TAX ∷ TAY ∷ TBD ∷ TBS ∷ TBX ∷ TBY ∷ TDA ∷ TDB ∷ TSA ∷ TSB ∷ TSX ∷ TXA ∷ TXB ∷
+    TXS ∷ TXY ∷ TYA ∷ TYB ∷ TYX ∷ WIT ∷ XAB ∷ []
+
+-- an operation's place in it
 abbrev pub place : Operation → ℕ
 place Unassigned = 0
 place ADC = 1
@@ -162,7 +174,8 @@ abbrev pub ofWord : List Operation
 ofWord =
     PEA ∷ PEI ∷ PER ∷ PHD ∷ PHP ∷ PLD ∷ PLP ∷ TAD ∷ TAS ∷ TBD ∷ TBS ∷ TXS ∷ []
 
--- manual 4.2: instructions without data of one width: control flow, flags, and PSH and PUL, which move several registers
+-- manual 4.2: instructions without data of one width: control flow, flags, and PSH and PUL, which move several
+-- registers
 abbrev pub withoutData : List Operation
 withoutData =
     Unassigned ∷ BCC ∷ BCS ∷ BEQ ∷ BMI ∷ BNE ∷ BPL ∷ BRA ∷ BRK ∷ BVC ∷ BVS ∷ CLC ∷ CLI ∷ CLM ∷

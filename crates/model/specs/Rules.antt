@@ -52,8 +52,8 @@ targetOf Offset16 address n operand = offsetBy 32_768 (nextAddress address n) (o
 targetOf Address16 address n operand = inBankOf address (operand % bankSize)
 targetOf Address24 address n operand = operand % addressLimit
 
--- 'the widths in force after the instruction. Only SEM, CLM, SEP and CLP change them, by their fixed bits': the places of m
--- and x in the status register
+-- 'the widths in force after the instruction. Only SEM, CLM, SEP and CLP change them, by their fixed bits': the places
+-- of m and x in the status register
 abbrev pub setBit : ℕ → ℕ → ℕ
 setBit width bit = pick (eqb bit 1) 1 width
 
@@ -82,8 +82,8 @@ kindNumber ByRtl = 2
 abbrev pub want : ℕ → ℕ → Want
 want address mark = record { address = address; mark = mark }
 
--- 'The target has the caller's widths and kind 1 (JSR) or 2 (JSR long)'; its return widths are its own. `mark` is the caller's,
--- `there` the target's.
+-- 'The target has the caller's widths and kind 1 (JSR) or 2 (JSR long)'; its return widths are its own. `mark` is the
+-- caller's, `there` the target's.
 unfoldable pub markOfRoutine : Kind → ℕ → ℕ → ℕ
 markOfRoutine kind mark there = markOf (markM mark) (markX mark) (kindNumber kind) (returnM there) (returnX there)
 
@@ -97,8 +97,8 @@ markAfter effect operand mark =
     markOf (mAfter effect (markM mark) operand) (xAfter effect (markX mark) operand)
     (markKind mark) (returnM mark) (returnX mark)
 
--- What an instruction owes, by its flow: at which addresses which marks must stand. `mark` is the instruction's own, `after` that
--- of a successor, `there` the mark at the target.
+-- What an instruction owes, by its flow: at which addresses which marks must stand. `mark` is the instruction's own,
+-- `after` that of a successor, `there` the mark at the target.
 unfoldable pub owedBy : Flow → ℕ → ℕ → ℕ → ℕ → ℕ → Owed
 owedBy Next mark after next target there = One (want next after)
 owedBy Branch mark after next target there = Two (want next after) (want target after)
@@ -115,8 +115,8 @@ targetAddress i address = targetOf (i .entry .target) address (i .length) (i .op
 -- what an instruction at an address, with a mark there, owes
 unfoldable pub owedAt : List ℕ → ℕ → Instruction → ℕ → ℕ → Owed
 owedAt marks base i address mark =
-    owedBy (i .entry .flow) mark (markAfter (i .entry .effect) (i .operand) mark) (nextAddress address (i .length)) (targetAddress i address)
-    (markAt marks base (targetAddress i address))
+    owedBy (i .entry .flow) mark (markAfter (i .entry .effect) (i .operand) mark) (nextAddress address (i .length))
+    (targetAddress i address) (markAt marks base (targetAddress i address))
 
 -- what an instruction at a place of the image, with the mark there, owes
 abbrev pub owedThere : List ℕ → ℕ → ℕ → Instruction → Owed
@@ -145,8 +145,8 @@ AllMet marks base Nothing = Unit {0}
 AllMet marks base (One w) = Met marks base w
 AllMet marks base (Two v w) = Met marks base v × Met marks base w
 
--- The rules at one start: its code is carried and the instruction ends within the image; no start on its later bytes; the rule
--- of RTS and RTL; its successors.
+-- The rules at one start: its code is carried and the instruction ends within the image; no start on its later bytes;
+-- the rule of RTS and RTL; its successors.
 pub record StartRules (image marks : List ℕ) (base at : ℕ) : Type 0 where
   pub instruction : Instruction
   pub whole : instructionAt image marks at ≡ Whole instruction

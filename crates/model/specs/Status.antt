@@ -1,4 +1,5 @@
--- The processor status register: 01, 'The places of C, Z, I, D, x, m, V, N belong to the status register and are named with it'.
+-- The processor status register: 01, 'The places of C, Z, I, D, x, m, V, N belong to the status register and are named
+-- with it'.
 -- Assumes nothing.
 use Prim.Native.Nat.{ℕ, _+_, _*_, _/_, _%_}
 use mathlib.Core.Bool.{Bool}
@@ -31,7 +32,8 @@ maskV = 64
 abbrev pub maskN : ℕ
 maskN = 128
 
--- IPL lies above the flags, in three bits; the high byte is kept whole, so that a number with higher bits is known by it
+-- IPL lies above the flags, in three bits; the high byte is kept whole, so that a number with higher bits is known by
+-- it
 abbrev pub levelUnit : ℕ
 levelUnit = 256
 

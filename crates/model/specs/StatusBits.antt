@@ -1,5 +1,6 @@
--- SEP and CLP as steps. Their flags (Arithmetic) and their widths (Rules) go together: the number of the status after the
--- step is its number before, bitwise with the byte behind the code. IPL, above that byte, stays.
+-- SEP and CLP as steps. Their flags (Arithmetic) and their widths (Rules) go together: once fetched, neither stops, and
+-- the number of the status after the step is its number before, bitwise with the byte behind the code. IPL, above that
+-- byte, stays.
 -- Assumes nothing.
 use mathlib.Core.Path.{_≡_}
 use Prim.Native.Nat.{ℕ, _<_}
@@ -7,6 +8,7 @@ use lib.Bits.{bitOr}
 use Rattle.model.specs.declared.code.Operation.the-variants.{CLP, SEP}
 use Rattle.model.specs.declared.code.Instruction.{Instruction}
 use Rattle.model.specs.declared.code.Decoded.the-variants.{Whole}
+use Rattle.model.specs.declared.machine.Answer.the-variants.{Completed}
 use Rattle.model.specs.declared.machine.State.{State}
 use Rattle.model.specs.Status.{numberOf}
 use Rattle.model.specs.AnyWidth.{size, low, clearedBy}
@@ -23,10 +25,11 @@ byteBehind i = low 8 (i .operand)
 abbrev pub SepSets : Type 0
 SepSets =
     (m : Memory) (s : State) (i : Instruction) → fetched m (s .core) ≡ Whole i → i .entry .operation ≡ SEP
-    → ps (step m s .state) ≡ bitOr (ps s) (byteBehind i)
+    → (step m s .answer ≡ Completed) × (ps (step m s .state) ≡ bitOr (ps s) (byteBehind i))
 
 -- manual, CLP: PSL ← PSL ∧ not IMM, as CLB clears bits of data
 abbrev pub ClpClears : Type 0
 ClpClears =
     (m : Memory) (s : State) (i : Instruction) → fetched m (s .core) ≡ Whole i → i .entry .operation ≡ CLP
-    → ps s < size 16 → ps (step m s .state) ≡ clearedBy 16 (byteBehind i) (ps s)
+    → ps s < size 16
+    → (step m s .answer ≡ Completed) × (ps (step m s .state) ≡ clearedBy 16 (byteBehind i) (ps s))

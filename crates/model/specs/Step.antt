@@ -1,10 +1,10 @@
--- One step: 01, 'A step tests: code bytes 20, 21, operand bytes 20, 22, 27, reads 23, then 24 or 25, then stores 23 or 26. .. A
--- stop undoes its whole step.'
+-- One step: 01, 'A step tests: code bytes 20, 21, operand bytes 20, 22, 27, reads 23, then 24 or 25, then stores 23 or
+-- 26. .. A stop undoes its whole step.'
 -- Assumes nothing.
 use Prim.Native.Nat.{ℕ, zero, suc, _+_, _-_, _*_, _/_, _%_}
-use mathlib.Core.Bool.{Bool, true, false, _&&_}
+use mathlib.Core.Bool.{Bool, false, _&&_}
 use mathlib.Core.List.{List, [], _∷_}
-use lib.Dec.{eqb, ltb, leb}
+use lib.Dec.{eqb, ltb}
 use lib.ListN.{length, getD, set}
 use Rattle.model.specs.declared.code.Kind.{Kind}
 use Rattle.model.specs.declared.code.Kind.the-variants.{ByRts, ByRtl}
@@ -34,18 +34,18 @@ use Rattle.model.specs.Image.{bankSize, inBankOf}
 use Rattle.model.specs.Decode.{decode}
 use Rattle.model.specs.Rules.{nextAddress, targetAddress, mAfter, xAfter, kindNumber}
 use Rattle.model.specs.Status.{bit}
-use Rattle.model.specs.Memory.{Memory, memory, Act, ret, _>>=_, Outcome, done, unmapped, come, inImage}
+use Rattle.model.specs.Memory.{Memory, Act, ret, _>>=_, Outcome, done, unmapped, come, inImage}
 use Rattle.model.specs.Memory.{served, stored}
 use Rattle.model.specs.Addressing.{accessOf, isShort, dataOf, pulledAt, pulledWord, pulledLong}
 use Rattle.model.specs.Arithmetic.{withWidths, withStatus, withS}
-use Rattle.model.specs.Effects.{Effect, effectOf, store, pushedAt, pushOf}
+use Rattle.model.specs.Effects.{Effect, effectOf, store, pushedAt}
 
 -- 'at most 64 open calls'
 abbrev pub callLimit : ℕ
 callLimit = 64
 
--- 'each with its 24-bit return address and kind': an open call is one number, the eight bytes of its entry (INTERFACE): four of
--- the address, one of the kind, three that are 0 once a call is opened there
+-- 'each with its 24-bit return address and kind': an open call is one number, the eight bytes of its entry (INTERFACE):
+-- four of the address, one of the kind, three that are 0 once a call is opened there
 abbrev pub entryUnit : ℕ
 entryUnit = 4_294_967_296
 
@@ -137,7 +137,8 @@ module _ (c : Core) (i : Instruction) where
 
   -- an operation works on its data, and goes on where its flow says
   abbrev pub works : (Bool → ℕ) → Data → Plan
-  works goes d = worked (effectOf (i .entry .mode) (i .entry .accumulator) short (i .operand) next d r (i .entry .operation))
+  works goes d =
+      worked (effectOf (i .entry .mode) (i .entry .accumulator) short (i .operand) next d r (i .entry .operation))
     where
       worked : Effect → Plan
       worked e = changes (change (e .registers) (goes (e .taken)) Keep (e .stores))
@@ -150,13 +151,15 @@ module _ (c : Core) (i : Instruction) where
   -- 'A call pushes the address of the instruction after it .., bank first for JSR long, then high byte, then low'
   abbrev pub pushesReturn : Kind → List Store
   pushesReturn ByRts = store (r .s) (next / 256) ∷ store (pushedAt r 1) next ∷ []
-  pushesReturn ByRtl = store (r .s) (next / bankSize) ∷ store (pushedAt r 1) (next / 256) ∷ store (pushedAt r 2) next ∷ []
+  pushesReturn ByRtl =
+      store (r .s) (next / bankSize) ∷ store (pushedAt r 1) (next / 256) ∷ store (pushedAt r 2) next ∷ []
 
   -- 25, 'call with 64 open'
   unfoldable pub calls : Kind → Plan
   calls kind =
       pick (ltb (c .depth) callLimit)
-      (changes (change (withS (pushedAt r (returnBytes kind)) r) target (Open next (kindNumber kind)) (pushesReturn kind)))
+      (changes
+      (change (withS (pushedAt r (returnBytes kind)) r) target (Open next (kindNumber kind)) (pushesReturn kind)))
       (stops Deep)
 
   -- 'the return pulls it and goes there'; RTS stays in the instruction's bank
@@ -173,7 +176,8 @@ module _ (c : Core) (i : Instruction) where
 
   unfoldable pub returnsTo : ℕ → Kind → ℕ → Plan
   returnsTo open-call kind address =
-      pick (isReturn open-call kind address) (changes (change (withS (pulledAt r (returnBytes kind)) r) address Close []))
+      pick (isReturn open-call kind address)
+      (changes (change (withS (pulledAt r (returnBytes kind)) r) address Close []))
       (stops Astray)
 
   -- by flow; 22, 'STP or WIT'

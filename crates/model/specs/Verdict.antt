@@ -1,5 +1,6 @@
--- 01, 'Numbers': which number the check gives, and where. 'The check tests 1, 2, 4, 3, then each start in turn from the lowest,
--- for 5, 6, 7, 10, 8, 9. It also returns the offset of that start (of the lowest bad mark for 4; 0 for 1, 2, 3).'
+-- 01, 'Numbers': which number the check gives, and where. 'The check tests 1, 2, 4, 3, then each start in turn from the
+-- lowest, for 5, 6, 7, 10, 8, 9. It also returns the offset of that start (of the lowest bad mark for 4; 0 for 1, 2,
+-- 3).'
 -- Assumes nothing.
 use Prim.Native.Nat.{ℕ, zero, suc, _+_, _-_}
 use mathlib.Core.Bool.{Bool, true, not, _&&_}

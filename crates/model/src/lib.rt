@@ -1,4 +1,5 @@
-// The types that the definitions in specs/ and every crate above share. The definitions are the substance of this crate.
+// The types that the definitions in specs/ and every crate above share. The definitions are the substance of this
+// crate.
 pub mod addresses;
 pub mod code;
 pub mod lists;

@@ -4,8 +4,8 @@ ghost use mathlib.Core.Path.{_≡_};
 ghost use Prim.Native.Nat.{_≤_};
 ghost use Rattle.model.specs.Status.{statusOf, numberOf, bit};
 
-// The processor status register, a field for each flag and one for its high byte: the interrupt priority level, and above it
-// five bits that are 0 in every state that a run takes (manual 2.9).
+// The processor status register, a field for each flag and one for its high byte: the interrupt priority level, and
+// above it five bits that are 0 in every state that a run takes (manual 2.9).
 pub struct Status {
     pub carry: bool,
     pub zero: bool,
@@ -122,8 +122,8 @@ pub enum Stop {
     Decimal,
 }
 
-// What an operation asks of memory before it works: the data that its addressing mode names, if any; the same, to be added or
-// subtracted; the address alone; data from the stack; a word of the direct page.
+// What an operation asks of memory before it works: the data that its addressing mode names, if any; the same, to be
+// added or subtracted; the address alone; data from the stack; a word of the direct page.
 pub enum Access {
     Operand,
     Addend,
