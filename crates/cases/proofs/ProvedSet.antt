@@ -1,17 +1,20 @@
 -- 01, 'Proved set': every row of the table holds. Verdicts, the list and the steps of a run compute, whatever stands
--- where 01 is silent; a run that stops computes for any number of steps above those that it completes; case 10 is one
--- computed step and the law of a step that changes nothing.
+-- where 01 is silent; a run that stops computes for any number of steps above those that it completes. Case 6 goes step
+-- by step, since its entries do not compute where the number of open calls is not known; case 10 is one computed step
+-- and the law of a step that changes nothing.
 -- Assumes nothing.
 use mathlib.Core.Path.{_≡_, refl, ap}
-use mathlib.Core.Bool.{true}
+use mathlib.Core.Bool.{Bool, true, false}
 use mathlib.Core.List.{List, [], _∷_}
 use Prim.Native.Nat.{ℕ, zero, suc, _+_, _-_, _≤_}
 use native.Mathlib.Omega.{arith}
-use borrow.Author.Tests.{le-leb}
-use lib.Dec.{ltb}
-use lib.ListN.{length}
+use borrow.Author.Tests.{lt-ltb, le-leb}
+use lib.Dec.{eqb, ltb}
+use lib.ListN.{length, getD, set}
+use lib.Seq.{getD-set-same}
 use Rattle.model.specs.declared.machine.State.{State}
-use Rattle.model.specs.declared.machine.Answer.the-variants.{Completed}
+use Rattle.model.specs.declared.machine.Answer.the-variants.{Completed, Called, Stopped}
+use Rattle.model.specs.declared.machine.Stop.the-variants.{Halt}
 use Rattle.model.specs.declared.refusals.TestResult.the-variants.{Passed}
 use Rattle.model.specs.CodePages.{plain, pages}
 use Rattle.model.specs.CodeMap.{entryAt}
@@ -26,22 +29,24 @@ use Rattle.model.specs.Digits.{digit, digits, digitValue, value, startsWith}
 use Rattle.model.specs.MarkList.{decimalDigits, headerText, kindLetter, fields, lengthDigitsShown, headerShown}
 use Rattle.model.specs.MarkList.{isHeader, bitShown, kindShown, fieldsMark, isLine, markShown, lineSize, marksShown}
 use Rattle.model.specs.MarkList.{linesLeft, linesText, marksOf, leftOf, isList, readAs, readList, marksBy, marksRead}
+use Rattle.model.specs.Status.{bit}
 use Rattle.model.specs.Memory.{Memory, memory, byteAt, servedAt}
 use Rattle.model.specs.Addressing.{operandBy, dataOf}
 use Rattle.model.specs.Effects.{effectOf}
-use Rattle.model.specs.Step.{bytesFrom, operates, calls, returnsTo, planBy, stepped, step}
+use Rattle.model.specs.Step.{callLimit, entryOf, bytesFrom, operates, calls, returnsTo, planBy, stepped, step}
 use Rattle.model.specs.Run.{stepLimit, levelLimit, history, ramFits, callsFit, stateFits, admission}
 use Rattle.model.specs.Run.{played, ran}
+use Rattle.model.specs.StateBytes.{coreOf}
 use Rattle.model.specs.Guarantee.{Every}
 use Rattle.model.proofs.Verdict.{both-true}
 use Rattle.model.proofs.RoundTrips.{read-then-written}
 use Rattle.model.proofs.Run.{admitted-ran}
 use Rattle.cases.specs.Rows.{listOf, Silent, Named, Claim, listed, does, stops, returns, Row, Listed, RanTo}
 use Rattle.cases.specs.Rows.{Claimed, Holds}
-use Rattle.cases.specs.ProvedSet.{widthImage, widthMarks, widthList, callImage, ram, fromReset, begun}
+use Rattle.cases.specs.ProvedSet.{widthMarks, widthList, ram, fromReset, begun}
 use Rattle.cases.specs.ProvedSet.{case1, case2, case3, case4, case5, case6, case7, case8, case9, case10}
 use Rattle.cases.specs.ProvedSet.{table, ProvedSet}
-use Rattle.cases.proofs.Returning.{returning}
+use Rattle.cases.proofs.Returning.{goes-by, stops-by, returning}
 
 -- what unfolds this computes with the definitions that the cases reach
 computed : Unit {0}
@@ -51,7 +56,7 @@ unfolding plain pages entryAt judged decodeOn decode isFormed lengthFits baseFit
     startsVerdict verdict digit digits digitValue value startsWith decimalDigits headerText kindLetter fields
     lengthDigitsShown headerShown isHeader bitShown kindShown fieldsMark isLine markShown lineSize marksShown linesLeft
     linesText marksOf leftOf isList readAs readList marksBy marksRead byteAt servedAt operandBy dataOf effectOf
-    bytesFrom operates calls returnsTo planBy step history ramFits
+    bytesFrom operates calls returnsTo planBy step history ramFits callsFit stateFits
 computed = tt
 
 -- ---- from what computes to what is claimed
@@ -106,34 +111,45 @@ length-list-of : (n : ℕ) (f : ℕ → ℕ) → length (listOf n f) ≡ n
 length-list-of zero f = refl
 length-list-of (suc n) f = ap suc (length-list-of n (λ k. f (suc k)))
 
+-- a flag out of its bit again
+same-flag : (flag : Bool) → eqb (bit flag) 1 ≡ flag
+same-flag true = refl
+same-flag false = refl
+
 module _ (v : Silent) where
-  -- a run of a state that fits is not refused
-  admitted : (image : List ℕ) (size : ℕ) (s : State) → lengthFits (length image) (length image) ≡ true
-      → baseFits 0x00C000 (length image) ≡ true → ramFits size 0x00C000 ≡ true → stateFits s ≡ true
-      → (n : ℕ) → n ≤ stepLimit → admission (memory (ram v size) image 0x00C000) s n ≡ Passed
+  -- a state that fits is taken
+  taken : (r : Row) (size : ℕ) (s : State) → lengthFits (length (r .image)) (length (r .image)) ≡ true
+      → baseFits (r .base) (length (r .image)) ≡ true → ramFits size (r .base) ≡ true → stateFits s ≡ true
+      → Taken r s (ram v size)
   unfolding firstRefusal
-  admitted image size s long based sized fits n few =
+  taken r size s long based sized fits n few =
       rw (long, based, length-list-of size (v .bytes), sized, fits, le-leb n stepLimit few)
 
-  -- from reset, with the silent open calls
-  reset-taken : (image : List ℕ) (a : ℕ) → lengthFits (length image) (length image) ≡ true
-      → baseFits 0x00C000 (length image) ≡ true
-      → (n : ℕ) → n ≤ stepLimit → admission (memory (ram v (v .size)) image 0x00C000) (fromReset v a) n ≡ Passed
-  unfolding stateFits
-  reset-taken image a long based =
-      admitted image (v .size) (fromReset v a) long based (v .size-fits) (v .state-fits)
-
-  -- with no open call the state fits too
-  begun-fits : (s pc : ℕ) → stateFits (begun v s pc) ≡ true
-  unfolding stateFits callsFit firstFrom
-  begun-fits s pc =
-      rw (both-true (ltb (v .core .registers .status .level) levelLimit) _ (both-true _ _ (v .state-fits) .0) .0) refl
-
-  -- with no open call
-  begun-taken : (s pc : ℕ) (n : ℕ) → n ≤ stepLimit
-      → admission (memory (ram v 512) callImage 0x00C000) (begun v s pc) n ≡ Passed
+  -- and so is one with another number of open calls, where these fit
+  begun-taken : (pc s depth : ℕ) → depth ≤ callLimit → callsFit (listOf callLimit (v .entries)) depth ≡ true
+      → Taken (case6 v) (begun v pc s depth) (ram v 512)
   unfolding computed
-  begun-taken s pc = admitted callImage 512 (begun v s pc) refl refl refl (begun-fits s pc)
+  begun-taken pc s depth few fit = taken (case6 v) 512 (begun v pc s depth) refl refl refl fits
+    where
+      fits : stateFits (begun v pc s depth) ≡ true
+      fits =
+          rw (
+            both-true (ltb (v .core .registers .status .level) levelLimit) _ (both-true _ _ (v .state-fits) .0) .0,
+            le-leb depth callLimit few,
+          ) fit
+
+  fewer-taken : (s : ℕ) → Taken (case6 v) (begun v 0xC000 s (v .fewer)) (ram v 512)
+  fewer-taken s = begun-taken 0xC000 s (v .fewer) (omega (arith, v .fewer-below)) (v .fewer-fit)
+
+  -- a call is not 25
+  room : ltb (v .fewer) callLimit ≡ true
+  room = lt-ltb (v .fewer) callLimit (v .fewer-below)
+
+  same-m : eqb (bit (v .core .registers .status .m)) 1 ≡ v .core .registers .status .m
+  same-m = same-flag (v .core .registers .status .m)
+
+  same-x : eqb (bit (v .core .registers .status .x)) 1 ≡ v .core .registers .status .x
+  same-x = same-flag (v .core .registers .status .x)
 
   holds1 : Holds (case1 v)
   unfolding computed
@@ -148,23 +164,26 @@ module _ (v : Silent) where
     ),
   )
 
+  -- from reset
+  reset-taken : (a : ℕ) → Taken (case2 v) (fromReset v a) (ram v (v .size))
+  unfolding computed
+  reset-taken a = taken (case2 v) (v .size) (fromReset v a) refl refl (v .size-fits) (v .state-fits)
+
   holds2 : Holds (case2 v)
   unfolding computed
   holds2 = (
     refl,
-    all-claimed (case2 v) (case2 v .claims)
-        ((reset-taken widthImage 0x0000 refl refl, λ k. ((refl, refl, refl), (refl, tt))), tt),
+    all-claimed (case2 v) (case2 v .claims) ((reset-taken 0x0000, λ k. ((refl, refl, refl), (refl, tt))), tt),
   )
 
   holds3 : Holds (case3 v)
   unfolding computed
   holds3 = (
     refl,
-    let taken = reset-taken widthImage 0x0000 refl refl in
-        all-claimed (case3 v) (case3 v .claims) (
-          (taken, omega arith, ((refl, refl, refl), tt)),
-          ((taken, omega arith, ((refl, refl, refl), ((refl, refl), tt))), tt),
-        ),
+    all-claimed (case3 v) (case3 v .claims) (
+      (reset-taken (v .core .registers .a), omega arith, ((refl, refl, refl), tt)),
+      ((reset-taken (v .core .registers .a), omega arith, ((refl, refl, refl), ((refl, refl), tt))), tt),
+    ),
   )
 
   holds4 : Holds (case4 v)
@@ -175,20 +194,60 @@ module _ (v : Silent) where
   unfolding computed
   holds5 = (refl, tt)
 
+  -- case 6: the entries, the state and the RAM from its call on, then its steps
+  abbrev opened : List ℕ
+  opened = set (listOf callLimit (v .entries)) (v .fewer) (entryOf 0xC003 1)
+
+  abbrev since : ℕ → ℕ → ℕ → State
+  since pc s depth = record { core = begun v pc s depth .core; calls = opened }
+
+  abbrev pushed : List ℕ
+  pushed = set (set (ram v 512) 0x01FF 0xC0) 0x01FE 0x03
+
+  -- what RTS finds opened last
+  last-opened : getD opened (v .fewer + 1 - 1) 0 ≡ entryOf 0xC003 1
+  last-opened =
+      let back : v .fewer + 1 - 1 ≡ v .fewer = omega arith in
+      rw back
+      (getD-set-same (listOf callLimit (v .entries)) (v .fewer) (entryOf 0xC003 1) 0
+      (rw (length-list-of callLimit (v .entries)) (v .fewer-below)))
+
+  jsr : step (on (case6 v) (ram v 512)) (begun v 0xC000 0x01FF (v .fewer))
+      ≡ stepped Called (since 0xC004 0x01FD (v .fewer + 1)) pushed
+  unfolding computed
+  jsr = rw (room, same-m, same-x)
+
+  rts : step (on (case6 v) pushed) (since 0xC004 0x01FD (v .fewer + 1))
+      ≡ stepped Completed (since 0xC003 0x01FF (v .fewer + 1 - 1)) pushed
+  unfolding computed
+  rts = rw (lt-ltb 0 (v .fewer + 1) (omega arith), last-opened, same-m, same-x)
+
+  stp : step (on (case6 v) pushed) (since 0xC003 0x01FF (v .fewer + 1 - 1))
+      ≡ stepped (Stopped Halt) (since 0xC003 0x01FF (v .fewer + 1 - 1)) pushed
+  unfolding computed
+  stp = refl
+
+  runs6 : Every (Computes (case6 v)) (case6 v .claims)
+  runs6 = (
+    (
+      fewer-taken 0x01FF,
+      λ k.
+          rw (goes-by _ _ _ _ jsr refl _ (goes-by _ _ _ _ rts refl _ (stops-by _ _ k _ stp refl)))
+          ((refl, refl, refl), (refl, (refl, tt))),
+    ),
+    tt,
+  )
+
   holds6 : Holds (case6 v)
   unfolding computed
-  holds6 = (
-    refl,
-    all-claimed (case6 v) (case6 v .claims)
-        ((begun-taken 0x01FF 0xC000, λ k. ((refl, refl, refl), (refl, (refl, tt)))), tt),
-  )
+  holds6 = (refl, all-claimed (case6 v) (case6 v .claims) runs6)
 
   holds7 : Holds (case7 v)
   unfolding computed
   holds7 = (
     refl,
     all-claimed (case7 v) (case7 v .claims)
-        ((begun-taken 0x0000 0xC000, λ k. ((refl, refl, refl), ((refl, refl), tt))), tt),
+        ((fewer-taken 0x0000, λ k. rw room ((refl, refl, refl), ((refl, refl), tt))), tt),
   )
 
   holds8 : Holds (case8 v)
@@ -200,8 +259,14 @@ module _ (v : Silent) where
   holds9 = (
     refl,
     all-claimed (case9 v) (case9 v .claims) (
-      (begun-taken 0x01FD 0xC004, λ k. ((refl, refl, refl), tt)),
-      ((begun-taken 0x01FF 0xC004, λ k. ((refl, refl, refl), tt)), tt),
+      (begun-taken 0xC004 0x01FD 0 (omega arith) refl, λ k. ((refl, refl, refl), tt)),
+      (
+        (
+          taken (case9 v) 512 (begun v 0xC004 0x01FF (v .core .depth)) refl refl refl (v .state-fits),
+          λ k. ((refl, refl, refl), tt),
+        ),
+        tt,
+      ),
     ),
   )
 
@@ -209,13 +274,31 @@ module _ (v : Silent) where
   unfolding computed
   holds10 = (
     refl,
-    all-claimed (case10 v) (case10 v .claims)
-        ((reset-taken (case10 v .image) (v .core .registers .a) refl refl, refl), tt),
+    let s = begun v 0xC000 (v .core .registers .s) (v .core .depth) in
+        all-claimed (case10 v) (case10 v .claims) (
+          (taken (case10 v) (v .size) s refl refl (v .size-fits) (v .state-fits), rw (same-m, same-x)),
+          tt,
+        ),
   )
 
   all-hold : Every Holds (table v)
   all-hold =
       (holds1, (holds2, (holds3, (holds4, (holds5, (holds6, (holds7, (holds8, (holds9, (holds10, tt))))))))))
+
+-- there are such a state and such a RAM: the theorem is not empty
+pub some-silent : Silent
+unfolding computed coreOf
+some-silent = record {
+  core = coreOf [];
+  entries = λ k. 0;
+  state-fits = refl;
+  fewer = 0;
+  fewer-below = omega arith;
+  fewer-fit = refl;
+  size = 1;
+  size-fits = refl;
+  bytes = λ k. 0;
+}
 
 pub proved-set : ProvedSet
 proved-set = all-hold

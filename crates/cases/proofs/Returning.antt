@@ -1,8 +1,10 @@
--- A step that completes and leaves state and RAM as they were is followed by itself: by induction a history of n such
--- steps is its one event n times, and what such a list comes to, again by induction, is the start.
+-- Histories by their steps: one whose first step is known; and one of a step that completes and leaves state and RAM as
+-- they were. Such a step is followed by itself: by induction a history of n such steps is its one event n times, and
+-- what such a list comes to, again by induction, is the start.
 -- Assumes nothing.
 use mathlib.Core.Path.{_≡_, refl, ap, _∙_}
-use mathlib.Core.List.{_∷_}
+use mathlib.Core.Bool.{true, false}
+use mathlib.Core.List.{List, [], _∷_}
 use Prim.Native.Nat.{ℕ, zero, suc, _≤_}
 use native.Mathlib.Omega.{arith}
 use lib.ListN.{replicate}
@@ -12,17 +14,36 @@ use Rattle.model.specs.declared.refusals.TestResult.the-variants.{Passed}
 use Rattle.model.specs.declared.runs.End.the-variants.{Done}
 use Rattle.model.specs.declared.runs.RunAnswer.the-variants.{Ended}
 use Rattle.model.specs.Memory.{Memory}
-use Rattle.model.specs.Step.{stepped, step}
-use Rattle.model.specs.Run.{stepLimit, Event, withRam, history, completedSteps, callsAmong, endOf}
+use Rattle.model.specs.Step.{Stepped, stepped, step}
+use Rattle.model.specs.Run.{stepLimit, isCompleted, Event, withRam, history, completedSteps, callsAmong, endOf}
 use Rattle.model.specs.Run.{stateLeft, ramLeft, admission, ran}
 use Rattle.model.specs.Guarantee.{Every}
-use Rattle.model.proofs.Run.{goes-on, admitted-ran}
+use Rattle.model.proofs.Run.{goes-on, stops-there, admitted-ran}
 use Rattle.cases.specs.Rows.{Returns}
+
+-- ---- a history whose first step is known
+
+-- the event of a step from a RAM and a state
+abbrev pub known : Memory → State → Stepped → Event
+known m s r = record { ram = m .ram; state = s; result = r }
+
+module _ (m : Memory) (s : State) (n : ℕ) (r : Stepped) (is : step m s ≡ r) where
+  pub goes-by : isCompleted (r .answer) ≡ true
+      → (rest : List Event) → history (withRam (r .ram) m) (r .state) n ≡ rest
+      → history m s (suc n) ≡ known m s r ∷ rest
+  goes-by c rest more =
+      goes-on m s n (rw is c) ∙ ap (λ r. known m s r ∷ history (withRam (r .ram) m) (r .state) n) is
+      ∙ ap (λ h. known m s r ∷ h) more
+
+  pub stops-by : isCompleted (r .answer) ≡ false → history m s (suc n) ≡ known m s r ∷ []
+  stops-by c = stops-there m s n (rw is c) ∙ ap (λ r. known m s r ∷ []) is
+
+-- ---- a step that changes nothing
 
 module _ (m : Memory) (s : State) where
   -- the event of such a step
   abbrev still : Event
-  still = record { ram = m .ram; state = s; result = stepped Completed s (m .ram) }
+  still = known m s (stepped Completed s (m .ram))
 
   begins : (n : ℕ) → Every (λ e. (e .state ≡ s) × (e .ram ≡ m .ram)) (replicate n still)
   begins zero = tt
@@ -52,10 +73,7 @@ module _ (m : Memory) (s : State) where
     repeated : (n : ℕ) → history m s n ≡ replicate n still
     unfolding history
     repeated zero = refl
-    repeated (suc n) =
-        goes-on m s n (rw same refl)
-        ∙ ap (λ r. record { ram = m .ram; state = s; result = r } ∷ history (withRam (r .ram) m) (r .state) n) same
-        ∙ ap (λ h. still ∷ h) (repeated n)
+    repeated (suc n) = goes-by m s n (stepped Completed s (m .ram)) same refl (replicate n still) (repeated n)
 
     -- a run that is not refused
     run-back : (n : ℕ) → admission m s n ≡ Passed

@@ -5,25 +5,26 @@ use mathlib.Core.Path.{_≡_}
 use Prim.Native.Nat.{ℕ, zero, suc, _≤_, _<_}
 use Prim.Native.Char.{code}
 use Prim.Native.String.{String, len, charAt}
-use mathlib.Core.Bool.{true, false}
+use mathlib.Core.Bool.{true}
 use mathlib.Core.List.{List, [], _∷_, _++_}
 use lib.ListN.{length, getD, drop}
 use Rattle.model.specs.declared.lists.ListRead.the-variants.{Read}
 use Rattle.model.specs.declared.lists.ListWritten.the-variants.{Written}
 use Rattle.model.specs.declared.rules.Verdict.{Verdict}
+use Rattle.model.specs.declared.rules.Verdict.the-variants.{Accepted, Refused}
 use Rattle.model.specs.declared.machine.Registers.{Registers}
 use Rattle.model.specs.declared.machine.Core.{Core}
 use Rattle.model.specs.declared.machine.State.{State}
 use Rattle.model.specs.declared.runs.End.the-variants.{Done}
 use Rattle.model.specs.declared.runs.RunAnswer.{RunAnswer}
 use Rattle.model.specs.declared.runs.RunAnswer.the-variants.{NotRun, Ended}
+use Rattle.model.specs.Refusals.{refusalNumber}
 use Rattle.model.specs.Verdict.{verdict}
 use Rattle.model.specs.MarkList.{readList, marksRead, writeList, pageWritten}
 use Rattle.model.specs.Memory.{Memory, memory}
-use Rattle.model.specs.Arithmetic.{registers, withWidths}
 use Rattle.model.specs.Step.{callLimit}
 use Rattle.model.specs.Run.{stepLimit, history, completedSteps, callsAmong, endOf, endNumber, stateLeft, ramLeft}
-use Rattle.model.specs.Run.{ramFits, stateFits, Ran, ran}
+use Rattle.model.specs.Run.{ramFits, callsFit, stateFits, Ran, ran}
 use Rattle.model.specs.Guarantee.{Every}
 
 -- a list of so many numbers: the one at place k is `f k`
@@ -37,27 +38,32 @@ bytesOf text = listOf (len text) (λ k. code (charAt text k))
 
 -- ---- where a run starts
 
--- Where 01 is silent: the registers and the open calls of a state that a run takes (number 12), how many bytes RAM has
--- (11), and what they are. A case holds whatever these are.
+-- Where 01 is silent: the registers and the open calls of a state that a run takes (number 12); a number of open calls
+-- that leaves room for one more; how many bytes RAM has (11), and what they are. A case holds whatever these are.
 pub record Silent : Type 0 where
   pub core : Core
   pub entries : ℕ → ℕ
   pub state-fits : stateFits (record { core = core; calls = listOf callLimit entries }) ≡ true
+  pub fewer : ℕ
+  pub fewer-below : fewer < callLimit
+  pub fewer-fit : callsFit (listOf callLimit entries) fewer ≡ true
   pub size : ℕ
   pub size-fits : ramFits size 0x00C000 ≡ true
   pub bytes : ℕ → ℕ
 
--- the machine at an address of bank 0 with m=0 and x=0, this A, this S and so many open calls
-abbrev pub stateAt : Silent → ℕ → ℕ → ℕ → ℕ → State
-stateAt v a s depth pc = record {
-  core = record { registers = at (v .core .registers); pc = pc; pg = 0; depth = depth };
+-- the machine with these registers at an address of bank 0, so many calls open
+abbrev pub stateAt : Silent → Registers → ℕ → ℕ → State
+stateAt v r pc depth = record {
+  core = record { registers = r; pc = pc; pg = 0; depth = depth };
   calls = listOf callLimit (v .entries);
 }
-  where
-    at : Registers → Registers
-    at r = registers a (r .b) (r .x) (r .y) s (r .dpr) (r .dt) (withWidths false false (r .status))
 
 -- ---- what a row says
+
+-- the check's verdict: accepted, or refused with a number at an offset
+pub data Judged : Type 0 where
+  accepted : Judged
+  refused : ℕ → ℕ → Judged
 
 -- What a case names of the state and the RAM after a run.
 pub data Named : Type 0 where
@@ -85,10 +91,15 @@ pub record Row : Type 0 where
   pub marks : List ℕ
   pub base : ℕ
   pub reset : ℕ
-  pub judged : Verdict
+  pub judged : Judged
   pub claims : List Claim
 
 -- ---- when a row holds
+
+-- a verdict with its number
+abbrev pub judgedAs : Verdict → Judged
+judgedAs Accepted = accepted
+judgedAs (Refused why offset) = refused (refusalNumber why) offset
 
 -- the list is written for the marks, into every page that has room, and read as them, base and reset
 pub record Listed (r : Row) (text : List ℕ) : Type 0 where
@@ -135,4 +146,5 @@ Claimed r (stops s ram stop steps calls after) =
 Claimed r (returns s ram) = (n : ℕ) → Returns (memory ram (r .image) (r .base)) s n
 
 abbrev pub Holds : Row → Type 0
-Holds r = (verdict (r .image) (r .marks) (r .base) (r .reset) ≡ r .judged) × Every (Claimed r) (r .claims)
+Holds r =
+    (judgedAs (verdict (r .image) (r .marks) (r .base) (r .reset)) ≡ r .judged) × Every (Claimed r) (r .claims)
