@@ -1,2 +1,2 @@
--- The law about the packed pages that the decoder cites.
+-- The laws about the packed pages that others cite.
 pub mod Unpacked

@@ -1,10 +1,14 @@
--- What a page's number keeps is the entry of the definition. antt computes the unpacked pages and the pages of entries, and
--- finds them the same list; a look-up then goes through the maps that made them.
+-- What a page's number keeps is the entry of the definition. antt computes the unpacked pages and the pages of entries,
+-- and finds them the same list; a look-up then goes through the maps that made them.
 -- Assumes nothing.
 use mathlib.Core.Path.{_≡_, refl, sym, ap, _∙_}
 use mathlib.Core.List.{List, [], map}
+use mathlib.Core.Bool.{true}
 use Prim.Native.Nat.{ℕ, zero, suc, _/_, _%_}
+use borrow.Author.Tests.{eqb-true}
+use lib.Dec.{eqb}
 use lib.ListN.{getD, List·getD-map}
+use Rattle.model.specs.declared.code.WidthEffect.{WidthEffect}
 use Rattle.model.specs.CodePages.{Form, none, plain, behind42, behind89, pages}
 use Rattle.model.specs.CodeMap.{entryOf, entryAt}
 use Rattle.codepages.specs.Packing.{unpacked, packed, packedPage, numbers, numberAt}
@@ -39,3 +43,8 @@ unpacked-at zero code = cell-same 0 plain refl refl refl (code / 16) (code % 16)
 unpacked-at (suc zero) code = cell-same 1 behind42 refl refl refl (code / 16) (code % 16)
 unpacked-at (suc (suc zero)) code = cell-same 1 behind89 refl refl refl (code / 16) (code % 16)
 unpacked-at (suc (suc (suc page))) code = refl
+
+-- the first of the effects keeps the widths
+pub kept-effect : (n : ℕ) → eqb (n / 2_097_152 % 8) 0 ≡ true → unpacked n .effect ≡ WidthEffect.KeepWidths
+unfolding unpacked
+kept-effect n e = rw (eqb-true (n / 2_097_152 % 8) 0 e)

@@ -1,24 +1,12 @@
--- How the code keeps an entry of the code map in one number of 32 bits: its fields side by side, each as a place in a list.
--- Nothing here is said of the MELPS 7700; that stands in the crate model.
+-- How the code keeps an entry of the code map in one number of 32 bits: its fields side by side, each as a place in a
+-- list. Nothing here is said of the MELPS 7700; that stands in the crate model.
 -- Assumes nothing.
 use Prim.Native.Nat.{ℕ, _+_, _*_, _/_, _%_}
 use mathlib.Core.Bool.{Bool, true, false}
 use mathlib.Core.List.{List, [], _∷_, map}
 use lib.Dec.{eqb}
 use lib.ListN.{getD}
-use Rattle.model.specs.declared.code.Operation.{Operation}
 use Rattle.model.specs.declared.code.Operation.the-variants.{Unassigned}
-use Rattle.model.specs.declared.code.Operation.the-variants.{ADC, AND, ASL, BBC, BBS, BCC, BCS, BEQ, BMI, BNE}
-use Rattle.model.specs.declared.code.Operation.the-variants.{BPL, BRA, BRK, BVC, BVS, CLB, CLC, CLI, CLM, CLP}
-use Rattle.model.specs.declared.code.Operation.the-variants.{CLV, CMP, CPX, CPY, DEC, DEX, DEY, DIV, EOR, INC}
-use Rattle.model.specs.declared.code.Operation.the-variants.{INX, INY, JMP, JSR, LDA, LDM, LDT, LDX, LDY, LSR}
-use Rattle.model.specs.declared.code.Operation.the-variants.{MPY, MVN, MVP, NOP, ORA, PEA, PEI, PER, PHA, PHB}
-use Rattle.model.specs.declared.code.Operation.the-variants.{PHD, PHG, PHP, PHT, PHX, PHY, PLA, PLB, PLD, PLP}
-use Rattle.model.specs.declared.code.Operation.the-variants.{PLT, PLX, PLY, PSH, PUL, RLA, ROL, ROR, RTI, RTL}
-use Rattle.model.specs.declared.code.Operation.the-variants.{RTS, SBC, SEB, SEC, SEI, SEM, SEP, STA, STP, STX}
-use Rattle.model.specs.declared.code.Operation.the-variants.{STY, TAD, TAS, TAX, TAY, TBD, TBS, TBX, TBY, TDA}
-use Rattle.model.specs.declared.code.Operation.the-variants.{TDB, TSA, TSB, TSX, TXA, TXB, TXS, TXY, TYA, TYB}
-use Rattle.model.specs.declared.code.Operation.the-variants.{TYX, WIT, XAB}
 use Rattle.model.specs.declared.code.Mode.{Mode}
 use Rattle.model.specs.declared.code.Mode.the-variants.{Implied, Immediate, Accumulator as ACC, Direct}
 use Rattle.model.specs.declared.code.Mode.the-variants.{DirectBit, DirectIndexedX, DirectIndexedY}
@@ -46,21 +34,11 @@ use Rattle.model.specs.declared.code.DataWidth.{DataWidth}
 use Rattle.model.specs.declared.code.DataWidth.the-variants.{NoData, ByM, ByX, Byte, Word}
 use Rattle.model.specs.declared.code.Entry.{Entry}
 use Rattle.model.specs.Operations.{place}
+pub use Rattle.model.specs.Operations.{operations}
 use Rattle.model.specs.CodePages.{Form, plain, behind42, behind89}
 use Rattle.model.specs.CodeMap.{entryOf}
 
 -- each field's values in the order of their numbers
-abbrev pub operations : List Operation
-operations =
-    Unassigned ∷
-    ADC ∷ AND ∷ ASL ∷ BBC ∷ BBS ∷ BCC ∷ BCS ∷ BEQ ∷ BMI ∷ BNE ∷ BPL ∷ BRA ∷ BRK ∷ BVC ∷ BVS ∷ CLB ∷
-    CLC ∷ CLI ∷ CLM ∷ CLP ∷ CLV ∷ CMP ∷ CPX ∷ CPY ∷ DEC ∷ DEX ∷ DEY ∷ DIV ∷ EOR ∷ INC ∷ INX ∷ INY ∷
-    JMP ∷ JSR ∷ LDA ∷ LDM ∷ LDT ∷ LDX ∷ LDY ∷ LSR ∷ MPY ∷ MVN ∷ MVP ∷ NOP ∷ ORA ∷ PEA ∷ PEI ∷ PER ∷
-    PHA ∷ PHB ∷ PHD ∷ PHG ∷ PHP ∷ PHT ∷ PHX ∷ PHY ∷ PLA ∷ PLB ∷ PLD ∷ PLP ∷ PLT ∷ PLX ∷ PLY ∷ PSH ∷
-    PUL ∷ RLA ∷ ROL ∷ ROR ∷ RTI ∷ RTL ∷ RTS ∷ SBC ∷ SEB ∷ SEC ∷ SEI ∷ SEM ∷ SEP ∷ STA ∷ STP ∷ STX ∷
-    STY ∷ TAD ∷ TAS ∷ TAX ∷ TAY ∷ TBD ∷ TBS ∷ TBX ∷ TBY ∷ TDA ∷ TDB ∷ TSA ∷ TSB ∷ TSX ∷ TXA ∷ TXB ∷
-    TXS ∷ TXY ∷ TYA ∷ TYB ∷ TYX ∷ WIT ∷ XAB ∷ []
-
 abbrev pub modes : List Mode
 modes =
     Implied ∷ Immediate ∷ ACC ∷ Direct ∷ DirectBit ∷ DirectIndexedX ∷ DirectIndexedY ∷

@@ -2,8 +2,9 @@ ghost use mathlib.Core.Path.{_≡_};
 ghost use Prim.Native.Nat.{_<_};
 ghost use Rattle.codepages.specs.Packing.{numbers, numberAt};
 
-// The three code pages as numbers: each entry's fields side by side in 32 bits, so that a decoder loads one number. A constant
-// adds up what an operation, a mode or an accumulator puts into an entry; specs/Packing.antt says where each field stands.
+// The three code pages as numbers: each entry's fields side by side in 32 bits, so that a decoder loads one number. A
+// constant adds up what an operation, a mode or an accumulator puts into an entry; specs/Packing.antt says where each
+// field stands.
 
 // One step of each field.
 const MODE: u32 = 128;

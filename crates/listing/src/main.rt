@@ -1,9 +1,11 @@
-// Writes the listing of the code map: a line for each of the 768 entries (PAGE CODE WORD REGISTER MODE L00 L01 L10 L11 CARRIED).
+// Writes the listing of the code map: a line for each of the 768 entries (PAGE CODE WORD REGISTER MODE L00 L01 L10 L11
+// CARRIED).
 use codepages::CodePages;
+use codepages::number_at;
 use codepages::pages;
 use decoder::entry_at;
 use decoder::length_at;
-use entries::words::word;
+use entries::operations::word_of;
 use libc::STDOUT_FILENO;
 use model::code::Accumulator;
 use model::code::Entry;
@@ -85,15 +87,14 @@ fn say_length(entry: Entry, m: u8, x: u8)
     say_digit(length_at(entry, m, x));
 }
 
-fn say_entry(entry: Entry)
+fn say_entry(n: u32, entry: Entry)
     requires { ⌜ entry .bytes ≤ 6 ⌝ }
 {
-    let operation = entry.operation;
     let accumulator = entry.accumulator;
     let mode = entry.mode;
     let carried = entry.carried;
     say(b" ");
-    say(&word(operation));
+    say(&word_of(n));
     say_accumulator(accumulator);
     say_mode(mode);
     say_length(entry, 0, 0);
@@ -125,7 +126,7 @@ fn say_line(codes: &CodePages, page: usize, code: u8)
     let entry = entry_at(codes, page, code);
     let operation = entry.operation;
     if is_assigned(operation) {
-        say_entry(entry);
+        say_entry(number_at(codes, page, code), entry);
     } else {
         say(b" - - - 0 0 0 0 no\n");
     }

@@ -1,4 +1,5 @@
--- The constants of src/lib.rt add up to the numbers of the definition's 768 entries: antt compares them number by number.
+-- The constants of src/lib.rt add up to the numbers of the definition's 768 entries: antt compares them number by
+-- number.
 -- Assumes nothing.
 use Rattle.model.proofs.Table.{same-pages}
 use Rattle.codepages.specs.Packing.{numbers}

@@ -9,19 +9,14 @@ returns : tie.Need-returns
 unfolding unpacked
 returns c =
     rw (
-      c .before .before .before .before .before .before .before .before .before .operation-at .ensures,
-      c .before
-          .before .before .before .before .before .before .before .mode-of .ensures,
-      c .before .before .before .before
-          .before .before .before .accumulator-of .ensures,
-      c .before .before .before .before .before .before .is-carried
-          .ensures,
+      c .before .before .before .before .before .before .before .before .before .operation-of .ensures,
+      c .before .before .before .before .before .before .before .before .mode-of .ensures,
+      c .before .before .before .before .before .before .before .accumulator-of .ensures,
+      c .before .before .before .before .before .before .is-carried .ensures,
       c .before .before .before .before .before .flow-of .ensures,
-      c .before .before .before .before
-          .target-form-of .ensures,
+      c .before .before .before .before .target-form-of .ensures,
       c .before .before .before .effect-of .ensures,
-      c .before .before .bytes-of .ensures
-          .0,
+      c .before .before .bytes-of .ensures .0,
       c .before .rule-of .ensures,
       c .width-of .ensures,
     )
