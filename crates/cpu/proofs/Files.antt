@@ -38,7 +38,8 @@ put-in (a ∷ b ∷ x ∷ y ∷ s ∷ d ∷ t ∷ p ∷ []) (suc (suc (suc (suc 
 put-in (a ∷ b ∷ x ∷ y ∷ s ∷ d ∷ t ∷ p ∷ []) (suc (suc (suc (suc (suc zero))))) v e h = refl
 put-in (a ∷ b ∷ x ∷ y ∷ s ∷ d ∷ t ∷ p ∷ []) (suc (suc (suc (suc (suc (suc zero)))))) v e h = refl
 put-in (a ∷ b ∷ x ∷ y ∷ s ∷ d ∷ t ∷ p ∷ []) (suc (suc (suc (suc (suc (suc (suc zero))))))) v e h = refl
-put-in (a ∷ b ∷ x ∷ y ∷ s ∷ d ∷ t ∷ p ∷ []) (suc (suc (suc (suc (suc (suc (suc (suc i)))))))) v e h = absurd (omega arith)
+put-in (a ∷ b ∷ x ∷ y ∷ s ∷ d ∷ t ∷ p ∷ []) (suc (suc (suc (suc (suc (suc (suc (suc i)))))))) v e h =
+    absurd (omega arith)
 put-in (a ∷ b ∷ x ∷ y ∷ s ∷ d ∷ t ∷ p ∷ q ∷ rest) i v e h = absurd (omega arith)
 
 -- two registers and then the status

@@ -1,10 +1,9 @@
--- The status register's number with the flags of a mask set or cleared: each flag of an and, an or and an exclusive
--- or is
--- worked out from the two numbers' own, and m and x are not in 207.
+-- The status register's number with the flags of a mask set or cleared: each flag of an and, an or and an exclusive or
+-- is worked out from the two numbers' own, and m and x are not in 207.
 -- Assumes nothing.
 use mathlib.Core.Path.{_≡_, refl, ap, _∙_}
 use mathlib.Core.Bool.{Bool, true, false, not, _&&_, _||_}
-use Prim.Native.Nat.{ℕ, zero, suc, _+_, _/_, _%_, _^_, _≤_, _<_}
+use Prim.Native.Nat.{ℕ, zero, suc, _/_, _%_, _^_, _≤_, _<_}
 use native.Mathlib.Nat.{mod-lt}
 use native.Mathlib.Omega.{arith}
 use lib.Bits.{bitAnd, bitOr, bitXor, and-shr, or-shr, xor-shr}

@@ -8,7 +8,6 @@ use lib.Bits.{bitAnd, bitOr, bitXor}
 use lib.ListN.{getD}
 use Rattle.model.specs.declared.machine.Status.{Status}
 use Rattle.model.specs.declared.machine.Residence.{Residence}
-use Rattle.model.specs.declared.machine.Residence.the-variants.{Memory, Instruction, Register}
 use Rattle.model.specs.AnyWidth.{low, merged, isNegative, sum, difference, isPast, decremented, shiftedLeft}
 use Rattle.model.specs.AnyWidth.{shiftedRight, isOdd, rotated}
 use Rattle.model.specs.Addressing.{bits, pulledAt}
@@ -97,11 +96,11 @@ module _ (file : List ℕ) where
 
     -- what was worked out goes where the data came from
     abbrev pub modifying : Residence → ℕ → Worked → Effect
-    modifying Memory address w =
+    modifying Residence.Memory address w =
         effect (withStatus (withResult n (w .value) (w .status)) (registersOf file))
         (storesOf short address (low n (w .value))) false
-    modifying Instruction address w = loadingWork w
-    modifying Register address w = loadingWork w
+    modifying Residence.Instruction address w = loadingWork w
+    modifying Residence.Register address w = loadingWork w
 
   -- a register off the stack, S behind it
   abbrev pub pulling : ℕ → Bool → ℕ → Status → Effect

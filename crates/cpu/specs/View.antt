@@ -1,4 +1,5 @@
--- An effect as the code has it, two registers and the status by their numbers and its stores by value, as the definition's.
+-- An effect as the code has it, two registers and the status by their numbers and its stores by value, read as the
+-- definition's.
 -- Assumes nothing.
 use Prim.Native.Nat.{ℕ, _<_}
 use mathlib.Core.Bool.{Bool}

@@ -45,7 +45,8 @@ ghost use Rattle.cpu.specs.View.{viewed, Placed, seen};
 pub fn loads(to: usize, short: bool, v: u64, status: u16, registers: &[u16; FILE_SIZE]) -> Effect
     requires { ⌜ to < fileSize ⌝ }
     ensures { λ r. ⌜
-        (viewed r (registersOf (now (registers .entry))) ≡ rows.loading (now (registers .entry)) to short v (statusOf status))
+        (viewed r (registersOf (now (registers .entry)))
+        ≡ rows.loading (now (registers .entry)) to short v (statusOf status))
         × Placed r
         ⌝ }
 {
@@ -62,7 +63,7 @@ pub struct Worked {
     pub status: u16,
 }
 
-// ADC
+// ADC: the sum, its C and its V.
 fn added(short: bool, a: u16, v: u16, status: u16) -> Worked
     ensures { λ r. ⌜ seen r ≡ rows.added (bits short) a v (statusOf status) ⌝ }
 {
@@ -75,7 +76,7 @@ fn added(short: bool, a: u16, v: u16, status: u16) -> Worked
     }
 }
 
-// SBC
+// SBC: the difference, its C and its V.
 fn subtracted(short: bool, a: u16, v: u16, status: u16) -> Worked
     ensures { λ r. ⌜ seen r ≡ rows.subtracted (bits short) a v (statusOf status) ⌝ }
 {
@@ -88,7 +89,7 @@ fn subtracted(short: bool, a: u16, v: u16, status: u16) -> Worked
     }
 }
 
-// ADC, SBC, AND, ORA, EOR, in the order of their numbers.
+// ADC, SBC, AND, ORA, EOR, in the order of their numbers; any other number is ADC.
 fn combined(which: usize, short: bool, a: u16, v: u16, status: u16) -> Worked
     ensures { λ r. ⌜ seen r ≡ rows.combined which (bits short) a v (statusOf status) ⌝ }
 {
@@ -110,7 +111,7 @@ fn combined(which: usize, short: bool, a: u16, v: u16, status: u16) -> Worked
     }
 }
 
-// ASL, LSR, ROL, ROR, INC, DEC, in the order of their numbers.
+// ASL, LSR, ROL, ROR, INC, DEC, in the order of their numbers; any other number is ASL.
 fn modified(which: usize, short: bool, v: u64, status: u16) -> Worked
     requires { ⌜ v ≤ 65_535 ⌝ }
     ensures { λ r. ⌜ seen r ≡ rows.modified which (bits short) v (statusOf status) ⌝ }
@@ -143,7 +144,7 @@ fn modified(which: usize, short: bool, v: u64, status: u16) -> Worked
     }
 }
 
-// A register and data, combined into the register.
+// A register and data, combined into the register, with N and Z.
 pub fn combines(
     which: usize,
     to: usize,
@@ -162,11 +163,12 @@ pub fn combines(
     loads(to, short, done.value, done.status, registers)
 }
 
-// CMP, CPX, CPY
+// CMP, CPX, CPY: C, N and Z of the difference.
 pub fn compares(from: usize, short: bool, v: u16, registers: &[u16; FILE_SIZE]) -> Effect
     requires { ⌜ from < fileSize ⌝ }
     ensures { λ r. ⌜
-        (viewed r (registersOf (now (registers .entry))) ≡ rows.comparing (now (registers .entry)) from short v) × Placed r
+        (viewed r (registersOf (now (registers .entry))) ≡ rows.comparing (now (registers .entry)) from short v)
+        × Placed r
         ⌝ }
 {
     let rest = difference(short, low(short, wide(registers[from])), v, true);
@@ -174,7 +176,7 @@ pub fn compares(from: usize, short: bool, v: u16, registers: &[u16; FILE_SIZE]) 
     leaves(with_result(short, rest, carried))
 }
 
-// RLA
+// RLA: a register rotated by n bits, and no flag.
 pub fn rotates(to: usize, short: bool, n: u16, registers: &[u16; FILE_SIZE]) -> Effect
     requires { ⌜ to < fileSize ⌝ }
     ensures { λ r. ⌜
@@ -186,7 +188,7 @@ pub fn rotates(to: usize, short: bool, n: u16, registers: &[u16; FILE_SIZE]) -> 
     puts(to, merged(short, old, turned), registers[PS])
 }
 
-// XAB
+// XAB: A and B exchanged, with N and Z of the new A.
 pub fn swaps(short: bool, registers: &[u16; FILE_SIZE]) -> Effect
     ensures { λ r. ⌜
         (viewed r (registersOf (now (registers .entry))) ≡ rows.swapping (now (registers .entry)) short) × Placed r
@@ -208,14 +210,15 @@ pub fn swaps(short: bool, registers: &[u16; FILE_SIZE]) -> Effect
 pub fn pulls(to: usize, short: bool, v: u16, status: u16, registers: &[u16; FILE_SIZE]) -> Effect
     requires { ⌜ to < fileSize ⌝ }
     ensures { λ r. ⌜
-        (viewed r (registersOf (now (registers .entry))) ≡ rows.pulling (now (registers .entry)) to short v (statusOf status))
+        (viewed r (registersOf (now (registers .entry)))
+        ≡ rows.pulling (now (registers .entry)) to short v (statusOf status))
         × Placed r
         ⌝ }
 {
     puts_both(to, v, S, pulled_at(registers[S], bytes(short)), status)
 }
 
-// Data, modified where it came from.
+// Data, modified where it came from, with N and Z.
 pub fn modifies(
     which: usize,
     mode: Mode,

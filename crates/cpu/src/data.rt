@@ -63,6 +63,7 @@ pub fn bit_of(flag: bool) -> u64
     if flag { 1 } else { 0 }
 }
 
+// Data and other data and C, added.
 pub fn sum(a: u16, v: u16, carry: bool) -> u64
     ensures { λ r. ⌜ r ≡ spec.sum a v carry ⌝ }
 {
@@ -77,6 +78,7 @@ fn complement(short: bool, v: u64) -> u64
     size(short) - 1 - v
 }
 
+// Data less other data, and less 1 where C is clear, above 0 by a whole turn of the width.
 pub fn difference(short: bool, a: u16, v: u16, carry: bool) -> u64
     ensures { λ r. ⌜ r ≡ spec.difference (bits short) a v carry ⌝ }
 {
@@ -92,6 +94,7 @@ fn signed(short: bool, v: u16) -> u64
     low(short, turned) as u64
 }
 
+// Whether the sum of two numbers so counted leaves the signed range.
 fn is_outside(short: bool, v: u64) -> bool
     ensures { λ r. ⌜ r ≡ spec.isOutside (bits short) v ⌝ }
 {
@@ -101,12 +104,14 @@ fn is_outside(short: bool, v: u64) -> bool
     half(short) + size(short) <= v
 }
 
+// V of a sum.
 pub fn sum_overflows(short: bool, a: u16, v: u16, carry: bool) -> bool
     ensures { λ r. ⌜ r ≡ spec.sumOverflows (bits short) a v carry ⌝ }
 {
     is_outside(short, signed(short, a) + signed(short, v) + bit_of(carry))
 }
 
+// V of a difference.
 pub fn difference_overflows(short: bool, a: u16, v: u16, carry: bool) -> bool
     ensures { λ r. ⌜ r ≡ spec.differenceOverflows (bits short) a v carry ⌝ }
 {
@@ -116,7 +121,7 @@ pub fn difference_overflows(short: bool, a: u16, v: u16, carry: bool) -> bool
     )
 }
 
-// Whether a number passes the width.
+// C of a sum or a difference: whether it passes the width.
 pub fn is_past(short: bool, v: u64) -> bool
     ensures { λ r. ⌜ r ≡ spec.isPast (bits short) v ⌝ }
 {

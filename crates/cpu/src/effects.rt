@@ -115,6 +115,7 @@ pub fn leaves(status: u16) -> Effect
     puts(PS, 0, status)
 }
 
+// The status, and whether a branch is taken.
 pub fn branches_if(taken: bool, status: u16) -> Effect
     ensures { λ r. ⌜ r ≡ kept 7 0 7 0 status None taken ⌝ }
 {
@@ -129,8 +130,11 @@ pub fn branches_if(taken: bool, status: u16) -> Effect
     }
 }
 
+// Data into memory, and the status.
 pub fn stores_to(short: bool, address: u32, v: u64, status: u16) -> Effect
-    ensures { λ r. ⌜ (r ≡ kept 7 0 7 0 status (r .stores) false) × (listed (r .stores) ≡ spec.storesOf short address v) ⌝ }
+    ensures { λ r. ⌜
+        (r ≡ kept 7 0 7 0 status (r .stores) false) × (listed (r .stores) ≡ spec.storesOf short address v)
+        ⌝ }
 {
     Effect {
         first: PS,
@@ -143,6 +147,7 @@ pub fn stores_to(short: bool, address: u32, v: u64, status: u16) -> Effect
     }
 }
 
+// Data onto the stack, and S below it.
 pub fn pushes(short: bool, v: u64, registers: &[u16; FILE_SIZE]) -> Effect
     ensures { λ r. ⌜
         (viewed r (registersOf (now (registers .entry))) ≡ spec.pushes short v (registersOf (now (registers .entry))))

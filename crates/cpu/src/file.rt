@@ -24,6 +24,7 @@ pub const DT: usize = 6;
 
 pub const PS: usize = 7;
 
+// How many there are.
 pub const FILE_SIZE: usize = 8;
 
 // The accumulator that an entry names, A where it names none.

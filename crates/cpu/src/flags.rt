@@ -10,6 +10,7 @@ ghost use Rattle.model.specs.Addressing.{bits};
 ghost use Rattle.model.specs.Arithmetic as spec;
 ghost use Rattle.model.specs.Status.{isSet, bit, statusOf};
 
+// Whether the flag that a mask names is set.
 pub fn is_set(mask: u16, status: u16) -> bool
     requires { ⌜ 0 < mask ⌝ }
     ensures { λ r. ⌜ r ≡ isSet mask status ⌝ }
@@ -17,7 +18,7 @@ pub fn is_set(mask: u16, status: u16) -> bool
     status / mask % 2 == 1
 }
 
-// A flag as a number.
+// The flag that a mask names, as a number.
 pub fn bit_at(mask: u16, status: u16) -> u8
     requires { ⌜ 0 < mask ⌝ }
     ensures { λ r. ⌜ (r ≡ bit (isSet mask status)) × (r ≤ 1) ⌝ }
@@ -25,19 +26,21 @@ pub fn bit_at(mask: u16, status: u16) -> u8
     (status / mask % 2) as u8
 }
 
+// The status with C put.
 pub fn with_carry(flag: bool, status: u16) -> u16
     ensures { λ r. ⌜ statusOf r ≡ spec.withCarry flag (statusOf status) ⌝ }
 {
     status - status / Status::C % 2 * Status::C + Status::C * bit_of(flag) as u16
 }
 
+// The status with V put.
 pub fn with_overflow(flag: bool, status: u16) -> u16
     ensures { λ r. ⌜ statusOf r ≡ spec.withOverflow flag (statusOf status) ⌝ }
 {
     status - status / Status::V % 2 * Status::V + Status::V * bit_of(flag) as u16
 }
 
-// The widths as numbers, as an instruction's width effect gives them.
+// The status with m and x put, as an instruction's width effect gives them.
 pub fn with_widths(m: u8, x: u8, status: u16) -> u16
     requires { ⌜ (m ≤ 1) × (x ≤ 1) ⌝ }
     ensures { λ r. ⌜ statusOf r ≡ spec.withWidths (eqb m 1) (eqb x 1) (statusOf status) ⌝ }
@@ -45,7 +48,7 @@ pub fn with_widths(m: u8, x: u8, status: u16) -> u16
     status - status / Status::X % 4 * Status::X + Status::M * m as u16 + Status::X * x as u16
 }
 
-// N and Z of a result.
+// The status with N and Z of a result.
 pub fn with_result(short: bool, v: u64, status: u16) -> u16
     ensures { λ r. ⌜ statusOf r ≡ spec.withResult (bits short) v (statusOf status) ⌝ }
 {

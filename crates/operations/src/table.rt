@@ -1,302 +1,258 @@
-// The task of each operation: its action, the action's choice, the register that is put, and what is asked of memory,
-// side by side in one number, so that the machine's step chooses among actions and not among operations. A constant
-// adds up what each puts into the number; specs/Tasks.antt says where each field stands.
-use model::machine::Access;
+// The task of each operation by its number (actions::tasks), a line an operation: a constant is what a part of the task
+// adds to the number.
+use actions::tasks::ACCESS;
+use actions::tasks::ADD;
+use actions::tasks::AND;
+use actions::tasks::BRANCH;
+use actions::tasks::BRANCH_BITS;
+use actions::tasks::CHANGE_BITS;
+use actions::tasks::CHANGE_FLAGS;
+use actions::tasks::CHOICE;
+use actions::tasks::COMPARE;
+use actions::tasks::COUNT;
+use actions::tasks::DESTINATION;
+use actions::tasks::EXCLUSIVE_OR;
+use actions::tasks::LEAVE;
+use actions::tasks::LOAD;
+use actions::tasks::MODIFY;
+use actions::tasks::MOVE;
+use actions::tasks::OR;
+use actions::tasks::PULL;
+use actions::tasks::PULL_WHOLE;
+use actions::tasks::PUSH;
+use actions::tasks::ROTATE;
+use actions::tasks::STORE;
+use actions::tasks::SUBTRACT;
+use actions::tasks::SWAP;
 ghost use mathlib.Core.Path.{_≡_};
-ghost use Prim.Native.Nat.{_<_};
 ghost use Rattle.codepages.specs.Packing.{unpacked};
-ghost use Rattle.operations.specs.Tasks.{unpackedTask};
-ghost use Rattle.operations.specs.Works.{columnOf, Does, Tasked};
+ghost use Rattle.operations.specs.Table.{columnOf, part, Does, Tasked};
 
-// What is done, in alphabetical order: in the order of the numbers LLVM makes a second `match` of an action.
-pub enum Action {
-    Add,
-    And,
-    Branch,
-    BranchBits,
-    ChangeBits,
-    ChangeFlags,
-    Compare,
-    Count,
-    ExclusiveOr,
-    Leave,
-    Load,
-    Modify,
-    Move,
-    Or,
-    Pull,
-    PullWhole,
-    Push,
-    Rotate,
-    Store,
-    Subtract,
-    Swap,
-}
+// What is loaded, moved, stored or pushed, where it is not the data: a register; the operand, the next address and the
+// operand, the program bank, the immediate data behind an address, DT, PS.
+const FROM_A: u32 = 16 * CHOICE;
 
-// Actions by number.
-const LEAVE: u16 = 0;
+const FROM_B: u32 = 17 * CHOICE;
 
-const LOAD: u16 = 1;
+const FROM_X: u32 = 18 * CHOICE;
 
-const MOVE: u16 = 2;
+const FROM_Y: u32 = 19 * CHOICE;
 
-const STORE: u16 = 3;
+const FROM_S: u32 = 20 * CHOICE;
 
-const PUSH: u16 = 4;
+const FROM_DPR: u32 = 21 * CHOICE;
 
-const PULL: u16 = 5;
+const OPERAND: u32 = 1 * CHOICE;
 
-const PULL_WHOLE: u16 = 6;
+const RELATIVE: u32 = 2 * CHOICE;
 
-const ADD: u16 = 7;
+const PROGRAM_BANK: u32 = 3 * CHOICE;
 
-const SUBTRACT: u16 = 8;
+const BEHIND: u32 = 4 * CHOICE;
 
-const AND: u16 = 9;
+const DATA_BANK: u32 = 5 * CHOICE;
 
-const OR: u16 = 10;
-
-const EXCLUSIVE_OR: u16 = 11;
-
-const COMPARE: u16 = 12;
-
-const COUNT: u16 = 13;
-
-const MODIFY: u16 = 14;
-
-const ROTATE: u16 = 15;
-
-const SWAP: u16 = 16;
-
-const CHANGE_BITS: u16 = 17;
-
-const CHANGE_FLAGS: u16 = 18;
-
-const BRANCH: u16 = 19;
-
-const BRANCH_BITS: u16 = 20;
-
-// One step of each field.
-const CHOICE: u16 = 32;
-
-const DESTINATION: u16 = 1_024;
-
-const ACCESS: u16 = 8_192;
-
-// What is loaded, moved, stored or pushed, where it is not the data: a register, or another value.
-const FROM_A: u16 = 16 * CHOICE;
-
-const FROM_B: u16 = 17 * CHOICE;
-
-const FROM_X: u16 = 18 * CHOICE;
-
-const FROM_Y: u16 = 19 * CHOICE;
-
-const FROM_S: u16 = 20 * CHOICE;
-
-const FROM_DPR: u16 = 21 * CHOICE;
-
-const OPERAND: u16 = 1 * CHOICE;
-
-const RELATIVE: u16 = 2 * CHOICE;
-
-const PROGRAM_BANK: u16 = 3 * CHOICE;
-
-const BEHIND: u16 = 4 * CHOICE;
-
-const DATA_BANK: u16 = 5 * CHOICE;
-
-const STATUS: u16 = 6 * CHOICE;
+const STATUS: u32 = 6 * CHOICE;
 
 // Data modified where it came from: in which way.
-const SHIFT_LEFT: u16 = MODIFY;
+const SHIFT_LEFT: u32 = MODIFY;
 
-const SHIFT_RIGHT: u16 = MODIFY + CHOICE;
+const SHIFT_RIGHT: u32 = MODIFY + CHOICE;
 
-const ROTATE_LEFT: u16 = MODIFY + 2 * CHOICE;
+const ROTATE_LEFT: u32 = MODIFY + 2 * CHOICE;
 
-const ROTATE_RIGHT: u16 = MODIFY + 3 * CHOICE;
+const ROTATE_RIGHT: u32 = MODIFY + 3 * CHOICE;
 
-const INCREMENT: u16 = MODIFY + 4 * CHOICE;
+const INCREMENT: u32 = MODIFY + 4 * CHOICE;
 
-const DECREMENT: u16 = MODIFY + 5 * CHOICE;
+const DECREMENT: u32 = MODIFY + 5 * CHOICE;
 
-// Other choices: to count down, a flag, the flag that is changed, N and Z of what is pulled.
-const DOWN: u16 = CHOICE;
+// Other choices: to count down, the flag of a branch, the flag that is changed where it is not by the data, N and Z of
+// what is pulled.
+const DOWN: u32 = CHOICE;
 
-const ZERO: u16 = CHOICE;
+const CARRY: u32 = 0 * CHOICE;
 
-const OVERFLOW: u16 = 6 * CHOICE;
+const ZERO: u32 = CHOICE;
 
-const NEGATIVE: u16 = 7 * CHOICE;
+const OVERFLOW: u32 = 6 * CHOICE;
 
-const MASK_C: u16 = CHOICE;
+const NEGATIVE: u32 = 7 * CHOICE;
 
-const MASK_I: u16 = 2 * CHOICE;
+const MASK_C: u32 = CHOICE;
 
-const MASK_V: u16 = 3 * CHOICE;
+const MASK_I: u32 = 2 * CHOICE;
 
-const FLAGGED: u16 = CHOICE;
+const MASK_V: u32 = 3 * CHOICE;
+
+const FLAGGED: u32 = CHOICE;
 
 // The register that is put; that flags or bits are to be 1.
-const TO_A: u16 = 0 * DESTINATION;
+const TO_A: u32 = 0 * DESTINATION;
 
-const TO_B: u16 = 1 * DESTINATION;
+const TO_B: u32 = 1 * DESTINATION;
 
-const TO_X: u16 = 2 * DESTINATION;
+const TO_X: u32 = 2 * DESTINATION;
 
-const TO_Y: u16 = 3 * DESTINATION;
+const TO_Y: u32 = 3 * DESTINATION;
 
-const TO_S: u16 = 4 * DESTINATION;
+const TO_S: u32 = 4 * DESTINATION;
 
-const TO_DPR: u16 = 5 * DESTINATION;
+const TO_DPR: u32 = 5 * DESTINATION;
 
-const TO_DT: u16 = 6 * DESTINATION;
+const TO_DT: u32 = 6 * DESTINATION;
 
-const SET: u16 = DESTINATION;
+const SET: u32 = DESTINATION;
+
+// The accumulator that the entry names: A, and what B adds to that stands above 16 bits.
+const B_ADDS: u32 = 65_536;
+
+const FROM_NAMED: u32 = FROM_A + B_ADDS * CHOICE;
+
+const TO_NAMED: u32 = TO_A + B_ADDS * DESTINATION;
 
 // What is asked of memory.
-const ADDEND: u16 = ACCESS;
+const ADDEND: u32 = ACCESS;
 
-const ADDRESS: u16 = 2 * ACCESS;
+const ADDRESS: u32 = 2 * ACCESS;
 
-const STACK: u16 = 3 * ACCESS;
+const STACK: u32 = 3 * ACCESS;
 
-const DIRECT_WORD: u16 = 4 * ACCESS;
+const DIRECT_WORD: u32 = 4 * ACCESS;
 
-// A row for each operation: its task where its entry names A or no accumulator, and where it names B.
-pub type TaskTable = [[u16; 2]; 128];
+// A number for each operation: its task where its entry names A or no accumulator, and what is added where it names B.
+pub type TaskTable = [u32; 128];
 
 // The tasks by operation.
 const TASKS: TaskTable = [
-    [LEAVE; 2], // Unassigned
-    [ADD + TO_A + ADDEND, ADD + TO_B + ADDEND], // ADC
-    [AND + TO_A, AND + TO_B], // AND
-    [SHIFT_LEFT + TO_A, SHIFT_LEFT + TO_B], // ASL
-    [BRANCH_BITS; 2], // BBC
-    [BRANCH_BITS + SET; 2], // BBS
-    [BRANCH; 2], // BCC
-    [BRANCH + SET; 2], // BCS
-    [BRANCH + ZERO + SET; 2], // BEQ
-    [BRANCH + NEGATIVE + SET; 2], // BMI
-    [BRANCH + ZERO; 2], // BNE
-    [BRANCH + NEGATIVE; 2], // BPL
-    [LEAVE; 2], // BRA
-    [LEAVE; 2], // BRK
-    [BRANCH + OVERFLOW; 2], // BVC
-    [BRANCH + OVERFLOW + SET; 2], // BVS
-    [CHANGE_BITS; 2], // CLB
-    [CHANGE_FLAGS + MASK_C; 2], // CLC
-    [CHANGE_FLAGS + MASK_I; 2], // CLI
-    [LEAVE; 2], // CLM
-    [CHANGE_FLAGS; 2], // CLP
-    [CHANGE_FLAGS + MASK_V; 2], // CLV
-    [COMPARE + TO_A, COMPARE + TO_B], // CMP
-    [COMPARE + TO_X; 2], // CPX
-    [COMPARE + TO_Y; 2], // CPY
-    [DECREMENT + TO_A, DECREMENT + TO_B], // DEC
-    [COUNT + DOWN + TO_X; 2], // DEX
-    [COUNT + DOWN + TO_Y; 2], // DEY
-    [LEAVE; 2], // DIV
-    [EXCLUSIVE_OR + TO_A, EXCLUSIVE_OR + TO_B], // EOR
-    [INCREMENT + TO_A, INCREMENT + TO_B], // INC
-    [COUNT + TO_X; 2], // INX
-    [COUNT + TO_Y; 2], // INY
-    [LEAVE; 2], // JMP
-    [LEAVE; 2], // JSR
-    [LOAD + TO_A, LOAD + TO_B], // LDA
-    [STORE + BEHIND + ADDRESS; 2], // LDM
-    [MOVE + TO_DT; 2], // LDT
-    [LOAD + TO_X; 2], // LDX
-    [LOAD + TO_Y; 2], // LDY
-    [SHIFT_RIGHT + TO_A, SHIFT_RIGHT + TO_B], // LSR
-    [LEAVE; 2], // MPY
-    [LEAVE; 2], // MVN
-    [LEAVE; 2], // MVP
-    [LEAVE; 2], // NOP
-    [OR + TO_A, OR + TO_B], // ORA
-    [PUSH + OPERAND; 2], // PEA
-    [PUSH + DIRECT_WORD; 2], // PEI
-    [PUSH + RELATIVE; 2], // PER
-    [PUSH + FROM_A; 2], // PHA
-    [PUSH + FROM_B; 2], // PHB
-    [PUSH + FROM_DPR; 2], // PHD
-    [PUSH + PROGRAM_BANK; 2], // PHG
-    [PUSH + STATUS; 2], // PHP
-    [PUSH + DATA_BANK; 2], // PHT
-    [PUSH + FROM_X; 2], // PHX
-    [PUSH + FROM_Y; 2], // PHY
-    [PULL + TO_A + STACK; 2], // PLA
-    [PULL + TO_B + STACK; 2], // PLB
-    [PULL_WHOLE + TO_DPR + STACK; 2], // PLD
-    [LEAVE; 2], // PLP
-    [PULL_WHOLE + FLAGGED + TO_DT + STACK; 2], // PLT
-    [PULL + TO_X + STACK; 2], // PLX
-    [PULL + TO_Y + STACK; 2], // PLY
-    [LEAVE; 2], // PSH
-    [LEAVE; 2], // PUL
-    [ROTATE + TO_A; 2], // RLA
-    [ROTATE_LEFT + TO_A, ROTATE_LEFT + TO_B], // ROL
-    [ROTATE_RIGHT + TO_A, ROTATE_RIGHT + TO_B], // ROR
-    [LEAVE; 2], // RTI
-    [LEAVE; 2], // RTL
-    [LEAVE; 2], // RTS
-    [SUBTRACT + TO_A + ADDEND, SUBTRACT + TO_B + ADDEND], // SBC
-    [CHANGE_BITS + SET; 2], // SEB
-    [CHANGE_FLAGS + MASK_C + SET; 2], // SEC
-    [CHANGE_FLAGS + MASK_I + SET; 2], // SEI
-    [LEAVE; 2], // SEM
-    [CHANGE_FLAGS + SET; 2], // SEP
-    [STORE + FROM_A + ADDRESS, STORE + FROM_B + ADDRESS], // STA
-    [LEAVE; 2], // STP
-    [STORE + FROM_X + ADDRESS; 2], // STX
-    [STORE + FROM_Y + ADDRESS; 2], // STY
-    [MOVE + FROM_A + TO_DPR; 2], // TAD
-    [MOVE + FROM_A + TO_S; 2], // TAS
-    [LOAD + FROM_A + TO_X; 2], // TAX
-    [LOAD + FROM_A + TO_Y; 2], // TAY
-    [MOVE + FROM_B + TO_DPR; 2], // TBD
-    [MOVE + FROM_B + TO_S; 2], // TBS
-    [LOAD + FROM_B + TO_X; 2], // TBX
-    [LOAD + FROM_B + TO_Y; 2], // TBY
-    [LOAD + FROM_DPR + TO_A; 2], // TDA
-    [LOAD + FROM_DPR + TO_B; 2], // TDB
-    [LOAD + FROM_S + TO_A; 2], // TSA
-    [LOAD + FROM_S + TO_B; 2], // TSB
-    [LOAD + FROM_S + TO_X; 2], // TSX
-    [LOAD + FROM_X + TO_A; 2], // TXA
-    [LOAD + FROM_X + TO_B; 2], // TXB
-    [MOVE + FROM_X + TO_S; 2], // TXS
-    [LOAD + FROM_X + TO_Y; 2], // TXY
-    [LOAD + FROM_Y + TO_A; 2], // TYA
-    [LOAD + FROM_Y + TO_B; 2], // TYB
-    [LOAD + FROM_Y + TO_X; 2], // TYX
-    [LEAVE; 2], // WIT
-    [SWAP; 2], // XAB
-    [LEAVE; 2],
-    [LEAVE; 2],
-    [LEAVE; 2],
-    [LEAVE; 2],
-    [LEAVE; 2],
-    [LEAVE; 2],
-    [LEAVE; 2],
-    [LEAVE; 2],
-    [LEAVE; 2],
-    [LEAVE; 2],
-    [LEAVE; 2],
-    [LEAVE; 2],
-    [LEAVE; 2],
-    [LEAVE; 2],
-    [LEAVE; 2],
-    [LEAVE; 2],
-    [LEAVE; 2],
-    [LEAVE; 2],
-    [LEAVE; 2],
-    [LEAVE; 2],
-    [LEAVE; 2],
-    [LEAVE; 2],
-    [LEAVE; 2],
-    [LEAVE; 2],
+    LEAVE, // Unassigned
+    ADD + TO_NAMED + ADDEND, // ADC
+    AND + TO_NAMED, // AND
+    SHIFT_LEFT + TO_NAMED, // ASL
+    BRANCH_BITS, // BBC
+    BRANCH_BITS + SET, // BBS
+    BRANCH + CARRY, // BCC
+    BRANCH + CARRY + SET, // BCS
+    BRANCH + ZERO + SET, // BEQ
+    BRANCH + NEGATIVE + SET, // BMI
+    BRANCH + ZERO, // BNE
+    BRANCH + NEGATIVE, // BPL
+    LEAVE, // BRA
+    LEAVE, // BRK
+    BRANCH + OVERFLOW, // BVC
+    BRANCH + OVERFLOW + SET, // BVS
+    CHANGE_BITS, // CLB
+    CHANGE_FLAGS + MASK_C, // CLC
+    CHANGE_FLAGS + MASK_I, // CLI
+    LEAVE, // CLM
+    CHANGE_FLAGS, // CLP
+    CHANGE_FLAGS + MASK_V, // CLV
+    COMPARE + TO_NAMED, // CMP
+    COMPARE + TO_X, // CPX
+    COMPARE + TO_Y, // CPY
+    DECREMENT + TO_NAMED, // DEC
+    COUNT + DOWN + TO_X, // DEX
+    COUNT + DOWN + TO_Y, // DEY
+    LEAVE, // DIV
+    EXCLUSIVE_OR + TO_NAMED, // EOR
+    INCREMENT + TO_NAMED, // INC
+    COUNT + TO_X, // INX
+    COUNT + TO_Y, // INY
+    LEAVE, // JMP
+    LEAVE, // JSR
+    LOAD + TO_NAMED, // LDA
+    STORE + BEHIND + ADDRESS, // LDM
+    MOVE + TO_DT, // LDT
+    LOAD + TO_X, // LDX
+    LOAD + TO_Y, // LDY
+    SHIFT_RIGHT + TO_NAMED, // LSR
+    LEAVE, // MPY
+    LEAVE, // MVN
+    LEAVE, // MVP
+    LEAVE, // NOP
+    OR + TO_NAMED, // ORA
+    PUSH + OPERAND, // PEA
+    PUSH + DIRECT_WORD, // PEI
+    PUSH + RELATIVE, // PER
+    PUSH + FROM_A, // PHA
+    PUSH + FROM_B, // PHB
+    PUSH + FROM_DPR, // PHD
+    PUSH + PROGRAM_BANK, // PHG
+    PUSH + STATUS, // PHP
+    PUSH + DATA_BANK, // PHT
+    PUSH + FROM_X, // PHX
+    PUSH + FROM_Y, // PHY
+    PULL + TO_A + STACK, // PLA
+    PULL + TO_B + STACK, // PLB
+    PULL_WHOLE + TO_DPR + STACK, // PLD
+    LEAVE, // PLP
+    PULL_WHOLE + FLAGGED + TO_DT + STACK, // PLT
+    PULL + TO_X + STACK, // PLX
+    PULL + TO_Y + STACK, // PLY
+    LEAVE, // PSH
+    LEAVE, // PUL
+    ROTATE + TO_A, // RLA
+    ROTATE_LEFT + TO_NAMED, // ROL
+    ROTATE_RIGHT + TO_NAMED, // ROR
+    LEAVE, // RTI
+    LEAVE, // RTL
+    LEAVE, // RTS
+    SUBTRACT + TO_NAMED + ADDEND, // SBC
+    CHANGE_BITS + SET, // SEB
+    CHANGE_FLAGS + MASK_C + SET, // SEC
+    CHANGE_FLAGS + MASK_I + SET, // SEI
+    LEAVE, // SEM
+    CHANGE_FLAGS + SET, // SEP
+    STORE + FROM_NAMED + ADDRESS, // STA
+    LEAVE, // STP
+    STORE + FROM_X + ADDRESS, // STX
+    STORE + FROM_Y + ADDRESS, // STY
+    MOVE + FROM_A + TO_DPR, // TAD
+    MOVE + FROM_A + TO_S, // TAS
+    LOAD + FROM_A + TO_X, // TAX
+    LOAD + FROM_A + TO_Y, // TAY
+    MOVE + FROM_B + TO_DPR, // TBD
+    MOVE + FROM_B + TO_S, // TBS
+    LOAD + FROM_B + TO_X, // TBX
+    LOAD + FROM_B + TO_Y, // TBY
+    LOAD + FROM_DPR + TO_A, // TDA
+    LOAD + FROM_DPR + TO_B, // TDB
+    LOAD + FROM_S + TO_A, // TSA
+    LOAD + FROM_S + TO_B, // TSB
+    LOAD + FROM_S + TO_X, // TSX
+    LOAD + FROM_X + TO_A, // TXA
+    LOAD + FROM_X + TO_B, // TXB
+    MOVE + FROM_X + TO_S, // TXS
+    LOAD + FROM_X + TO_Y, // TXY
+    LOAD + FROM_Y + TO_A, // TYA
+    LOAD + FROM_Y + TO_B, // TYB
+    LOAD + FROM_Y + TO_X, // TYX
+    LEAVE, // WIT
+    SWAP, // XAB
+    LEAVE, // no operation, from here on
+    LEAVE,
+    LEAVE,
+    LEAVE,
+    LEAVE,
+    LEAVE,
+    LEAVE,
+    LEAVE,
+    LEAVE,
+    LEAVE,
+    LEAVE,
+    LEAVE,
+    LEAVE,
+    LEAVE,
+    LEAVE,
+    LEAVE,
+    LEAVE,
+    LEAVE,
+    LEAVE,
+    LEAVE,
+    LEAVE,
+    LEAVE,
+    LEAVE,
+    LEAVE,
 ];
 
 // The tasks, made once by whoever lends them on: a constant array is copied at each use.
@@ -306,70 +262,20 @@ pub fn tasks() -> TaskTable
     TASKS
 }
 
-// Whether an entry names B.
-fn column_of(n: u32) -> usize
-    ensures { λ r. ⌜ (r ≡ columnOf n) × (r < 2) ⌝ }
+// The task of an operation's two that an entry has.
+fn named(both: u32, n: u32) -> u32
+    ensures { λ r. ⌜ r ≡ part (columnOf n) both ⌝ }
 {
-    if n / 4_096 % 4 == 2 { 1 } else { 0 }
+    if n / 4_096 % 4 == 2 {
+        return both % 65_536 + both / 65_536;
+    }
+    both % 65_536
 }
 
 // The task of an entry.
-pub fn task_at(tasks: &TaskTable, n: u32) -> u16
+pub fn task_at(tasks: &TaskTable, n: u32) -> u32
     requires { ⌜ Tasked (now tasks) ⌝ }
     ensures { λ r. ⌜ Does (unpacked n .accumulator) (unpacked n .operation) r ⌝ }
 {
-    tasks[(n % 128) as usize][column_of(n)]
-}
-
-// Single fields of a task.
-pub fn action_of(task: u16) -> Action
-    ensures { λ r. ⌜ r ≡ unpackedTask task .action ⌝ }
-{
-    match task % 32 {
-        LOAD => Action::Load,
-        MOVE => Action::Move,
-        STORE => Action::Store,
-        PUSH => Action::Push,
-        PULL => Action::Pull,
-        PULL_WHOLE => Action::PullWhole,
-        ADD => Action::Add,
-        SUBTRACT => Action::Subtract,
-        AND => Action::And,
-        OR => Action::Or,
-        EXCLUSIVE_OR => Action::ExclusiveOr,
-        COMPARE => Action::Compare,
-        COUNT => Action::Count,
-        MODIFY => Action::Modify,
-        ROTATE => Action::Rotate,
-        SWAP => Action::Swap,
-        CHANGE_BITS => Action::ChangeBits,
-        CHANGE_FLAGS => Action::ChangeFlags,
-        BRANCH => Action::Branch,
-        BRANCH_BITS => Action::BranchBits,
-        _ => Action::Leave,
-    }
-}
-
-pub fn choice_of(task: u16) -> usize
-    ensures { λ r. ⌜ (r ≡ unpackedTask task .choice) × (r < 32) ⌝ }
-{
-    (task / 32 % 32) as usize
-}
-
-pub fn destination_of(task: u16) -> usize
-    ensures { λ r. ⌜ (r ≡ unpackedTask task .destination) × (r < 8) ⌝ }
-{
-    (task / 1_024 % 8) as usize
-}
-
-pub fn access_of(task: u16) -> Access
-    ensures { λ r. ⌜ r ≡ unpackedTask task .access ⌝ }
-{
-    match task / 8_192 {
-        1 => Access::Addend,
-        2 => Access::Address,
-        3 => Access::Pull,
-        4 => Access::DirectWord,
-        _ => Access::Operand,
-    }
+    named(tasks[(n % 128) as usize], n)
 }

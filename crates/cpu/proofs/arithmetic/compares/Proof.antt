@@ -12,40 +12,26 @@ use Rattle.cpu.proofs.arithmetic.compares.Tie as tie
 
 returns : tie.Need-returns
 returns c =
-    let start = c .before .before .before .before .before .before .before .before .before in
+    let a = c .before .before .before .before .before .before .before .before .before .args in
+    let rest = c .before .before .before .before .before .difference .result in
     rw (c .leaves .ensures) (
-      ap (leaving (start .args .registers .now)) (through (withResult (bits (start .args .short)) (c
-          .before .before .before .before .before .difference .result)) (c .before .with-result .ensures) (c .before
-          .before .with-carry .ensures)) ∙ rw (
+      ap (leaving (a .registers .now)) (through (withResult (bits (a .short)) rest)
+          (c .before .with-result .ensures) (c .before .before .with-carry .ensures))
+          ∙ rw (
             c .before .before .before .before .is-past .ensures,
-            c .before .before
-                .before .before .before .difference .ensures,
-            c .before .before .before .before .before .before .low .ensures
-                .0,
+            c .before .before .before .before .before .difference .ensures,
+            c .before .before .before .before .before .before .low .ensures .0,
             c .before .before .before .before .before .before .before .wide .ensures,
-            c .before .before .before .before
-                .before .before .before .before .wide-arg .given,
+            c .before .before .before .before .before .before .before .before .wide-arg .given,
             c .before .before .before .with-carry-arg .given,
           ) refl,
-      (
-        omega
-            arith,
-        omega arith,
-      ),
+      (omega arith, omega arith),
     )
 
 pub compares-spec : {M : Type 1} → statement M
 compares-spec =
     tie.close
     (tie.spec
-    (λ c. search needs)
-    (λ c. search needs)
-    (λ c κs. search needs)
-    (λ c κs. search needs)
-    (λ c κs. search needs)
-    (λ c κs. search needs)
-    (λ c. search needs)
-    (λ c κs. search needs)
-    (λ c κs. search needs)
-    (λ c κs. search needs)
+    (λ c. search needs) (λ c. search needs) (λ c κs. search needs) (λ c κs. search needs) (λ c κs. search needs)
+    (λ c κs. search needs) (λ c. search needs) (λ c κs. search needs) (λ c κs. search needs) (λ c κs. search needs)
     returns)

@@ -12,17 +12,12 @@ returns c =
       c .puts .ensures,
       c .before .before .merged .ensures,
       c .before .with-result .ensures,
-      c .before .before
-          .before .merged-arg .given,
+      c .before .before .before .merged-arg .given,
     ) (refl, (c .before .before .before .before .pre, omega arith))
 
 pub loads-spec : {M : Type 1} → statement M
 loads-spec =
     tie.close
     (tie.spec
-    (λ c. search needs)
-    (λ c. search needs)
-    (λ c κs. search needs)
-    (λ c κs. search needs)
-    (λ c κs. search needs)
+    (λ c. search needs) (λ c. search needs) (λ c κs. search needs) (λ c κs. search needs) (λ c κs. search needs)
     returns)

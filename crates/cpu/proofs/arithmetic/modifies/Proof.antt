@@ -7,7 +7,7 @@ use Rattle.memory.specs.Listed.{listed}
 use Rattle.model.specs.Effects.{effect}
 use Rattle.model.specs.Addressing.{bits}
 use Rattle.model.specs.Arithmetic.{withStatus}
-use Rattle.model.specs.declared.machine.Residence.the-variants.{Memory, Instruction, Register}
+use Rattle.model.specs.declared.machine.Residence.{Residence}
 use Rattle.cpu.specs.File.{registersOf}
 use Rattle.cpu.specs.Rows.{status, modified, modifying}
 use borrow.Author.Needs.{needs}
@@ -30,7 +30,7 @@ returns c =
             c .before .before .wide2 .ensures,
             c .before .before .before .low .ensures .0,
           ) refl)
-          ∙ ap (modifying (a .registers .now) (a .to) (a .short) Memory (a .given .address))
+          ∙ ap (modifying (a .registers .now) (a .to) (a .short) Residence.Memory (a .given .address))
           (c .before .before .before .before .before .before .before .modified .ensures
           ∙ ap (λ v. modified (a .which) (bits (a .short)) v (status (a .registers .now)))
           (c .before .before .before .before .before .before .before .before .before .wide .ensures)),
@@ -42,7 +42,7 @@ returns-2 c =
     let a = c .before .before .before .before .before .before .before .args in
     rw (← c .before .before .before .residence-of .ensures, c .before .enum-told2 .given .1) (
       c .loads .ensures .0
-          ∙ ap (modifying (a .registers .now) (a .to) (a .short) Instruction (a .given .address))
+          ∙ ap (modifying (a .registers .now) (a .to) (a .short) Residence.Instruction (a .given .address))
           (c .before .before .before .before .modified .ensures
           ∙ ap (λ v. modified (a .which) (bits (a .short)) v (status (a .registers .now)))
           (c .before .before .before .before .before .before .wide .ensures)),
@@ -54,7 +54,7 @@ returns-3 c =
     let a = c .before .before .before .before .before .before .before .args in
     rw (← c .before .before .before .residence-of .ensures, c .before .enum-told3 .given .1) (
       c .loads2 .ensures .0
-          ∙ ap (modifying (a .registers .now) (a .to) (a .short) Register (a .given .address))
+          ∙ ap (modifying (a .registers .now) (a .to) (a .short) Residence.Register (a .given .address))
           (c .before .before .before .before .modified .ensures
           ∙ ap (λ v. modified (a .which) (bits (a .short)) v (status (a .registers .now)))
           (c .before .before .before .before .before .before .wide .ensures)),

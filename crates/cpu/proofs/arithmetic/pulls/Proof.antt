@@ -12,16 +12,11 @@ returns c =
       c .puts-both .ensures,
       c .before .pulled-at .ensures,
       c .before .before .bytes .ensures,
-      c .before .before
-          .before .pulled-at-arg .given,
+      c .before .before .before .pulled-at-arg .given,
     ) (refl, (c .before .before .before .before .pre, omega arith))
 
 pub pulls-spec : {M : Type 1} → statement M
 pulls-spec =
     tie.close
     (tie.spec
-    (λ c. search needs)
-    (λ c κs. search needs)
-    (λ c κs. search needs)
-    (λ c κs. search needs)
-    returns)
+    (λ c. search needs) (λ c κs. search needs) (λ c κs. search needs) (λ c κs. search needs) returns)

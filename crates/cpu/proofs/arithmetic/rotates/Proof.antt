@@ -12,31 +12,15 @@ returns c =
       c .puts .ensures,
       c .before .before .merged .ensures,
       c .before .before .before .rotated .ensures,
-      c .before
-          .before .before .before .low .ensures .0,
+      c .before .before .before .before .low .ensures .0,
       c .before .before .before .before .before .wide .ensures,
-      c .before
-          .before .before .before .before .before .old .given,
+      c .before .before .before .before .before .before .old .given,
       c .before .puts-arg .given,
-    ) (
-      refl,
-      (
-        c .before .before
-            .before .before .before .before .before .pre,
-        omega arith,
-      ),
-    )
+    ) (refl, (c .before .before .before .before .before .before .before .pre, omega arith))
 
 pub rotates-spec : {M : Type 1} → statement M
 rotates-spec =
     tie.close
     (tie.spec
-    (λ c. search needs)
-    (λ c. search needs)
-    (λ c κs. search needs)
-    (λ c κs. search needs)
-    (λ c κs. search needs)
-    (λ c κs. search needs)
-    (λ c. search needs)
-    (λ c κs. search needs)
-    returns)
+    (λ c. search needs) (λ c. search needs) (λ c κs. search needs) (λ c κs. search needs) (λ c κs. search needs)
+    (λ c κs. search needs) (λ c. search needs) (λ c κs. search needs) returns)

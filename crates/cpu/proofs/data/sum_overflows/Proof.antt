@@ -1,4 +1,4 @@
--- The signed numbers' sum or difference, against the range.
+-- The signed numbers' sum, against the range.
 -- Assumes nothing.
 use borrow.Author.Needs.{needs}
 use Rattle.cpu.proofs.data.sum_overflows.Statement.{statement}

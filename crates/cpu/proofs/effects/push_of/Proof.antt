@@ -11,8 +11,7 @@ returns c =
       c .store .ensures,
       c .before .wide .ensures,
       c .before .before .if1 .taken,
-      c .before .before .before .s
-          .given,
+      c .before .before .before .s .given,
     ) refl
 
 returns-2 : tie.Need-returns-2
@@ -21,24 +20,14 @@ returns-2 c =
       c .store3 .ensures,
       c .before .store2 .ensures,
       c .before .before .wide2 .ensures,
-      c .before .before .before
-          .pushed-at .ensures,
+      c .before .before .before .pushed-at .ensures,
       c .before .before .before .before .if1 .left,
-      c .before .before .before .before .before .s
-          .given,
+      c .before .before .before .before .before .s .given,
     ) refl
 
 pub push-of-spec : {M : Type 1} → statement M
 push-of-spec =
     tie.close
     (tie.spec
-    (λ c. search needs)
-    (λ c κs. search needs)
-    (λ c κs. search needs)
-    returns
-    (λ c κs. search needs)
-    (λ c. search needs)
-    (λ c κs. search needs)
-    (λ c κs. search needs)
-    (λ c κs. search needs)
-    returns-2)
+    (λ c. search needs) (λ c κs. search needs) (λ c κs. search needs) returns (λ c κs. search needs)
+    (λ c. search needs) (λ c κs. search needs) (λ c κs. search needs) (λ c κs. search needs) returns-2)

@@ -12,8 +12,7 @@ returns c = (
     ← c .push-of .ensures,
     c .before .before .pushed-at .ensures,
     c .before .before .before .bytes .ensures,
-    c
-        .before .before .before .before .pushed-at-arg .given,
+    c .before .before .before .before .pushed-at-arg .given,
     c .before .t11 .given,
   ) refl,
   (omega arith, omega arith),
@@ -23,9 +22,5 @@ pub pushes-spec : {M : Type 1} → statement M
 pushes-spec =
     tie.close
     (tie.spec
-    (λ c. search needs)
-    (λ c κs. search needs)
-    (λ c κs. search needs)
-    (λ c. search needs)
-    (λ c κs. search needs)
+    (λ c. search needs) (λ c κs. search needs) (λ c κs. search needs) (λ c. search needs) (λ c κs. search needs)
     returns)

@@ -11,8 +11,7 @@ returns : tie.Need-returns
 returns c = (
   filed (c .before .before .before .args .registers) (c .number .result) (omega (
     arith,
-    c .before .struct-known
-        .given,
+    c .before .struct-known .given,
   )) (c .number .ensures),
   refl,
 )

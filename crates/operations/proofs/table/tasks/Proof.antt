@@ -1,9 +1,9 @@
 -- antt computes what each task of the table does, and what its operation does: they are the same.
 -- Assumes nothing.
 use mathlib.Core.Path.{refl}
-use Rattle.operations.specs.Tasks.{unpackedTask}
-use Rattle.operations.specs.Works.{byAction, Tasked}
 use Rattle.model.specs.Effects.{effectOf}
+use Rattle.actions.specs.Tasks.{unpackedTask}
+use Rattle.actions.specs.Works.{byAction}
 use Rattle.operations.proofs.Tables.{tasked}
 use Rattle.operations.proofs.table.tasks.Statement.{statement}
 use Rattle.operations.proofs.table.tasks.Tie as tie

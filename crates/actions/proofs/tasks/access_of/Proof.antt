@@ -1,0 +1,26 @@
+-- Each key's value stands at its place of the list, and any other number is 0 or past the list.
+-- Assumes nothing.
+use Prim.Native.Nat.{ℕ, _/_}
+use mathlib.Core.Path.{_≡_, refl}
+use lib.ListN.{getD}
+use Rattle.model.proofs.Match.{NoKey, keys, no-key}
+use Rattle.model.specs.declared.machine.Access.{Access}
+use Rattle.actions.specs.Tasks.{accesses, unpackedTask}
+use Rattle.actions.proofs.tasks.access_of.Statement.{statement}
+use Rattle.actions.proofs.tasks.access_of.Tie as tie
+
+key : (task k : ℕ) → task / 8192 ≡ k → getD accesses k Access.Operand ≡ unpackedTask task .access
+unfolding unpackedTask
+key task k e = rw e refl
+
+rest : (task : ℕ) → NoKey (task / 8192) (keys accesses) → Access.Operand ≡ unpackedTask task .access
+unfolding unpackedTask
+rest task none = no-key accesses Access.Operand (task / 8192) refl none
+
+pub access-of-spec : {M : Type 1} → statement M
+access-of-spec =
+    tie.close
+    (tie.spec
+    (λ c. key (c .before .args .task) 1 (c .match .keys1)) (λ c. key (c .before .args .task) 2 (c .match .keys2))
+    (λ c. key (c .before .args .task) 3 (c .match .keys3)) (λ c. key (c .before .args .task) 4 (c .match .keys4))
+    (λ c. rest (c .before .args .task) (c .match .rest)))

@@ -1,0 +1,13 @@
+-- The field is five bits of the number.
+-- Assumes nothing.
+use Rattle.actions.specs.Tasks.{unpackedTask}
+use borrow.Author.Needs.{needs}
+use Rattle.actions.proofs.tasks.choice_of.Statement.{statement}
+use Rattle.actions.proofs.tasks.choice_of.Tie as tie
+
+returns : tie.Need-returns
+unfolding unpackedTask
+returns c = search needs
+
+pub choice-of-spec : {M : Type 1} → statement M
+choice-of-spec = tie.close (tie.spec (λ c. search needs) returns)
