@@ -3,20 +3,22 @@ use decoder::Frame;
 use decoder::operand_at;
 use entries::effect_of;
 use entries::flow_of;
+use entries::keeps_widths;
 use entries::target_form_of;
-use image::mark_at;
+use image::byte_at;
 use model::code::Flow;
 use model::code::Kind;
 use model::code::WidthEffect;
 use model::rules::Owed;
 use model::rules::Want;
+use std::num::wrapping_sub_u32;
 use successors::kind_number;
 use successors::next_address;
 use successors::target_of;
 use successors::widths::m_after;
 use successors::widths::x_after;
 ghost use mathlib.Core.Path.{_≡_};
-ghost use Prim.Native.Nat.{_+_, _-_, _*_, _≤_, _<_};
+ghost use Prim.Native.Nat.{_+_, _-_, _*_, _/_, _%_, _≤_, _<_};
 ghost use lib.ListN.{length, drop};
 ghost use Rattle.model.specs.Image.{addressLimit, markOf, markAt};
 ghost use Rattle.model.specs.declared.code.Flow.the-variants.{Call};
@@ -42,6 +44,13 @@ fn mark_after(effect: WidthEffect, operand: u64, mark: u8) -> u8
     mark_of(m, x, mark / 8 % 4, mark / 32 % 2, mark / 64 % 2)
 }
 
+// The mark where the widths are kept.
+fn mark_kept(mark: u8) -> u8
+    ensures { λ r. ⌜ r ≡ mark / 2 % 64 * 2 + 1 ⌝ }
+{
+    mark / 2 % 64 * 2 + 1
+}
+
 // The mark with the widths after the instruction of a frame. Most keep them, and their operand need not be read.
 fn mark_after_frame(image: &[u8], at: usize, frame: Frame, mark: u8) -> u8
     requires { ⌜ Fitting (length (now image) - at) frame ⌝ }
@@ -50,10 +59,10 @@ fn mark_after_frame(image: &[u8], at: usize, frame: Frame, mark: u8) -> u8
         (operandOf (drop at (now (image .entry))) (frame .prefix) (frame .length)) mark
         ⌝ }
 {
-    let effect = effect_of(frame.number);
-    if let WidthEffect::KeepWidths = effect {
-        return mark / 2 % 64 * 2 + 1;
+    if keeps_widths(frame.number) {
+        return mark_kept(mark);
     }
+    let effect = effect_of(frame.number);
     mark_after(effect, operand_at(image, at, frame), mark)
 }
 
@@ -64,6 +73,15 @@ fn target_of_frame(image: &[u8], at: usize, frame: Frame, address: u32) -> u32
 {
     let target = target_form_of(frame.number);
     target_of(target, address, frame.length, operand_at(image, at, frame))
+}
+
+// The mark at an address, 0 outside the image. Below the base the difference wraps, so that one comparison is enough:
+// the marks end before the address limit, and no wrapped place is one of theirs.
+pub fn mark_in(marks: &[u8], base: u32, address: u32) -> u8
+    requires { ⌜ base + length (now marks) ≤ addressLimit ⌝ }
+    ensures { λ r. ⌜ r ≡ markAt (now (marks .entry)) base address ⌝ }
+{
+    byte_at(marks, wrapping_sub_u32(address, base) as usize)
 }
 
 fn want(address: u32, mark: u8) -> Want
@@ -96,9 +114,10 @@ fn mark_on_return(mark: u8, there: u8) -> u8
 
 // What a call at an address with a mark owes, by its target and the address after it.
 fn owed_by_call(marks: &[u8], base: u32, kind: Kind, mark: u8, next: u32, to: u32) -> Owed
+    requires { ⌜ base + length (now marks) ≤ addressLimit ⌝ }
     ensures { λ r. ⌜ r ≡ rules.owedBy (Call kind) mark 0 next to (markAt (now (marks .entry)) base to) ⌝ }
 {
-    let there = mark_at(marks, base, to);
+    let there = mark_in(marks, base, to);
     Owed::Two(
         want(to, mark_of_routine(kind, mark, there)),
         want(next, mark_on_return(mark, there)),
@@ -107,7 +126,9 @@ fn owed_by_call(marks: &[u8], base: u32, kind: Kind, mark: u8, next: u32, to: u3
 
 // What the instruction of a frame at a place of the image, with a mark there, owes. Each flow reads what it needs.
 pub fn owed_at(image: &[u8], marks: &[u8], base: u32, at: usize, frame: Frame, mark: u8) -> Owed
-    requires { ⌜ Fitting (length (now image) - at) frame × (base + at < addressLimit) ⌝ }
+    requires { ⌜
+        Fitting (length (now image) - at) frame × (base + length (now marks) ≤ addressLimit) × (at < length (now marks))
+        ⌝ }
     ensures { λ r. ⌜
         r ≡ rules.owedAt (now (marks .entry)) base (instructionOf (drop at (now (image .entry))) frame) (base + at) mark
         ⌝ }
@@ -115,7 +136,13 @@ pub fn owed_at(image: &[u8], marks: &[u8], base: u32, at: usize, frame: Frame, m
     let address = base + at as u32;
     let next = next_address(address, frame.length);
     match flow_of(frame.number) {
-        Flow::Next => Owed::One(want(next, mark_after_frame(image, at, frame, mark))),
+        Flow::Next => {
+            // Most instructions go this way: it needs no call.
+            if keeps_widths(frame.number) {
+                return Owed::One(want(next, mark_kept(mark)));
+            }
+            Owed::One(want(next, mark_after_frame(image, at, frame, mark)))
+        }
         Flow::Branch => {
             let after = mark_after_frame(image, at, frame, mark);
             let to = target_of_frame(image, at, frame, address);

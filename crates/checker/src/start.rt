@@ -1,4 +1,5 @@
 // The rules at one start: the first that is broken.
+use crate::owed::mark_in;
 use crate::owed::owed_at;
 use codepages::CodePages;
 use decoder::Frame;
@@ -9,7 +10,6 @@ use decoder::six_bytes;
 use entries::flow_of;
 use image::byte_at;
 use image::is_start;
-use image::mark_at;
 use model::code::Flow;
 use model::code::Kind;
 use model::refusals::Refusal;
@@ -30,21 +30,25 @@ ghost use Rattle.model.specs.Verdict as verdict;
 ghost use Rattle.model.specs.Decode as decode;
 ghost use Rattle.decoder.specs.Frame.{Fitting, FittingIn, instructionOf, decodedOf};
 ghost use Rattle.checker.specs.Steps.{decodedStep, stepAt};
+ghost use Rattle.checker.specs.Owes.{returnTests, owedTests, MarksOfStarts};
 
 fn wants_start(marks: &[u8], base: u32, w: Want) -> bool
+    requires { ⌜ base + length (now marks) ≤ addressLimit ⌝ }
     ensures { λ r. ⌜ r ≡ verdict.wantsStart (now (marks .entry)) base w ⌝ }
 {
-    is_start(mark_at(marks, base, w.address))
+    is_start(mark_in(marks, base, w.address))
 }
 
 fn wants_mark(marks: &[u8], base: u32, w: Want) -> bool
+    requires { ⌜ base + length (now marks) ≤ addressLimit ⌝ }
     ensures { λ r. ⌜ r ≡ verdict.wantsMark (now (marks .entry)) base w ⌝ }
 {
-    mark_at(marks, base, w.address) == w.mark
+    mark_in(marks, base, w.address) == w.mark
 }
 
 // Number 8: every want's address is a marked start.
 fn all_starts(marks: &[u8], base: u32, owed: Owed) -> bool
+    requires { ⌜ base + length (now marks) ≤ addressLimit ⌝ }
     ensures { λ r. ⌜ r ≡ verdict.allStarts (now (marks .entry)) base owed ⌝ }
 {
     match owed {
@@ -61,6 +65,7 @@ fn all_starts(marks: &[u8], base: u32, owed: Owed) -> bool
 
 // Number 9: every want's mark stands there.
 fn all_marks(marks: &[u8], base: u32, owed: Owed) -> bool
+    requires { ⌜ base + length (now marks) ≤ addressLimit ⌝ }
     ensures { λ r. ⌜ r ≡ verdict.allMarks (now (marks .entry)) base owed ⌝ }
 {
     match owed {
@@ -151,9 +156,35 @@ fn is_clear(marks: &[u8], at: usize, n: u8) -> bool
     first_start(marks, at + 1, later) == at + 1 + later
 }
 
-// The rules of the instruction of a frame at a place: 7, 10, 8, 9.
+// 10, where nothing is owed.
+fn test_return(flow: Flow, mark: u8) -> TestResult
+    ensures { λ r. ⌜ r ≡ firstRefusal (returnTests flow mark) ⌝ }
+{
+    if !return_fits(flow, mark) {
+        return TestResult::Failed(Refusal::Return);
+    }
+    TestResult::Passed
+}
+
+// 8, 9. The marks that are wanted are those of starts, so that 9 is asked first: where it passes 8 does.
+fn test_owed(marks: &[u8], base: u32, owed: Owed) -> TestResult
+    requires { ⌜ (base + length (now marks) ≤ addressLimit) × MarksOfStarts (now marks) base owed ⌝ }
+    ensures { λ r. ⌜ r ≡ firstRefusal (owedTests (now (marks .entry)) base owed) ⌝ }
+{
+    if all_marks(marks, base, owed) {
+        return TestResult::Passed;
+    }
+    if !all_starts(marks, base, owed) {
+        return TestResult::Failed(Refusal::Flow);
+    }
+    TestResult::Failed(Refusal::Widths)
+}
+
+// The rules of the instruction of a frame at a place: 7, 10, 8, 9. What owes something is no return, and passes 10.
 fn test_whole(image: &[u8], marks: &[u8], base: u32, at: usize, frame: Frame) -> TestResult
-    requires { ⌜ Fitting (length (now image) - at) frame × (base + at < addressLimit) ⌝ }
+    requires { ⌜
+        Fitting (length (now image) - at) frame × (base + length (now marks) ≤ addressLimit) × (at < length (now marks))
+        ⌝ }
     ensures { λ r. ⌜
         r ≡ firstRefusal (verdict.wholeTests (now (marks .entry)) base
         at (instructionOf (drop at (now (image .entry))) frame))
@@ -163,17 +194,12 @@ fn test_whole(image: &[u8], marks: &[u8], base: u32, at: usize, frame: Frame) ->
     if !is_clear(marks, at, frame.length) {
         return TestResult::Failed(Refusal::Overlap);
     }
-    if !return_fits(flow_of(frame.number), mark) {
-        return TestResult::Failed(Refusal::Return);
-    }
     let owed = owed_at(image, marks, base, at, frame, mark);
-    if !all_starts(marks, base, owed) {
-        return TestResult::Failed(Refusal::Flow);
+    match owed {
+        Owed::Nothing => test_return(flow_of(frame.number), mark),
+        Owed::One(_) => test_owed(marks, base, owed),
+        Owed::Two(_, _) => test_owed(marks, base, owed),
     }
-    if !all_marks(marks, base, owed) {
-        return TestResult::Failed(Refusal::Widths);
-    }
-    TestResult::Passed
 }
 
 // A place of the image: the first rule that is broken there, and how many bytes stand there, one where no instruction
@@ -185,7 +211,10 @@ pub struct Step {
 
 // The step of a frame at a place.
 fn framed_step(image: &[u8], marks: &[u8], base: u32, at: usize, framed: Framed) -> Step
-    requires { ⌜ FittingIn (length (now image) - at) framed × (base + at < addressLimit) ⌝ }
+    requires { ⌜
+        FittingIn (length (now image) - at) framed × (base + length (now marks) ≤ addressLimit)
+        × (at < length (now marks))
+        ⌝ }
     ensures { λ r. ⌜ r ≡ decodedStep (now (marks .entry)) base at (decodedOf (drop at (now (image .entry))) framed) ⌝ }
 {
     match framed {
@@ -206,7 +235,9 @@ fn framed_step(image: &[u8], marks: &[u8], base: u32, at: usize, framed: Framed)
 
 // The step at a place.
 pub fn step_at(codes: &CodePages, image: &[u8], marks: &[u8], base: u32, at: usize) -> Step
-    requires { ⌜ (now codes ≡ numbers) × (base + at < addressLimit) ⌝ }
+    requires { ⌜
+        (now codes ≡ numbers) × (base + length (now marks) ≤ addressLimit) × (at < length (now marks))
+        ⌝ }
     ensures { λ r. ⌜ r ≡ stepAt (now (image .entry)) (now (marks .entry)) base at ⌝ }
 {
     let mark = byte_at(marks, at);

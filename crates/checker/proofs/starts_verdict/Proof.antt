@@ -29,7 +29,8 @@ loop-holds c = (
 step-at-requires : tie.Need-step-at-requires Inv-loop μ-loop
 step-at-requires c κs = (
   c .before .before .before .before .pre .0,
-  omega (arith, c .before .before .before .before .pre .1, c .loop-test .taken),
+  c .before .before .before .before .pre .1,
+  c .loop-test .taken,
 )
 
 cast-offset : tie.Need-cast-offset Inv-loop μ-loop

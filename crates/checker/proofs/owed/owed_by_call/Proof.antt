@@ -14,7 +14,7 @@ returns c =
       c .before .before .before .mark-of-routine .ensures,
       c
           .before .mark-on-return .ensures,
-      c .before .before .before .before .mark-at .ensures,
+      c .before .before .before .before .mark-in .ensures,
     )
 
 pub owed-by-call-spec : {M : Type 1} → statement M

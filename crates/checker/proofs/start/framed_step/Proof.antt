@@ -9,6 +9,7 @@ test-whole-requires : tie.Need-test-whole-requires
 test-whole-requires c κs = (
   rw (c .before .framed .given .1) at (c .before .before .before .before .before .pre .0),
   c .before .before .before .before .before .pre .1,
+  c .before .before .before .before .before .pre .2,
 )
 
 returns : tie.Need-returns

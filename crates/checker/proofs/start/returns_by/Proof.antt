@@ -17,7 +17,8 @@ returns-2 c =
 
 returns-3 : tie.Need-returns-3
 unfolding returnsBy
-returns-3 c = rw (← c .before .before .kind-number .ensures, eq-eqb _ _ (c .before .if1 .left), eq-eqb _ _ (c .if2 .left))
+returns-3 c =
+    rw (← c .before .before .kind-number .ensures, eq-eqb _ _ (c .before .if1 .left), eq-eqb _ _ (c .if2 .left))
 
 pub returns-by-spec : {M : Type 1} → statement M
 returns-by-spec = tie.close

@@ -27,6 +27,7 @@ framed-step-requires c κs = (
       (c .before .before .before .byte-at .result / 2 % 2) (c .before .before .before .byte-at .result / 4 % 2)
       (c .frame-at .result) (c .frame-at .ensures),
   c .before .before .before .before .before .before .pre .1,
+  c .before .before .before .before .before .before .pre .2,
 )
 
 returns-2 : tie.Need-returns-2

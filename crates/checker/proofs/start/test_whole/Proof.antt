@@ -1,6 +1,12 @@
--- The tests are those of the definition, in its order; the flow, the mark and what is owed are the definition's.
+-- Behind 7 the tests come in two parts: 10 where nothing is owed, 8 and 9 where something is. What is owed, the flow
+-- and the mark are the definition's.
 -- Assumes nothing.
-use Rattle.model.proofs.TestResults.{passes, fails, holds}
+use mathlib.Core.Path.{refl, sym, _∙_}
+use Prim.Native.Nat.{_+_}
+use lib.ListN.{getD, drop}
+use Rattle.decoder.specs.Frame.{instructionOf}
+use Rattle.model.proofs.TestResults.{fails, holds}
+use Rattle.checker.proofs.Owes.{marks-of-starts, something-owed, nothing-owed}
 use borrow.Author.Needs.{needs}
 use Rattle.checker.proofs.start.test_whole.Statement.{statement}
 use Rattle.checker.proofs.start.test_whole.Tie as tie
@@ -8,71 +14,60 @@ use Rattle.checker.proofs.start.test_whole.Tie as tie
 returns : tie.Need-returns
 returns c = fails _ _ (c .before .is-clear .ensures) (c .if1 .taken)
 
+test-owed-requires : tie.Need-test-owed-requires
+test-owed-requires c κs =
+    let args = c .before .before .before .before .before .before .before .before .args in (
+      c .before .before .before .before .before .before .before .before .pre .1,
+      rw (c .before .before .owed-at .ensures) (marks-of-starts (args .marks .now) (args .base)
+          (instructionOf (drop (args .at) (args .image .now)) (args .frame)) (args .base + args .at)
+          (c .before .before .before .before .before .byte-at .result)),
+    )
+
+test-owed-requires-2 : tie.Need-test-owed-requires-2
+test-owed-requires-2 c κs =
+    let args = c .before .before .before .before .before .before .before .before .args in (
+      c .before .before .before .before .before .before .before .before .pre .1,
+      rw (c .before .before .owed-at .ensures) (marks-of-starts (args .marks .now) (args .base)
+          (instructionOf (drop (args .at) (args .image .now)) (args .frame)) (args .base + args .at)
+          (c .before .before .before .before .before .byte-at .result)),
+    )
+
 returns-2 : tie.Need-returns-2
 returns-2 c =
-    holds _ _ (c .before .before .before .before .is-clear .ensures) (c .before .before .before .if1 .left)
-    (fails _ _ (rw (c .before .before .flow-of .ensures, c .before .before .before .before .before .byte-at .ensures)
-    at (c .before .return-fits .ensures)) (c .if2 .taken))
+    let args = c .before .before .before .before .before .before .before .before .before .before .args in
+    let mark = c .before .before .before .before .before .before .before .byte-at .ensures in
+    holds _ _ (c .before .before .before .before .before .before .is-clear .ensures)
+    (c .before .before .before .before .before .if1 .left)
+    (nothing-owed (args .marks .now) (args .base) (instructionOf (drop (args .at) (args .image .now)) (args .frame))
+    (args .base + args .at) (getD (args .marks .now) (args .at) 0)
+    (sym (rw mark at (c .before .before .before .before .owed-at .ensures)) ∙ c .before .before .enum-told .given .1)
+    (rw (c .before .flow-of .ensures, mark) at (c .test-return .ensures)))
 
 returns-3 : tie.Need-returns-3
 returns-3 c =
-    holds _ _ (c .before .before .before .before .before .before .before .is-clear .ensures)
-    (c .before .before .before .before .before .before .if1 .left)
-    (holds _ _ (rw (
-      c .before .before .before .before .before .flow-of .ensures,
-      c .before .before .before .before .before .before .before .before .byte-at .ensures,
-    )
-    at (c .before .before .before .before .return-fits .ensures)) (c .before .before .before .if2 .left)
-    (fails _ _ (rw (
-      c .before .before .owed-at .ensures,
-      c .before .before .before .before .before .before .before .before .byte-at .ensures,
-    )
-    at (c .before .all-starts .ensures)) (c .if3 .taken)))
+    let args = c .before .before .before .before .before .before .before .before .before .args in
+    let mark = c .before .before .before .before .before .before .byte-at .ensures in
+    let owed = rw mark at (c .before .before .before .owed-at .ensures) in
+    holds _ _ (c .before .before .before .before .before .is-clear .ensures)
+    (c .before .before .before .before .if1 .left)
+    (something-owed (args .marks .now) (args .base) (instructionOf (drop (args .at) (args .image .now)) (args .frame))
+    (args .base + args .at) (getD (args .marks .now) (args .at) 0)
+    (rw (← owed, c .before .enum-told2 .given .1) refl) (rw owed at (c .test-owed .ensures)))
 
 returns-4 : tie.Need-returns-4
 returns-4 c =
-    holds _ _ (c .before .before .before .before .before .before .before .before .before .is-clear .ensures)
-    (c .before .before .before .before .before .before .before .before .if1 .left)
-    (holds _ _ (rw (
-      c .before .before .before .before .before .before .before .flow-of .ensures,
-      c .before .before .before .before .before .before .before .before .before .before .byte-at .ensures,
-    )
-    at (c .before .before .before .before .before .before .return-fits .ensures))
-    (c .before .before .before .before .before .if2 .left)
-    (holds _ _ (rw (
-      c .before .before .before .before .owed-at .ensures,
-      c .before .before .before .before .before .before .before .before .before .before .byte-at .ensures,
-    )
-    at (c .before .before .before .all-starts .ensures)) (c .before .before .if3 .left)
-    (fails _ _ (rw (
-      c .before .before .before .before .owed-at .ensures,
-      c .before .before .before .before .before .before .before .before .before .before .byte-at .ensures,
-    )
-    at (c .before .all-marks .ensures)) (c .if4 .taken))))
-
-returns-5 : tie.Need-returns-5
-returns-5 c =
-    holds _ _ (c .before .before .before .before .before .before .before .before .before .is-clear .ensures)
-    (c .before .before .before .before .before .before .before .before .if1 .left)
-    (holds _ _ (rw (
-      c .before .before .before .before .before .before .before .flow-of .ensures,
-      c .before .before .before .before .before .before .before .before .before .before .byte-at .ensures,
-    )
-    at (c .before .before .before .before .before .before .return-fits .ensures))
-    (c .before .before .before .before .before .if2 .left)
-    (holds _ _ (rw (
-      c .before .before .before .before .owed-at .ensures,
-      c .before .before .before .before .before .before .before .before .before .before .byte-at .ensures,
-    )
-    at (c .before .before .before .all-starts .ensures)) (c .before .before .if3 .left)
-    (holds _ _ (rw (
-      c .before .before .before .before .owed-at .ensures,
-      c .before .before .before .before .before .before .before .before .before .before .byte-at .ensures,
-    )
-    at (c .before .all-marks .ensures)) (c .if4 .left) passes)))
+    let args = c .before .before .before .before .before .before .before .before .before .args in
+    let mark = c .before .before .before .before .before .before .byte-at .ensures in
+    let owed = rw mark at (c .before .before .before .owed-at .ensures) in
+    holds _ _ (c .before .before .before .before .before .is-clear .ensures)
+    (c .before .before .before .before .if1 .left)
+    (something-owed (args .marks .now) (args .base) (instructionOf (drop (args .at) (args .image .now)) (args .frame))
+    (args .base + args .at) (getD (args .marks .now) (args .at) 0)
+    (rw (← owed, c .before .enum-told3 .given .1) refl) (rw owed at (c .test-owed2 .ensures)))
 
 pub test-whole-spec : {M : Type 1} → statement M
 test-whole-spec =
-    tie.close (tie.spec (λ c κs. search needs) (λ c κs. search needs) returns (λ c κs. search needs)
-    (λ c κs. search needs) returns-2
-    (λ c κs. search needs) (λ c κs. search needs) returns-3 (λ c κs. search needs) returns-4 returns-5)
+    tie.close
+    (tie.spec (λ c κs. search needs) (λ c κs. search needs) returns (λ c κs. search needs) (λ c. search needs)
+    (λ c κs. search needs) (λ c κs. search needs) (λ c. search needs) test-owed-requires (λ c. search needs)
+    test-owed-requires-2 returns-2 returns-3 returns-4)

@@ -7,7 +7,7 @@ use Rattle.checker.proofs.start.wants_mark.Tie as tie
 
 returns : tie.Need-returns
 unfolding wantsMark
-returns c = rw (c .before .mark-at .ensures)
+returns c = rw (c .before .mark-in .ensures)
 
 pub wants-mark-spec : {M : Type 1} → statement M
 wants-mark-spec = tie.close

@@ -7,7 +7,7 @@ use Rattle.checker.proofs.start.wants_start.Tie as tie
 
 returns : tie.Need-returns
 unfolding wantsStart
-returns c = rw (c .is-start .ensures, c .before .mark-at .ensures)
+returns c = rw (c .is-start .ensures, c .before .mark-in .ensures)
 
 pub wants-start-spec : {M : Type 1} → statement M
 wants-start-spec = tie.close

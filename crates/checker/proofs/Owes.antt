@@ -1,0 +1,149 @@
+-- Where the check takes a shorter way than the definition, both give the same: one comparison for the mark at an
+-- address, kept widths without the operand, 9 before 8, and 10 only where nothing is owed.
+-- Assumes nothing.
+use mathlib.Core.Path.{_≡_, refl}
+use mathlib.Core.Bool.{Bool, true, false}
+use mathlib.Core.List.{List, [], _∷_, _++_}
+use Prim.Native.Nat.{ℕ, _+_, _-_, _*_, _/_, _%_, _≤_, _<_}
+use native.Mathlib.Omega.{arith}
+use borrow.Author.Tests.{eq-eqb, eqb-true, leb-true, leb-false}
+use lib.Dec.{eqb, leb}
+use lib.ListN.{length, getD, List·getD-eq-default}
+use Rattle.codepages.specs.Packing.{unpacked}
+use Rattle.codepages.proofs.Unpacked.{kept-effect}
+use Rattle.model.specs.declared.code.Kind.{Kind}
+use Rattle.model.specs.declared.code.WidthEffect.{WidthEffect}
+use Rattle.model.specs.declared.code.Flow.{Flow}
+use Rattle.model.specs.declared.code.Flow.the-variants.{Next, Branch, Jump, Call, Return, Halt}
+use Rattle.model.specs.declared.code.Instruction.{Instruction}
+use Rattle.model.specs.declared.refusals.Refusal.the-variants as refusal
+use Rattle.model.specs.declared.refusals.TestResult.{TestResult}
+use Rattle.model.specs.declared.rules.Want.{Want}
+use Rattle.model.specs.declared.rules.Owed.{Owed}
+use Rattle.model.specs.declared.rules.Owed.the-variants.{Nothing, One, Two}
+use Rattle.model.specs.Choice.{pick}
+use Rattle.model.specs.Image.{addressLimit, isStart, markM, markX, markKind, returnM, returnX, markOf, markAt}
+use Rattle.model.specs.Refusals.{firstRefusal}
+use Rattle.model.specs.Rules.{kindNumber, markOfRoutine, markOnReturn, markAfter, mAfter, xAfter}
+use Rattle.model.specs.Rules.{owedBy, owedAt, returnFits}
+use Rattle.model.specs.Verdict.{wantsStart, allStarts, wantsMark, allMarks}
+use Rattle.model.proofs.Verdict.{both-true}
+use Rattle.model.proofs.Widths.{same-fields}
+use Rattle.checker.specs.Owes.{returnTests, owedTests, MarksOfStarts}
+
+-- ---- the mark at an address
+
+-- the place of an address below the base lies past the marks
+pub mark-by-place : (marks : List ℕ) (base address place : ℕ) → base + length marks ≤ addressLimit
+    → address < 4_294_967_296 → place < 4_294_967_296 → (place + base) % 4_294_967_296 ≡ address
+    → getD marks place 0 ≡ markAt marks base address
+unfolding markAt
+mark-by-place marks base address place fits low high wraps = by (leb base address) refl
+  where
+    by : (b : Bool) → leb base address ≡ b → getD marks place 0 ≡ pick b (getD marks (address - base) 0) 0
+    by true e =
+        let above = leb-true base address e in
+        let same : place ≡ address - base = omega arith in
+        rw same refl
+    by false e =
+        let below = leb-false base address e in
+        List·getD-eq-default marks 0 (omega arith)
+
+-- ---- kept widths
+
+pub kept-mark : (number operand mark : ℕ) → mark < 256 → eqb (number / 2_097_152 % 8) 0 ≡ true
+    → mark / 2 % 64 * 2 + 1 ≡ markAfter (unpacked number .effect) operand mark
+unfolding markAfter mAfter xAfter
+kept-mark number operand mark h e = rw (kept-effect number e) (same-fields mark h)
+
+-- ---- 9 before 8
+
+is-start : (m x kind rm rx : ℕ) → isStart (markOf m x kind rm rx) ≡ true
+is-start m x kind rm rx = eq-eqb (markOf m x kind rm rx % 2) 1 (omega arith)
+
+routine-start : (kind : Kind) (mark there : ℕ) → isStart (markOfRoutine kind mark there) ≡ true
+unfolding markOfRoutine
+routine-start kind mark there = is-start (markM mark) (markX mark) (kindNumber kind) (returnM there) (returnX there)
+
+return-start : (mark there : ℕ) → isStart (markOnReturn mark there) ≡ true
+unfolding markOnReturn
+return-start mark there =
+    is-start (returnM there) (returnX there) (markKind mark) (returnM mark) (returnX mark)
+
+after-start : (effect : WidthEffect) (operand mark : ℕ) → isStart (markAfter effect operand mark) ≡ true
+unfolding markAfter
+after-start effect operand mark =
+    is-start (mAfter effect (markM mark) operand) (xAfter effect (markX mark) operand) (markKind mark) (returnM mark)
+    (returnX mark)
+
+module _ (marks : List ℕ) (base : ℕ) where
+  one-start : (w : Want) → isStart (w .mark) ≡ true → wantsMark marks base w ≡ true → wantsStart marks base w ≡ true
+  unfolding wantsMark wantsStart
+  one-start w odd h = rw (eqb-true (markAt marks base (w .address)) (w .mark) h) odd
+
+  two-starts : (v w : Want) → isStart (v .mark) ≡ true → isStart (w .mark) ≡ true → MarksOfStarts marks base (Two v w)
+  unfolding allMarks allStarts
+  two-starts v w odd odd′ h =
+      let both = both-true (wantsMark marks base v) (wantsMark marks base w) h in
+      rw (one-start v odd (both .0), one-start w odd′ (both .1)) refl
+
+  owes-starts : (flow : Flow) (mark after next to there : ℕ) → isStart after ≡ true
+      → MarksOfStarts marks base (owedBy flow mark after next to there)
+  unfolding owedBy allMarks allStarts
+  owes-starts Next mark after next to there odd h = one-start _ odd h
+  owes-starts Branch mark after next to there odd h = two-starts _ _ odd odd h
+  owes-starts Jump mark after next to there odd h = one-start _ odd h
+  owes-starts (Call kind) mark after next to there odd h =
+      two-starts _ _ (routine-start kind mark there) (return-start mark there) h
+  owes-starts (Return kind) mark after next to there odd h = refl
+  owes-starts Halt mark after next to there odd h = refl
+
+  pub marks-of-starts : (i : Instruction) (address mark : ℕ)
+      → MarksOfStarts marks base (owedAt marks base i address mark)
+  unfolding owedAt
+  marks-of-starts i address mark =
+      owes-starts (i .entry .flow) mark _ _ _ _ (after-start (i .entry .effect) (i .operand) mark)
+
+-- ---- 10 only where nothing is owed
+
+-- whether something is owed
+abbrev pub owes : Owed → Bool
+owes Nothing = false
+owes (One w) = true
+owes (Two v w) = true
+
+by-flow : (flow : Flow) (mark after next to there : ℕ) → owes (owedBy flow mark after next to there) ≡ true
+    → returnFits flow mark ≡ true
+unfolding owedBy returnFits
+by-flow Next mark after next to there e = refl
+by-flow Branch mark after next to there e = refl
+by-flow Jump mark after next to there e = refl
+by-flow (Call kind) mark after next to there e = refl
+by-flow (Return kind) mark after next to there e = let z : _≡_ {A = ℕ} 0 1 = cc in absurd (omega arith)
+by-flow Halt mark after next to there e = refl
+
+module _ (marks : List ℕ) (base : ℕ) (i : Instruction) (address mark : ℕ) where
+  abbrev flow : Flow
+  flow = i .entry .flow
+
+  abbrev owed : Owed
+  owed = owedAt marks base i address mark
+
+  no-return : owes owed ≡ true → returnFits flow mark ≡ true
+  unfolding owedAt
+  no-return e = by-flow flow mark _ _ _ _ e
+
+  pub something-owed : {so : TestResult} → owes owed ≡ true → so ≡ firstRefusal (owedTests marks base owed)
+      → so ≡ firstRefusal (returnTests flow mark ++ owedTests marks base owed)
+  unfolding firstRefusal
+  something-owed e s = rw (no-return e) s
+
+  pub nothing-owed : {so : TestResult} → owed ≡ Nothing → so ≡ firstRefusal (returnTests flow mark)
+      → so ≡ firstRefusal (returnTests flow mark ++ owedTests marks base owed)
+  unfolding firstRefusal allStarts allMarks
+  nothing-owed {so} e s = rw e (by (returnFits flow mark) s)
+    where
+      by : (b : Bool) → so ≡ firstRefusal ((b, refusal.Return) ∷ [])
+          → so ≡ firstRefusal ((b, refusal.Return) ∷ (true, refusal.Flow) ∷ (true, refusal.Widths) ∷ [])
+      by true s = s
+      by false s = s

@@ -1,0 +1,25 @@
+-- The rules of a whole instruction behind 7, in two parts: only a return can break 10, and it owes nothing.
+-- Assumes nothing.
+use mathlib.Core.Path.{_≡_}
+use Prim.Native.Nat.{ℕ}
+use mathlib.Core.Bool.{true}
+use mathlib.Core.List.{List, [], _∷_}
+use Rattle.model.specs.declared.code.Flow.{Flow}
+use Rattle.model.specs.declared.refusals.Refusal.the-variants as refusal
+use Rattle.model.specs.declared.rules.Owed.{Owed}
+use Rattle.model.specs.Refusals.{Tests}
+use Rattle.model.specs.Rules.{returnFits}
+use Rattle.model.specs.Verdict.{allStarts, allMarks}
+
+-- 10
+abbrev pub returnTests : Flow → ℕ → Tests
+returnTests flow mark = (returnFits flow mark, refusal.Return) ∷ []
+
+-- 8, 9
+abbrev pub owedTests : List ℕ → ℕ → Owed → Tests
+owedTests marks base owed =
+    (allStarts marks base owed, refusal.Flow) ∷ (allMarks marks base owed, refusal.Widths) ∷ []
+
+-- the marks that are wanted are those of starts: where all stand there, all are starts
+abbrev pub MarksOfStarts : List ℕ → ℕ → Owed → Type 0
+MarksOfStarts marks base owed = allMarks marks base owed ≡ true → allStarts marks base owed ≡ true
