@@ -10,7 +10,6 @@ use denote.Enum.Declared.{tagOf}
 use types.Run.{OneOf}
 use Rattle.addressing.specs.declared.reach.AddressRead.{AddressRead}
 use Rattle.addressing.specs.declared.reach.AddressRead.the-variants.{At, Unmapped as NoAddress}
-use Rattle.addressing.specs.declared.reach.DataRead.{DataRead}
 use Rattle.addressing.specs.declared.reach.DataRead.the-variants.{Found, Unmapped as NoData}
 use Rattle.addressing.specs.Found.{addressRead, dataRead, aloneOf, isAddress, residenceBy, reachedBy, foundAt}
 use Rattle.memory.specs.declared.reads.WordRead.{WordRead}
@@ -47,24 +46,24 @@ module _ (m : Memory) (at : ℕ) (f : ℕ → ℕ) where
   module _ (w : WordRead) (e : w ≡ wordRead (come m (readWord at))) where
     pub word-found : (v : ℕ) → w ≡ Word v → At (f v) ≡ addressRead (come m (readWord at >>= (λ p. ret (f p))))
     word-found v e′ =
-        ap addressRead (sym (after-done m (readWord at) (λ p. ret (f p)) v (word-done (come m (readWord at)) w v
-        e e′)))
+        ap addressRead
+        (sym (after-done m (readWord at) (λ p. ret (f p)) v (word-done (come m (readWord at)) w v e e′)))
 
     pub word-missing : w ≡ NoWord → NoAddress ≡ addressRead (come m (readWord at >>= (λ p. ret (f p))))
     word-missing e′ =
-        ap addressRead (sym (after-unmapped m (readWord at) (λ p. ret (f p)) (word-unmapped (come m (readWord
-        at)) w e e′)))
+        ap addressRead
+        (sym (after-unmapped m (readWord at) (λ p. ret (f p)) (word-unmapped (come m (readWord at)) w e e′)))
 
   module _ (w : LongRead) (e : w ≡ longRead (come m (readLong at))) where
     pub long-found : (v : ℕ) → w ≡ Long v → At (f v) ≡ addressRead (come m (readLong at >>= (λ p. ret (f p))))
     long-found v e′ =
-        ap addressRead (sym (after-done m (readLong at) (λ p. ret (f p)) v (long-done (come m (readLong at)) w v
-        e e′)))
+        ap addressRead
+        (sym (after-done m (readLong at) (λ p. ret (f p)) v (long-done (come m (readLong at)) w v e e′)))
 
     pub long-missing : w ≡ NoLong → NoAddress ≡ addressRead (come m (readLong at >>= (λ p. ret (f p))))
     long-missing e′ =
-        ap addressRead (sym (after-unmapped m (readLong at) (λ p. ret (f p)) (long-unmapped (come m (readLong
-        at)) w e e′)))
+        ap addressRead
+        (sym (after-unmapped m (readLong at) (λ p. ret (f p)) (long-unmapped (come m (readLong at)) w e e′)))
 
 module _ (m : Memory) (at : ℕ) (w : LongRead) (e : w ≡ longRead (come m (readLong at))) where
   pub long-itself : (v : ℕ) → w ≡ Long v → At v ≡ addressRead (come m (readLong at))

@@ -32,7 +32,8 @@ ghost use Rattle.cpu.specs.File.{registersOf};
 ghost use Rattle.model.specs.Addressing as spec;
 ghost use Rattle.model.specs.Image.{addressLimit};
 ghost use Rattle.model.specs.Memory.{memory, come, readLong};
-ghost use Rattle.addressing.specs.Found.{addressRead, dataRead, aloneOf, isAddress, residenceBy, reachedBy, foundAt};
+ghost use Rattle.addressing.specs.Found.{addressRead, dataRead, aloneOf};
+ghost use Rattle.addressing.specs.Found.{isAddress, residenceBy, reachedBy, foundAt};
 
 // The address of data.
 pub enum AddressRead {
@@ -91,7 +92,10 @@ fn by_word(
     registers: &[u16; FILE_SIZE],
     at: u32,
 ) -> AddressRead
-    ensures { λ r. ⌜ r ≡ addressRead (come (memory (now (ram .entry)) (now (image .entry)) base) (spec.byWord (registersOf (now (registers .entry))) at)) ⌝ }
+    ensures { λ r. ⌜
+        r ≡ addressRead (come (memory (now (ram .entry)) (now (image .entry)) base)
+        (spec.byWord (registersOf (now (registers .entry))) at))
+        ⌝ }
 {
     let read = word_from(ram, image, base, at as u64, at as u64 + 1);
     match read {
@@ -110,7 +114,10 @@ fn by_word_y(
     registers: &[u16; FILE_SIZE],
     at: u32,
 ) -> AddressRead
-    ensures { λ r. ⌜ r ≡ addressRead (come (memory (now (ram .entry)) (now (image .entry)) base) (spec.byWordY (registersOf (now (registers .entry))) at)) ⌝ }
+    ensures { λ r. ⌜
+        r ≡ addressRead (come (memory (now (ram .entry)) (now (image .entry)) base)
+        (spec.byWordY (registersOf (now (registers .entry))) at))
+        ⌝ }
 {
     let read = word_from(ram, image, base, at as u64, at as u64 + 1);
     match read {
@@ -140,7 +147,10 @@ fn by_long_y(
     registers: &[u16; FILE_SIZE],
     at: u32,
 ) -> AddressRead
-    ensures { λ r. ⌜ r ≡ addressRead (come (memory (now (ram .entry)) (now (image .entry)) base) (spec.byLongY (registersOf (now (registers .entry))) at)) ⌝ }
+    ensures { λ r. ⌜
+        r ≡ addressRead (come (memory (now (ram .entry)) (now (image .entry)) base)
+        (spec.byLongY (registersOf (now (registers .entry))) at))
+        ⌝ }
 {
     let read = long_from(ram, image, base, at as u64, at as u64 + 1, at as u64 + 2);
     match read {
@@ -158,7 +168,10 @@ pub fn address_of(
     registers: &[u16; FILE_SIZE],
     operand: u64,
 ) -> AddressRead
-    ensures { λ r. ⌜ r ≡ addressRead (come (memory (now (ram .entry)) (now (image .entry)) base) (spec.addressOf mode (registersOf (now (registers .entry))) operand)) ⌝ }
+    ensures { λ r. ⌜
+        r ≡ addressRead (come (memory (now (ram .entry)) (now (image .entry)) base)
+        (spec.addressOf mode (registersOf (now (registers .entry))) operand))
+        ⌝ }
 {
     match mode {
         Mode::Implied => AddressRead::At(0),
@@ -231,7 +244,10 @@ fn in_memory(
     short: bool,
     operand: u64,
 ) -> DataRead
-    ensures { λ r. ⌜ r ≡ dataRead (come (memory (now (ram .entry)) (now (image .entry)) base) (reachedBy alone mode (registersOf (now (registers .entry))) short operand)) ⌝ }
+    ensures { λ r. ⌜
+        r ≡ dataRead (come (memory (now (ram .entry)) (now (image .entry)) base)
+        (reachedBy alone mode (registersOf (now (registers .entry))) short operand))
+        ⌝ }
 {
     let reached = address_of(ram, image, base, mode, registers, operand);
     let AddressRead::At(address) = reached else {
@@ -269,7 +285,10 @@ fn operand_by(
     short: bool,
     operand: u64,
 ) -> DataRead
-    ensures { λ r. ⌜ r ≡ dataRead (come (memory (now (ram .entry)) (now (image .entry)) base) (foundAt (residenceBy alone mode) alone mode named (registersOf (now (registers .entry))) short operand)) ⌝ }
+    ensures { λ r. ⌜
+        r ≡ dataRead (come (memory (now (ram .entry)) (now (image .entry)) base)
+        (foundAt (residenceBy alone mode) alone mode named (registersOf (now (registers .entry))) short operand))
+        ⌝ }
 {
     let residence = residence_by(alone, mode);
     match residence {
@@ -320,7 +339,10 @@ pub fn data_of(
     short: bool,
     operand: u64,
 ) -> DataRead
-    ensures { λ r. ⌜ r ≡ dataRead (come (memory (now (ram .entry)) (now (image .entry)) base) (spec.dataOf access mode named (registersOf (now (registers .entry))) short operand)) ⌝ }
+    ensures { λ r. ⌜
+        r ≡ dataRead (come (memory (now (ram .entry)) (now (image .entry)) base)
+        (spec.dataOf access mode named (registersOf (now (registers .entry))) short operand))
+        ⌝ }
 {
     match access {
         Access::Operand | Access::Addend | Access::Address => operand_by(

@@ -2,7 +2,7 @@
 -- that is
 -- accepted are few, and their starts no more.
 -- Assumes nothing.
-use mathlib.Core.Path.{_≡_, refl}
+use mathlib.Core.Path.{_≡_}
 use mathlib.Core.List.{List, [], _∷_}
 use Prim.Native.Nat.{ℕ, _≤_, _<_}
 use native.Mathlib.Omega.{arith}
@@ -14,7 +14,7 @@ use Rattle.model.specs.declared.lists.ListRead.the-variants.{NotRead, Read}
 use Rattle.model.specs.declared.rules.Verdict.the-variants.{Accepted}
 use Rattle.model.specs.Image.{imageLimit, isStart, startCount}
 use Rattle.model.specs.Verdict.{verdict}
-use Rattle.model.specs.MarkList.{readList, marksRead, marksBy, marksOf}
+use Rattle.model.specs.MarkList.{readList, marksRead, marksBy}
 use Rattle.model.proofs.Choice.{one-or-none}
 use Rattle.model.proofs.Image.{right-length}
 use Rattle.model.proofs.Verdict.{accepted-rules}

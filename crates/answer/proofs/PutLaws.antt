@@ -10,7 +10,7 @@ use borrow.Rule.Slice.PartMut.{putMid}
 use Rattle.model.specs.Digits.{digits}
 use Rattle.model.specs.MarkList.{tab, lineEnd, decimalDigits}
 use Rattle.model.proofs.MarkList.{decimal-most}
-use Rattle.marklist.proofs.Pages.{Front, front-next, front-inside, part-room}
+use Rattle.marklist.proofs.Pages.{Front, front-next, front-inside}
 use Rattle.marklist.proofs.HeaderLaws.{length-field, two-put}
 use Rattle.answer.specs.AnswerLine.{Put, numberField, letterField, refusedLine, unreadLine, lineLimit}
 

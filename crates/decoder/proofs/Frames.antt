@@ -53,8 +53,8 @@ module _ (page : ℕ) (bytes : List ℕ) (m x : ℕ) where
   decoded-on : decodeOn page bytes m x ≡ decodedOf bytes (framedOn page bytes m x)
   unfolding decodeOn judged framedOn fitted
   decoded-on =
-      rw (← unpacked-at page (getD bytes prefix 0)) (chosen bytes the-frame (ltb prefix (length bytes)) (unpacked
-      at-code .carried) (leb long (length bytes)))
+      rw (← unpacked-at page (getD bytes prefix 0))
+      (chosen bytes the-frame (ltb prefix (length bytes)) (unpacked at-code .carried) (leb long (length bytes)))
 
   fitting-on : FittingIn (length bytes) (framedOn page bytes m x)
   unfolding framedOn fitted
@@ -64,9 +64,9 @@ module _ (page : ℕ) (bytes : List ℕ) (m x : ℕ) where
       by : (a b c : Bool) → unpacked at-code .carried ≡ b → leb long (length bytes) ≡ c
           → FittingIn (length bytes) (pick a (pick b (pick c (Fits the-frame) Short) Uncarried) Short)
       by true true true carried inside =
-          let rule = carried-length page (getD bytes prefix 0) m x (rw (unpacked-at page (getD bytes prefix 0)) at
-          carried) in
-          let rule′ : (prefix < long) × (long ≤ 6) = rw (unpacked-at page (getD bytes prefix 0)) rule in
+          let same = unpacked-at page (getD bytes prefix 0) in
+          let rule = carried-length page (getD bytes prefix 0) m x (rw same at carried) in
+          let rule′ : (prefix < long) × (long ≤ 6) = rw same rule in
           (one-of (eqb page 0) 0 1 (omega arith) (omega arith), rule′ .0, rule′ .1, leb-true long (length bytes) inside)
       by true true false carried inside = tt
       by true false c carried inside = tt
@@ -162,7 +162,8 @@ module _ (image : List ℕ) (at : ℕ) where
     coded-short few =
         coded-on page Missing at-page (rw (length-drop, ← at-prefix, le-ltb prefix (length image - at) few) refl)
 
-    module _ (n : ℕ) (some : prefix < length image - at) (at-code : n ≡ numberAt numbers page (getD image (at + prefix) 0))
+    module _ (n : ℕ) (some : prefix < length image - at)
+        (at-code : n ≡ numberAt numbers page (getD image (at + prefix) 0))
       where
         by-carried : (b : Bool) → unpacked n .carried ≡ b → pick b (Code n prefix) NoCode ≡ codeOn page (drop at image)
         unfolding codeOn

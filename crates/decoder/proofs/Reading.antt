@@ -1,5 +1,5 @@
--- Bytes as one number, worked from the last byte to the first: each turn of the loop puts one byte more in front, and five bytes
--- stay below 2 ^ 40, so that no turn leaves 64 bits.
+-- Bytes as one number, worked from the last byte to the first: each turn of the loop puts one byte more in front, and
+-- five bytes stay below 2 ^ 40, so that no turn leaves 64 bits.
 -- Assumes nothing.
 use mathlib.Core.Path.{_≡_, refl}
 use mathlib.Core.List.{List, [], _∷_}

@@ -43,13 +43,13 @@ low-bits value n h =
     let inside : value / 256 ^ n * 256 ^ n < 18446744073709551616 = omega arith in
     rw (power, mod-eq-of-lt inside) (sym (mod-eq-sub-div-mul value (256 ^ n)))
 
-pub two-at : (l : List ℕ) (at : ℕ) → at + 2 ≤ length l → getD l at 0 + 256 * getD l (at + 1) 0 ≡ number (take 2
-    (drop at l))
+pub two-at : (l : List ℕ) (at : ℕ) → at + 2 ≤ length l
+    → getD l at 0 + 256 * getD l (at + 1) 0 ≡ number (take 2 (drop at l))
 two-at l at h = rw (drop-cons l at 0 (omega arith), drop-cons l (suc at) 0 (omega arith), add-one) (omega arith)
 
 six : (l : List ℕ) → 6 ≤ length l
-    → number (take 2 l) + 65536 * number (take 2 (drop 2 l)) + 4294967296 * number (take 2 (drop 4 l)) ≡ number
-    (take 6 l)
+    → number (take 2 l) + 65536 * number (take 2 (drop 2 l)) + 4294967296 * number (take 2 (drop 4 l))
+    ≡ number (take 6 l)
 six (a ∷ b ∷ c ∷ d ∷ e ∷ f ∷ l) h = omega arith
 six (a ∷ b ∷ c ∷ d ∷ e ∷ []) h = absurd (omega arith)
 six (a ∷ b ∷ c ∷ d ∷ []) h = absurd (omega arith)
@@ -95,21 +95,21 @@ module _ (image : List ℕ) (at prefix n value : ℕ) where
 
   -- the operand as the low bytes of six
   pub operand-of-six : AllBytes image → prefix < n → n ≤ 6
-      → value ≡ number (take 6 (drop behind image)) % 256 ^ (n - prefix - 1) → value ≡ operandOf (drop at image)
-      prefix n
+      → value ≡ number (take 6 (drop behind image)) % 256 ^ (n - prefix - 1)
+      → value ≡ operandOf (drop at image) prefix n
   operand-of-six small some few e =
-      rw (same-part, same-count) (e ∙ low-number (drop behind image) 6 (n - prefix - 1) (bytes-drop behind image small)
-      (omega arith))
+      rw (same-part, same-count)
+      (e ∙ low-number (drop behind image) 6 (n - prefix - 1) (bytes-drop behind image small) (omega arith))
 
   -- the operand as five bytes at most
   pub operand-small : AllBytes image → n ≤ 6 → operandOf (drop at image) prefix n < 1_099_511_627_776
   operand-small small few =
       let k = n - (prefix + 1) in
       let rest = drop (prefix + 1) (drop at image) in
-      let same = low-number rest k k (bytes-drop (prefix + 1) (drop at image) (bytes-drop at image small)) (omega
-      arith) in
-      let below : number (take k rest) < 256 ^ k = rw (← same) (mod-lt (number (take k rest)) (one-le-pow k 256
-      (omega arith))) in
+      let small-rest = bytes-drop (prefix + 1) (drop at image) (bytes-drop at image small) in
+      let same = low-number rest k k small-rest (omega arith) in
+      let some = one-le-pow k 256 (omega arith) in
+      let below : number (take k rest) < 256 ^ k = rw (← same) (mod-lt (number (take k rest)) some) in
       let short : k ≤ 5 = omega arith in
       let top : 256 ^ k ≤ 256 ^ 5 = pow-le-pow-right (omega arith) short in
       omega arith

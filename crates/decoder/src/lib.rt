@@ -35,8 +35,8 @@ pub enum Framed {
     Short,
 }
 
-// The code at a place, before the widths enter: the number of its entry and how many prefix bytes stand before it; a code that
-// is not carried; or too few bytes.
+// The code at a place, before the widths enter: the number of its entry and how many prefix bytes stand before it; a
+// code that is not carried; or too few bytes.
 pub enum Looked {
     Code(u32, u8),
     Uncarried,

@@ -3,7 +3,7 @@
 use mathlib.Core.Path.{_≡_, refl}
 use mathlib.Core.Bool.{Bool, true, false}
 use mathlib.Core.List.{List, [], _∷_}
-use Prim.Native.Nat.{ℕ, zero, suc, _+_, _≤_}
+use Prim.Native.Nat.{ℕ, zero, suc, _≤_}
 use native.Mathlib.Omega.{arith}
 use Rattle.model.specs.declared.machine.Answer.{Answer}
 use Rattle.model.specs.declared.machine.Answer.the-variants.{Completed, Called, Stopped}
@@ -14,11 +14,11 @@ use Rattle.model.specs.Refusals.{firstRefusal}
 use Rattle.model.specs.Status.{bit}
 use Rattle.model.specs.Memory.{Memory}
 use Rattle.model.specs.Step.{step}
-use Rattle.model.specs.Run.{stepLimit, isCompleted, isCall, Event, event, withRam, history, completedSteps, callsAmong}
+use Rattle.model.specs.Run.{isCompleted, isCall, Event, withRam, history, completedSteps, callsAmong}
 use Rattle.model.specs.Run.{runTests}
 use Rattle.model.specs.RunBytes.{bytesFit, ranBytesBy, ranBytes}
 use Rattle.model.specs.StateBytes.{stateOf}
-use Rattle.model.proofs.Run.{onward, by-first-step, admitted}
+use Rattle.model.proofs.Run.{by-first-step, admitted}
 use Rattle.loader.specs.Packed.{RunFits}
 
 one-call : (a : Answer) → bit (isCall a) ≤ bit (isCompleted a)

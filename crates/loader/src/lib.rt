@@ -84,7 +84,9 @@ pub extern "C" fn m7700_run(
     steps: u32,
 ) -> u64
     ensures answer { λ r. ⌜
-        r ≡ packedRun (ranBytes (memory (now (ram .entry)) (now (image .entry)) base) (now (state .entry)) steps .answer)
+        r
+        ≡ packedRun
+        (ranBytes (memory (now (ram .entry)) (now (image .entry)) base) (now (state .entry)) steps .answer)
         ⌝ }
     ensures state { λ _. ⌜
         now (state .exit)

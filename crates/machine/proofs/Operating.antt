@@ -5,6 +5,8 @@ use mathlib.Core.Bool.{Bool, true, false}
 use mathlib.Core.List.{List, []}
 use Prim.Native.Nat.{ℕ, _<_}
 use lib.ListN.{getD}
+use Rattle.actions.specs.Tasks.{unpackedTask}
+use Rattle.actions.specs.Works.{effectBy}
 use Rattle.addressing.specs.declared.reach.DataRead.{DataRead}
 use Rattle.addressing.specs.declared.reach.DataRead.the-variants.{Found, Unmapped as NoData}
 use Rattle.addressing.specs.Found.{dataRead}
@@ -35,8 +37,7 @@ use Rattle.model.specs.Status.{maskM, maskX, isSet}
 use Rattle.model.specs.Step as spec
 use Rattle.model.specs.Step.{Plan, stops, changes, change, isDecimal, widthsAfter, operates}
 use Rattle.model.proofs.Step.{decimal-first}
-use Rattle.operations.specs.Tasks.{unpackedTask}
-use Rattle.operations.specs.Works.{effectBy, Does}
+use Rattle.operations.specs.Table.{Does}
 use Rattle.machine.specs.declared.commit.Turn.{Turn}
 use Rattle.machine.specs.declared.fetch.Fetched.{Fetched}
 use Rattle.machine.specs.Fetches.{instruction}

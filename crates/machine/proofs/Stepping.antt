@@ -28,7 +28,8 @@ use Rattle.model.specs.Step.{Plan, Stepped, stops, changes, change, operates, c
 use Rattle.machine.specs.declared.commit.Turn.{Turn}
 use Rattle.machine.specs.declared.fetch.Fetched.{Fetched}
 use Rattle.machine.specs.declared.fetch.Fetch.{Fetch}
-use Rattle.machine.specs.declared.fetch.Fetch.the-variants.{Whole as Found, NotCarried as NoCode, CutOff as Nothing}
+use Rattle.machine.specs.declared.fetch.Fetch.the-variants.{Whole as Found}
+use Rattle.machine.specs.declared.fetch.Fetch.the-variants.{NotCarried as NoCode, CutOff as Nothing}
 use Rattle.machine.specs.Fetches.{instruction, decodedAs, isBranch}
 use Rattle.machine.specs.Turns.{state, coreOf, turn, left, finished, goesBy}
 use Rattle.machine.proofs.Turning.{place-kept, core-kept}
@@ -63,7 +64,8 @@ module _ (i : Fetched) (m : Memory) (place depth : ℕ) (file opens : List ℕ) 
             → operates c there m (goesBy b i place) ≡ planBy c there m opened f
         by Next h b e =
             rw e
-            (ap (λ p. operates c there m (λ taken. nextAddress p (i .length))) (sym (place-kept place depth file inside)))
+            (ap (λ p. operates c there m (λ taken. nextAddress p (i .length)))
+            (sym (place-kept place depth file inside)))
         by Branch h b e =
             rw e
             (ap (λ p. operates c there m (λ taken. pick taken (targetAddress there p) (nextAddress p (i .length))))
@@ -74,8 +76,8 @@ module _ (i : Fetched) (m : Memory) (place depth : ℕ) (file opens : List ℕ) 
         by Halt h b e = absurd (past-keys 5 (omega arith) h)
 
     pub by-jump : flow ≡ Jump
-        → after ≡ finished (changes (change (registersOf file) (targetAddress there place) Keep [])) i m place depth file
-        opens
+        → after
+        ≡ finished (changes (change (registersOf file) (targetAddress there place) Keep [])) i m place depth file opens
         → after ≡ onDecoded (Whole there) m (state c opens)
     unfolding planBy
     by-jump e e′ =
@@ -123,10 +125,10 @@ module _ (m : Memory) (place depth : ℕ) (file opens : List ℕ) (found : Fetch
         → after ≡ step m (state (coreOf place depth file) opens)
     step-whole i e e′ = by-fetch (rw e e′)
 
-    pub step-uncarried : (t : Turn) → found ≡ NoCode → t ≡ turn (Stopped Uncarried) (place % addressLimit) depth
+    pub step-uncarried : (t : Turn) → found ≡ NoCode → t ≡ turn (Stopped Uncarried) place depth
         → after ≡ left t file opens (m .ram) → after ≡ step m (state (coreOf place depth file) opens)
-    step-uncarried t e e′ e″ = by-fetch (rw (e, e″, e′) refl)
+    step-uncarried t e e′ e″ = by-fetch (rw (e, e″, e′, core-kept place depth file) refl)
 
-    pub step-outside : (t : Turn) → found ≡ Nothing → t ≡ turn (Stopped Outside) (place % addressLimit) depth
+    pub step-outside : (t : Turn) → found ≡ Nothing → t ≡ turn (Stopped Outside) place depth
         → after ≡ left t file opens (m .ram) → after ≡ step m (state (coreOf place depth file) opens)
-    step-outside t e e′ e″ = by-fetch (rw (e, e″, e′) refl)
+    step-outside t e e′ e″ = by-fetch (rw (e, e″, e′, core-kept place depth file) refl)

@@ -13,7 +13,8 @@ use Rattle.model.specs.declared.machine.Stop.{Stop}
 use Rattle.model.specs.declared.machine.Store.{Store}
 use Rattle.model.specs.Image.{addressLimit, bankSize}
 use Rattle.model.specs.Memory.{Memory, served, stored}
-use Rattle.model.specs.Step.{Plan, stops, changes, change, placeOf, answerOf, depthAfter, callsAfter, widthsAfter, stepped}
+use Rattle.model.specs.Step.{Plan, stops, changes, change, placeOf}
+use Rattle.model.specs.Step.{answerOf, depthAfter, callsAfter, widthsAfter, stepped}
 use Rattle.machine.specs.declared.commit.Turn.{Turn}
 use Rattle.machine.specs.declared.fetch.Fetched.{Fetched}
 use Rattle.machine.specs.Fetches.{instruction}
@@ -34,14 +35,15 @@ module _ (i : Fetched) (m : Memory) (place depth : ℕ) (file calls : List ℕ) 
   stops-so stop p t e e′ = rw (e, ← e′) refl
 
   module _ (after : Registers) (to : ℕ) (opens : CallChange) (stores : List Store) where
-    pub stops-at-stores : (stop : Stop) (t : Turn) → t ≡ turn (Stopped stop) place depth → served m stores ≡ Refused stop
+    pub stops-at-stores : (stop : Stop) (t : Turn) → t ≡ turn (Stopped stop) place depth
+        → served m stores ≡ Refused stop
         → left t file calls (m .ram) ≡ finished (changes (change after to opens stores)) i m place depth file calls
     stops-at-stores stop t e e′ = rw (e, e′) refl
 
     -- all parts of a change carried out
     pub completes : (file′ calls′ ram′ : List ℕ) → served m stores ≡ All
-        → registersOf file′ ≡ widthsAfter (instruction i) (registersOf file) after → calls′ ≡ callsAfter opens depth calls
-        → ram′ ≡ stored stores (m .ram)
+        → registersOf file′ ≡ widthsAfter (instruction i) (registersOf file) after
+        → calls′ ≡ callsAfter opens depth calls → ram′ ≡ stored stores (m .ram)
         → left (turn (answerOf opens) to (depthAfter opens depth)) file′ calls′ ram′
         ≡ finished (changes (change after to opens stores)) i m place depth file calls
     completes file′ calls′ ram′ all same e e′ =

@@ -5,7 +5,8 @@ use mathlib.Core.Bool.{Bool, true, false}
 use Rattle.codepages.specs.Packing.{unpacked}
 use Rattle.machine.specs.declared.fetch.Fetched.{Fetched}
 use Rattle.machine.specs.declared.fetch.Fetch.{Fetch}
-use Rattle.machine.specs.declared.fetch.Fetch.the-variants.{Whole as Found, NotCarried as NoCode, CutOff as Outside}
+use Rattle.machine.specs.declared.fetch.Fetch.the-variants.{Whole as Found, NotCarried as NoCode}
+use Rattle.machine.specs.declared.fetch.Fetch.the-variants.{CutOff as Outside}
 use Rattle.model.specs.declared.code.Decoded.{Decoded}
 use Rattle.model.specs.declared.code.Decoded.the-variants.{Whole, NotCarried, CutOff}
 use Rattle.model.specs.declared.code.Flow.{Flow}

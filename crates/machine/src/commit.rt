@@ -6,6 +6,7 @@ use cpu::file::PS;
 use cpu::flags::bit_at;
 use cpu::flags::with_widths;
 use entries::effect_of;
+use entries::keeps_widths;
 use memory::stores::served_all;
 use memory::stores::write;
 use model::machine::Answer;
@@ -58,6 +59,10 @@ fn settled(i: Fetched, before: u16, after: u16) -> u16
         (eqb (xAfter (instruction i .entry .effect) (bit (isSet maskX before)) (i .operand)) 1) (statusOf after)
         ⌝ }
 {
+    // Most keep the widths, and their effect need not be told apart.
+    if keeps_widths(i.number) {
+        return with_widths(bit_at(Status::M, before), bit_at(Status::X, before), after);
+    }
     let effect = effect_of(i.number);
     let m = m_after(effect, bit_at(Status::M, before), i.operand);
     let x = x_after(effect, bit_at(Status::X, before), i.operand);
@@ -99,7 +104,8 @@ pub fn finish(
         ((calls : List ℕ) → left r (now (registers .exit)) calls (now (ram .exit))
         ≡ finished
         (spec.changes
-        (spec.change (viewed effect (registersOf (now (registers .entry))) .registers) to Keep (listed (effect .stores))))
+        (spec.change (viewed effect (registersOf (now (registers .entry))) .registers) to Keep
+        (listed (effect .stores))))
         i (memory (now (ram .entry)) (now (image .entry)) base) place depth (now (registers .entry)) calls)
         × (length (now (registers .exit)) ≡ fileSize)
         ⌝ }

@@ -32,7 +32,10 @@ pub enum Fetch {
 
 // What stands at a place, at the widths of a status. RAM has no part in it.
 pub fn fetch_at(codes: &CodePages, image: &[u8], base: u32, place: u32, status: u16) -> Fetch
-    requires { ⌜ (now codes ≡ numbers) × (base + length (now image) ≤ addressLimit) × (length (now image) ≤ imageLimit) ⌝ }
+    requires { ⌜
+        (now codes ≡ numbers) × (base + length (now image) ≤ addressLimit)
+        × (length (now image) ≤ imageLimit)
+        ⌝ }
     ensures { λ r. ⌜
         ((ram : List ℕ) (c : Core) → place ≡ spec.placeOf c → c .registers .status ≡ statusOf status
         → decodedAs r ≡ spec.fetched (memory ram (now (image .entry)) base) c)

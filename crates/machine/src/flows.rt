@@ -4,6 +4,8 @@ use crate::commit::finish;
 use crate::commit::put;
 use crate::commit::stopped;
 use crate::fetch::Fetched;
+use actions::effect_by;
+use actions::tasks::access_of;
 use addressing::access::is_short;
 use addressing::reach::DataRead;
 use addressing::reach::data_of;
@@ -31,9 +33,7 @@ use model::machine::ENTRY_UNIT;
 use model::machine::Served;
 use model::machine::Status;
 use model::machine::Stop;
-use operations::effect_by;
 use operations::table::TaskTable;
-use operations::table::access_of;
 use operations::table::task_at;
 use successors::kind_number;
 use successors::next_address;
@@ -49,7 +49,7 @@ ghost use Rattle.model.specs.Image.{addressLimit};
 ghost use Rattle.model.specs.Memory.{Memory, memory};
 ghost use Rattle.model.specs.Rules.{targetAddress, kindNumber};
 ghost use Rattle.model.specs.Step as spec;
-ghost use Rattle.operations.specs.Works.{Tasked};
+ghost use Rattle.operations.specs.Table.{Tasked};
 ghost use Rattle.machine.specs.Fetches.{instruction, Bounded};
 ghost use Rattle.machine.specs.Turns.{coreOf, left, finished, goesBy};
 
@@ -150,7 +150,8 @@ pub fn jumps(i: Fetched, place: u32, depth: usize, registers: &mut [u16; FILE_SI
     ensures { λ r. ⌜
         ((m : Memory) (calls : List ℕ) → left r (now (registers .exit)) calls (m .ram)
         ≡ finished
-        (spec.changes (spec.change (registersOf (now (registers .entry))) (targetAddress (instruction i) place) Keep []))
+        (spec.changes
+        (spec.change (registersOf (now (registers .entry))) (targetAddress (instruction i) place) Keep []))
         i m place depth (now (registers .entry)) calls)
         × (length (now (registers .exit)) ≡ fileSize)
         ⌝ }

@@ -76,8 +76,9 @@ fn returns_to(
     requires { ⌜ length (now registers) ≡ fileSize ⌝ }
     ensures { λ r. ⌜
         ((m : Memory) (calls : List ℕ) → left r (now (registers .exit)) calls (m .ram)
-        ≡ finished (spec.returnsTo (coreOf place depth (now (registers .entry))) (instruction i) opened kind address) i m
-        place depth (now (registers .entry)) calls)
+        ≡ finished
+        (spec.returnsTo (coreOf place depth (now (registers .entry))) (instruction i) opened kind address)
+        i m place depth (now (registers .entry)) calls)
         × (length (now (registers .exit)) ≡ fileSize)
         ⌝ }
 {

@@ -26,7 +26,7 @@ ghost use Rattle.model.specs.declared.code.Decoded.the-variants.{Whole};
 ghost use Rattle.model.specs.Image.{addressLimit, imageLimit};
 ghost use Rattle.model.specs.Memory.{memory};
 ghost use Rattle.model.specs.Step as spec;
-ghost use Rattle.operations.specs.Works.{Tasked};
+ghost use Rattle.operations.specs.Table.{Tasked};
 ghost use Rattle.machine.specs.Fetches.{instruction, Bounded, isBranch};
 ghost use Rattle.machine.specs.Turns.{state, coreOf, left};
 
@@ -127,7 +127,7 @@ pub fn step_in(
     let fetched = fetch_at(codes, image, base, here, registers[PS]);
     match fetched {
         Fetch::Whole(i) => perform(tasks, image, base, i, here, depth, registers, calls, ram),
-        Fetch::NotCarried => stopped(Stop::Uncarried, here, depth),
-        Fetch::CutOff => stopped(Stop::Outside, here, depth),
+        Fetch::NotCarried => stopped(Stop::Uncarried, place, depth),
+        Fetch::CutOff => stopped(Stop::Outside, place, depth),
     }
 }

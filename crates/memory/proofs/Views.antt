@@ -1,6 +1,6 @@
 -- What the code's enums say of the actions' outcomes.
 -- Assumes nothing.
-use mathlib.Core.Path.{_≡_, sym}
+use mathlib.Core.Path.{_≡_}
 use Prim.Native.Nat.{ℕ}
 use Rattle.memory.specs.declared.reads.WordRead.{WordRead}
 use Rattle.memory.specs.declared.reads.WordRead.the-variants.{Word, Unmapped as NoWord}

@@ -75,7 +75,10 @@ pub fn word_from(ram: &[u8], image: &[u8], base: u32, at: u64, then: u64) -> Wor
 
 // The number whose three bytes lie at three addresses.
 pub fn long_from(ram: &[u8], image: &[u8], base: u32, at: u64, then: u64, last: u64) -> LongRead
-    ensures { λ r. ⌜ (r ≡ longRead (come (memory (now (ram .entry)) (now (image .entry)) base) (longFrom at then last))) × IsLong r ⌝ }
+    ensures { λ r. ⌜
+        (r ≡ longRead (come (memory (now (ram .entry)) (now (image .entry)) base) (longFrom at then last)))
+        × IsLong r
+        ⌝ }
 {
     let first = byte_at(ram, image, base, at);
     let ByteRead::Byte(low) = first else {
@@ -94,7 +97,9 @@ pub fn long_from(ram: &[u8], image: &[u8], base: u32, at: u64, then: u64, last: 
 
 // Data of one byte, or of two bytes, at their addresses.
 pub fn data_from(ram: &[u8], image: &[u8], base: u32, short: bool, at: u64, then: u64) -> WordRead
-    ensures { λ r. ⌜ r ≡ wordRead (come (memory (now (ram .entry)) (now (image .entry)) base) (dataFrom short at then)) ⌝ }
+    ensures { λ r. ⌜
+        r ≡ wordRead (come (memory (now (ram .entry)) (now (image .entry)) base) (dataFrom short at then))
+        ⌝ }
 {
     if !short {
         return word_from(ram, image, base, at, then);

@@ -1,5 +1,5 @@
--- A run is what is left of it at each step: a step that completes is one less to do, a step that stops ends it and leaves
--- registers, open calls and RAM as they were.
+-- A run is what is left of it at each step: a step that completes is one less to do, a step that stops ends it and
+-- leaves registers, open calls and RAM as they were.
 -- Assumes nothing.
 use mathlib.Core.Path.{_≡_, refl, sym, ap, ap₂, _∙_}
 use mathlib.Core.Bool.{Bool, true, false}
@@ -73,7 +73,8 @@ module _ (image : List ℕ) (base : ℕ) (calls₀ ram₀ : List ℕ) (given : C
         same = refl;
       }
 
-  module _ (calls ram file : List ℕ) (place depth steps made : ℕ) (g : Going calls ram file place depth steps made) where
+  module _ (calls ram file : List ℕ) (place depth steps made : ℕ)
+      (g : Going calls ram file place depth steps made) where
     abbrev m : Memory
     m = memory ram image base
 
@@ -119,7 +120,8 @@ module _ (image : List ℕ) (base : ℕ) (calls₀ ram₀ : List ℕ) (given : C
       stops-so c end e core e′ =
           let answers : step m s .answer ≡ turn .answer = ap (λ t. t .answer) (sym is-step) in
           let kept = stopped-leaves m s (rw answers c) in
-          let same-state : state (coreOf (turn .place) (turn .depth) file′) calls′ ≡ s = ap (λ t. t .state) is-step ∙ kept .0 in
+          let same-state : state (coreOf (turn .place) (turn .depth) file′) calls′ ≡ s =
+          ap (λ t. t .state) is-step ∙ kept .0 in
           let same-ram : ram′ ≡ ram = ap (λ t. t .ram) is-step ∙ kept .1 in
           let first = rw one-more at (g .goes) in
           rw (e, e′, same-state, same-ram) (sym (stop-ends m s (asked - (steps + 1)) steps made (turn .answer) answers

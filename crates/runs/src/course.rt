@@ -21,7 +21,7 @@ ghost use Rattle.model.specs.Run.{stepLimit, isCompleted, isCall, endAfter, pla
 ghost use Rattle.model.specs.Status.{bit};
 ghost use Rattle.model.specs.Step.{callLimit, placeOf};
 ghost use Rattle.machine.specs.Turns.{state, coreOf};
-ghost use Rattle.operations.specs.Works.{Tasked};
+ghost use Rattle.operations.specs.Table.{Tasked};
 ghost use Rattle.runs.specs.Courses.{leftBy};
 
 // How a run ended, the steps completed, the calls among them, and the registers after it.

@@ -13,7 +13,4 @@ returns c =
     ((put .size, put .same), put-inside put (c .before .before .before .before .before .before .before .before .pre))
 
 pub put-answer-line-spec : {M : Type 1} → statement M
-put-answer-line-spec =
-    tie.close
-    (tie.spec
-    (λ c κs. search needs) (λ c κs. search needs) (λ c. search needs) returns)
+put-answer-line-spec = tie.close (tie.spec (λ c κs. search needs) (λ c κs. search needs) (λ c. search needs) returns)

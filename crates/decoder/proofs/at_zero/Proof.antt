@@ -11,6 +11,4 @@ returns-2 : tie.Need-returns-2
 returns-2 c = rw (ne-eqb _ _ (c .if1 .left))
 
 pub at-zero-spec : {M : Type 1} → statement M
-at-zero-spec = tie.close
-    (tie.spec
-    returns returns-2)
+at-zero-spec = tie.close (tie.spec returns returns-2)

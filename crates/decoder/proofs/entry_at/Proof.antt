@@ -9,6 +9,4 @@ returns : tie.Need-returns
 returns c = rw (c .unpack .ensures, c .before .number-at .ensures, c .before .before .pre .0) (unpacked-at _ _)
 
 pub entry-at-spec : {M : Type 1} → statement M
-entry-at-spec = tie.close
-    (tie.spec
-    (λ c κs. search needs) (λ c κs. search needs) returns)
+entry-at-spec = tie.close (tie.spec (λ c κs. search needs) (λ c κs. search needs) returns)

@@ -14,34 +14,28 @@ returns c =
 
 returns-2 : tie.Need-returns-2
 returns-2 c =
-    let start = c .before .before .before .before .before .before .before in
-    framed-at (start .args .image .now) (start .args .at) (c .before .before .before .before .look .result) (start
-    .args .m) (start .args .x) (c .fit .result) (c .before .before .before .before .look .ensures) (rw (c .before
-    .before .number .given .1) (c .fit .ensures))
+    let code = c .before .before .before .before in
+    let args = code .before .before .before .args in
+    framed-at (args .image .now) (args .at) (code .look .result) (args .m) (args .x) (c .fit .result)
+    (code .look .ensures) (rw (c .before .before .number .given .1) (c .fit .ensures))
 
 returns-3 : tie.Need-returns-3
 returns-3 c =
-    let start = c .before .before .before .before .before in
-    framed-at (start .args .image .now) (start .args .at) (c .before .before .look .result) (start .args .m) (start
-    .args .x) Uncarried (c .before .before .look .ensures) (rw (c .enum-told .given .1) refl)
+    let code = c .before .before in
+    let args = code .before .before .before .args in
+    framed-at (args .image .now) (args .at) (code .look .result) (args .m) (args .x) Uncarried (code .look .ensures)
+    (rw (c .enum-told .given .1) refl)
 
 returns-4 : tie.Need-returns-4
 returns-4 c =
-    let start = c .before .before .before .before .before in
-    framed-at (start .args .image .now) (start .args .at) (c .before .before .look .result) (start .args .m) (start
-    .args .x) Short (c .before .before .look .ensures) (rw (c .enum-told2 .given .1) refl)
+    let code = c .before .before in
+    let args = code .before .before .before .args in
+    framed-at (args .image .now) (args .at) (code .look .result) (args .m) (args .x) Short (code .look .ensures)
+    (rw (c .enum-told2 .given .1) refl)
 
 pub frame-at-spec : {M : Type 1} → statement M
 frame-at-spec =
     tie.close
     (tie.spec
-    returns
-    (λ c κs. search needs)
-    (λ c. search needs)
-    (λ c. search needs)
-    (λ c κs. search needs)
-    (λ c. search needs)
-    (λ c. search needs)
-    returns-2
-    returns-3
-    returns-4)
+    returns (λ c κs. search needs) (λ c. search needs) (λ c. search needs) (λ c κs. search needs) (λ c. search needs)
+    (λ c. search needs) returns-2 returns-3 returns-4)

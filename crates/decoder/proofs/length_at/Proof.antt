@@ -8,14 +8,8 @@ use Rattle.decoder.proofs.length_at.Tie as tie
 
 add-result : tie.Need-add-result
 add-result c =
-    omega (
-      arith,
-      c .before .more-bytes .ensures,
-      more-at-most (c .before .before .args .entry .rule) (c .before
-          .before .args .m) (c .before .before .args .x),
-    )
+    let args = c .before .before .args in
+    omega (arith, c .before .more-bytes .ensures, more-at-most (args .entry .rule) (args .m) (args .x))
 
 pub length-at-spec : {M : Type 1} → statement M
-length-at-spec = tie.close
-    (tie.spec
-    (λ c κs. search needs) add-result (λ c. search needs))
+length-at-spec = tie.close (tie.spec (λ c κs. search needs) add-result (λ c. search needs))

@@ -20,21 +20,14 @@ add-result c = omega (arith, c .before .pair2 .ensures .1, c .before .before .pa
 
 returns : tie.Need-returns
 returns c =
-    six-at (c .before .before .before .before .args .bytes .now) (c .before .before .before .before .args .at) (c
-    .before .before .pair .result) (c .before .pair2 .result) (c .pair3 .result) (c .before .before .before .before
-    .pre) (c .before .before .pair .ensures .0) (c .before .pair2 .ensures .0) (c .pair3 .ensures .0)
+    let start = c .before .before .before .before in
+    six-at (start .args .bytes .now) (start .args .at) (c .before .before .pair .result) (c .before .pair2 .result)
+    (c .pair3 .result) (start .pre) (c .before .before .pair .ensures .0) (c .before .pair2 .ensures .0)
+    (c .pair3 .ensures .0)
 
 pub six-bytes-spec : {M : Type 1} → statement M
 six-bytes-spec =
     tie.close
     (tie.spec
-    (λ c κs. search needs)
-    (λ c. search needs)
-    (λ c κs. search needs)
-    mul-low
-    add-low
-    (λ c. search needs)
-    (λ c κs. search needs)
-    mul-result
-    add-result
-    returns)
+    (λ c κs. search needs) (λ c. search needs) (λ c κs. search needs) mul-low add-low (λ c. search needs)
+    (λ c κs. search needs) mul-result add-result returns)

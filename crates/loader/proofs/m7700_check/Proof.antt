@@ -9,13 +9,11 @@ use Rattle.loader.proofs.m7700_check.Tie as tie
 
 pack-requires : tie.Need-pack-requires
 pack-requires c κs =
-    rw (c .check .ensures) (verdict-fits (c .before .before .before .args .image .now) (c .before .before .before
-    .args .marks .now) (c .before .before .before .args .base) (c .before .before .before .args .reset))
+    let args = c .before .before .before .args in
+    rw (c .check .ensures) (verdict-fits (args .image .now) (args .marks .now) (args .base) (args .reset))
 
 returns : tie.Need-returns
 returns c = c .pack .ensures ∙ ap packedVerdict (c .before .check .ensures)
 
 pub m7700-check-spec : {M : Type 1} → statement M
-m7700-check-spec = tie.close
-    (tie.spec
-    (λ c κs. search needs) pack-requires returns)
+m7700-check-spec = tie.close (tie.spec (λ c κs. search needs) pack-requires returns)

@@ -8,9 +8,9 @@ use Rattle.loader.proofs.m7700_read_list.Statement.{statement}
 use Rattle.loader.proofs.m7700_read_list.Tie as tie
 
 pack-read-requires : tie.Need-pack-read-requires
-pack-read-requires c κs = rw (c .before .before .read-list .ensures .0) (read-fits
-    (c .before .before .before .before .before .before .args .text .now)
-    (c .before .before .before .before .before .before .args .marks .now))
+pack-read-requires c κs =
+    let args = c .before .before .before .before .before .before .args in
+    rw (c .before .before .read-list .ensures .0) (read-fits (args .text .now) (args .marks .now))
 
 returns : tie.Need-returns
 returns c = (

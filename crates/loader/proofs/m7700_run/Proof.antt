@@ -10,15 +10,15 @@ use Rattle.loader.proofs.m7700_run.Tie as tie
 
 pack-run-requires : tie.Need-pack-run-requires
 pack-run-requires c κs =
-    let start = c .before .before .before .before .before .before .before .before .before .before in
-    rw (c .before .before .before .before .run .ensures .0) (run-fits (memory (start .args .ram .now) (start .args
-    .image .now) (start .args .base)) (start .args .state .now) (start .args .steps))
+    let ran = c .before .before .before .before in
+    let args = ran .before .before .before .before .before .before .args in
+    rw (ran .run .ensures .0)
+    (run-fits (memory (args .ram .now) (args .image .now) (args .base)) (args .state .now) (args .steps))
 
 returns : tie.Need-returns
 returns c = (
   c .pack-run .ensures ∙ ap packedRun (c .before .before .before .before .before .run .ensures .0),
-  c .before
-      .before .before .before .before .run .ensures .1,
+  c .before .before .before .before .before .run .ensures .1,
 )
 
 pub m7700-run-spec : {M : Type 1} → statement M

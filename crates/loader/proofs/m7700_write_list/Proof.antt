@@ -8,11 +8,10 @@ use Rattle.loader.proofs.m7700_write_list.Statement.{statement}
 use Rattle.loader.proofs.m7700_write_list.Tie as tie
 
 pack-written-requires : tie.Need-pack-written-requires
-pack-written-requires c κs = rw (c .before .before .write-list .ensures .0) (written-fits
-    (c .before .before .before .before .before .before .args .marks .now)
-    (c .before .before .before .before .before .before .args .base)
-    (c .before .before .before .before .before .before .args .reset)
-    (c .before .before .before .before .before .before .args .page .now))
+pack-written-requires c κs =
+    let args = c .before .before .before .before .before .before .args in
+    rw (c .before .before .write-list .ensures .0)
+    (written-fits (args .marks .now) (args .base) (args .reset) (args .page .now))
 
 returns : tie.Need-returns
 returns c = (

@@ -12,5 +12,8 @@ returns-2 : tie.Need-returns-2
 returns-2 c = rw (c .before .answer2 .given .1)
 
 pub pack-written-spec : {M : Type 1} → statement M
-pack-written-spec = tie.close (tie.spec (λ c. search needs) (λ c κs. search needs) (λ c. search needs) (λ c. search needs) mul-result (λ
-    c. search needs) returns-2)
+pack-written-spec =
+    tie.close
+    (tie.spec
+    (λ c. search needs) (λ c κs. search needs) (λ c. search needs) (λ c. search needs) mul-result
+    (λ c. search needs) returns-2)

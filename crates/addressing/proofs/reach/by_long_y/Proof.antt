@@ -13,19 +13,22 @@ use Rattle.addressing.proofs.reach.by_long_y.Tie as tie
 
 add-t15 : tie.Need-add-t15
 add-t15 c =
-    let bound = subst IsLong (c .before .before .read .given .1) (c .before .before .before .before .long-from
-    .ensures .1) in omega arith
+    let long = c .before .before .before .before in
+    let bound = subst IsLong (c .before .before .read .given .1) (long .long-from .ensures .1) in
+    omega arith
 
 returns : tie.Need-returns
 returns c =
-    rw (c .index-y .ensures .0) (long-found _ _ (λ p. p + indexY (registersOf (c .before .before .before .before
-    .before .before .before .args .registers .now))) _ (c .before .before .before .before .long-from .ensures .0) _
+    let long = c .before .before .before .before in
+    let r = registersOf (long .before .before .before .args .registers .now) in
+    rw (c .index-y .ensures .0) (long-found _ _ (λ p. p + indexY r) _ (long .long-from .ensures .0) _
     (c .before .before .read .given .1))
 
 returns-2 : tie.Need-returns-2
 returns-2 c =
-    long-missing _ _ (λ p. p + indexY (registersOf (c .before .before .before .before .before .args .registers
-    .now))) _ (c .before .before .long-from .ensures .0) (c .enum-told .given .1)
+    let long = c .before .before in
+    let r = registersOf (long .before .before .before .args .registers .now) in
+    long-missing _ _ (λ p. p + indexY r) _ (long .long-from .ensures .0) (c .enum-told .given .1)
 
 pub by-long-y-spec : {M : Type 1} → statement M
 by-long-y-spec =

@@ -9,14 +9,15 @@ use Rattle.addressing.proofs.reach.by_word.Tie as tie
 
 returns : tie.Need-returns
 returns c =
-    word-found _ _ (inDataBank (registersOf (c .before .before .before .before .before .before .before .args
-    .registers .now))) _ (c .before .before .before .before .word-from .ensures) _ (c .before .before .read .given
-    .1)
+    let word = c .before .before .before .before in
+    let r = registersOf (word .before .before .before .args .registers .now) in
+    word-found _ _ (inDataBank r) _ (word .word-from .ensures) _ (c .before .before .read .given .1)
 
 returns-2 : tie.Need-returns-2
 returns-2 c =
-    word-missing _ _ (inDataBank (registersOf (c .before .before .before .before .before .args .registers .now))) _
-    (c .before .before .word-from .ensures) (c .enum-told .given .1)
+    let word = c .before .before in
+    let r = registersOf (word .before .before .before .args .registers .now) in
+    word-missing _ _ (inDataBank r) _ (word .word-from .ensures) (c .enum-told .given .1)
 
 pub by-word-spec : {M : Type 1} → statement M
 by-word-spec =

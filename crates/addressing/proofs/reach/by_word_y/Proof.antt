@@ -10,16 +10,16 @@ use Rattle.addressing.proofs.reach.by_word_y.Tie as tie
 
 returns : tie.Need-returns
 returns c =
-    rw (c .index-y .ensures .0) (word-found _ _ (λ p. inDataBank (registersOf (c .before .before .before .before
-    .before .before .before .before .args .registers .now)) p + indexY (registersOf (c .before .before .before
-    .before .before .before .before .before .args .registers .now))) _ (c .before .before .before .before .before
-    .word-from .ensures) _ (c .before .before .before .read .given .1))
+    let word = c .before .before .before .before .before in
+    let r = registersOf (word .before .before .before .args .registers .now) in
+    rw (c .index-y .ensures .0) (word-found _ _ (λ p. inDataBank r p + indexY r) _ (word .word-from .ensures) _
+    (c .before .before .before .read .given .1))
 
 returns-2 : tie.Need-returns-2
 returns-2 c =
-    word-missing _ _ (λ p. inDataBank (registersOf (c .before .before .before .before .before .args .registers
-    .now)) p + indexY (registersOf (c .before .before .before .before .before .args .registers .now))) _ (c .before
-    .before .word-from .ensures) (c .enum-told .given .1)
+    let word = c .before .before in
+    let r = registersOf (word .before .before .before .args .registers .now) in
+    word-missing _ _ (λ p. inDataBank r p + indexY r) _ (word .word-from .ensures) (c .enum-told .given .1)
 
 pub by-word-y-spec : {M : Type 1} → statement M
 by-word-y-spec =

@@ -10,44 +10,40 @@ use Rattle.addressing.proofs.reach.data_of.Tie as tie
 
 returns : tie.Need-returns
 returns c =
-    rw (
-      asked (c .before .before .before .before .before .args .mode)
-          (c .before .before .before .before .before .args .named)
-          (registersOf (c .before .before .before .before .before .args .registers .now))
-          (c .before .before .before .before .before .args .short)
-          (c .before .before .before .before .before .args .operand)
-          (c .before .before .before .before .before .args .access) (c .before .before .match .keys1),
-      ← c .before .is-address .ensures,
-    ) (c .operand-by .ensures)
+    let args = c .before .before .before .before .before .args in
+    let law =
+    asked (args .mode) (args .named) (registersOf (args .registers .now)) (args .short) (args .operand)
+    (args .access) (c .before .before .match .keys1) in
+    rw (law, ← c .before .is-address .ensures) (c .operand-by .ensures)
 
 returns-2 : tie.Need-returns-2
 unfolding dataOf
 returns-2 c =
+    let second = c .before .before in
+    let first = second .before .before in
+    let told = first .before .before in
+    let args = told .before .before .before .before .args in
     rw (
-      c .before .before .before .before .before .before .enum-told .given .1,
+      told .enum-told .given .1,
       c .value-alone .ensures,
       c .before .data-from .ensures,
-      c .before .before .before .before .pulled-at .ensures,
-      c .before .before .pulled-at2 .ensures,
-    ) (value-only (memory (c .before .before .before .before .before .before .before .before .before .before
-    .args .ram .now) (c .before .before .before .before .before .before .before .before .before .before .args .image
-    .now) (c .before .before .before .before .before .before .before .before .before .before .args .base)) (pulled
-    (c .before .before .before .before .before .before .before .before .before .before .args .short) (registersOf (c
-    .before .before .before .before .before .before .before .before .before .before .args .registers .now))))
+      first .pulled-at .ensures,
+      second .pulled-at2 .ensures,
+    ) (value-only (memory (args .ram .now) (args .image .now) (args .base))
+    (pulled (args .short) (registersOf (args .registers .now))))
 
 returns-3 : tie.Need-returns-3
 unfolding dataOf
 returns-3 c =
+    let told = c .before .before .before in
+    let args = told .before .before .before .before .args in
     rw (
-      c .before .before .before .enum-told2 .given .1,
+      told .enum-told2 .given .1,
       c .value-alone2 .ensures,
       c .before .word-from .ensures,
       c .before .before .direct .ensures .0,
-    ) (value-only (memory (c .before .before .before .before .before .before
-    .before .args .ram .now) (c .before .before .before .before .before .before .before .args .image .now) (c
-    .before .before .before .before .before .before .before .args .base)) (readWord (direct (registersOf (c .before
-    .before .before .before .before .before .before .args .registers .now)) (c .before .before .before .before
-    .before .before .before .args .operand))))
+    ) (value-only (memory (args .ram .now) (args .image .now) (args .base))
+    (readWord (direct (registersOf (args .registers .now)) (args .operand))))
 
 pub data-of-spec : {M : Type 1} → statement M
 data-of-spec =

@@ -9,49 +9,39 @@ use Rattle.addressing.proofs.reach.in_memory.Tie as tie
 
 returns : tie.Need-returns
 returns c =
-    data-nowhere (memory (c .before .before .before .before .before .args .ram .now) (c .before .before .before
-    .before .before .args .image .now) (c .before .before .before .before .before .args .base)) (c .before .before
-    .before .before .before .args .mode) (registersOf (c .before .before .before .before .before .args .registers
-    .now)) (c .before .before .before .before .before .args .short) (c .before .before .before .before .before .args
-    .operand) _ (c .before .before .address-of .ensures) (c .before .before .before .before .before .args .alone) (c
-    .enum-told .given .1)
+    let address = c .before .before in
+    let args = address .before .before .before .args in
+    data-nowhere (memory (args .ram .now) (args .image .now) (args .base)) (args .mode)
+    (registersOf (args .registers .now)) (args .short) (args .operand) _ (address .address-of .ensures) (args .alone)
+    (c .enum-told .given .1)
 
 returns-2 : tie.Need-returns-2
 returns-2 c =
-    address-found (memory (c .before .before .before .before .before .before .before .args .ram .now) (c .before
-    .before .before .before .before .before .before .args .image .now) (c .before .before .before .before .before
-    .before .before .args .base)) (c .before .before .before .before .before .before .before .args .mode)
-    (registersOf (c .before .before .before .before .before .before .before .args .registers .now)) (c .before
-    .before .before .before .before .before .before .args .short) (c .before .before .before .before .before .before
-    .before .args .operand) _ (c .before .before .before .before .address-of .ensures) (c .before .before .before
-    .before .before .before .before .args .alone) (c .if1 .taken) _ (c .before .before .reached .given .1)
+    let address = c .before .before .before .before in
+    let args = address .before .before .before .args in
+    address-found (memory (args .ram .now) (args .image .now) (args .base)) (args .mode)
+    (registersOf (args .registers .now)) (args .short) (args .operand) _ (address .address-of .ensures) (args .alone)
+    (c .if1 .taken) _ (c .before .before .reached .given .1)
 
 returns-3 : tie.Need-returns-3
 returns-3 c =
-    data-found (memory (c .before .before .before .before .before .before .before .before .before .before .before
-    .args .ram .now) (c .before .before .before .before .before .before .before .before .before .before .before
-    .args .image .now) (c .before .before .before .before .before .before .before .before .before .before .before
-    .args .base)) (c .before .before .before .before .before .before .before .before .before .before .before .args
-    .mode) (registersOf (c .before .before .before .before .before .before .before .before .before .before .before
-    .args .registers .now)) (c .before .before .before .before .before .before .before .before .before .before
-    .before .args .short) (c .before .before .before .before .before .before .before .before .before .before .before
-    .args .operand) _ (c .before .before .before .before .before .before .before .before .address-of .ensures) _ (c
-    .before .before .before .before .before .before .reached .given .1) _ (c .before .before .before .data-from
-    .ensures) (c .before .before .before .before .before .before .before .before .before .before .before .args
-    .alone) (c .before .before .before .before .if1 .left) _ (c .before .read .given .1)
+    let more = c .before .before .before .before in
+    let address = more .before .before .before .before in
+    let args = address .before .before .before .args in
+    data-found (memory (args .ram .now) (args .image .now) (args .base)) (args .mode)
+    (registersOf (args .registers .now)) (args .short) (args .operand) _ (address .address-of .ensures) _
+    (more .before .before .reached .given .1) _ (c .before .before .before .data-from .ensures) (args .alone)
+    (more .if1 .left) _ (c .before .read .given .1)
 
 returns-4 : tie.Need-returns-4
 returns-4 c =
-    data-missing (memory (c .before .before .before .before .before .before .before .before .before .before .args
-    .ram .now) (c .before .before .before .before .before .before .before .before .before .before .args .image .now)
-    (c .before .before .before .before .before .before .before .before .before .before .args .base)) (c .before
-    .before .before .before .before .before .before .before .before .before .args .mode) (registersOf (c .before
-    .before .before .before .before .before .before .before .before .before .args .registers .now)) (c .before
-    .before .before .before .before .before .before .before .before .before .args .short) (c .before .before .before
-    .before .before .before .before .before .before .before .args .operand) _ (c .before .before .before .before
-    .before .before .before .address-of .ensures) _ (c .before .before .before .before .before .reached .given .1) _
-    (c .before .before .data-from .ensures) (c .before .before .before .before .before .before .before .before
-    .before .before .args .alone) (c .before .before .before .if1 .left) (c .enum-told2 .given .1)
+    let more = c .before .before .before in
+    let address = more .before .before .before .before in
+    let args = address .before .before .before .args in
+    data-missing (memory (args .ram .now) (args .image .now) (args .base)) (args .mode)
+    (registersOf (args .registers .now)) (args .short) (args .operand) _ (address .address-of .ensures) _
+    (more .before .before .reached .given .1) _ (c .before .before .data-from .ensures) (args .alone)
+    (more .if1 .left) (c .enum-told2 .given .1)
 
 pub in-memory-spec : {M : Type 1} → statement M
 in-memory-spec =

@@ -30,5 +30,4 @@ returns-2 c = rw (← c .before .before .before .judge .ensures .0, c .before .v
 
 pub verdict-answer-spec : {M : Type 1} → statement M
 verdict-answer-spec =
-    tie.close
-    (tie.spec (λ c κs. search needs) (λ c. search needs) cast-t10 (λ c. search needs) returns returns-2)
+    tie.close (tie.spec (λ c κs. search needs) (λ c. search needs) cast-t10 (λ c. search needs) returns returns-2)

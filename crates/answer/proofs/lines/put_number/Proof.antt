@@ -37,6 +37,4 @@ returns c =
 
 pub put-number-spec : {M : Type 1} → statement M
 put-number-spec =
-    tie.close
-    (tie.spec
-    (λ c κs. search needs) put-field-requires add-result (λ c. search needs) returns)
+    tie.close (tie.spec (λ c κs. search needs) put-field-requires add-result (λ c. search needs) returns)

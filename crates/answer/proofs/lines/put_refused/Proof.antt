@@ -7,12 +7,12 @@ use Rattle.answer.proofs.lines.put_refused.Tie as tie
 
 returns : tie.Need-returns
 returns c =
-    let start = c .before .before .before .before .before .before .before .before .before in
-    refused-put (start .args .number) (start .args .offset)
-    (c .before .before .before .before .before .before .put-letter .result) (c .before .before .put-number .result)
-    (start .args .page .now) (c .before .before .before .before .before .before .put-letter .last .0)
-    (c .before .before .put-number .last .0) (start .pre)
-    (c .before .before .before .before .before .before .put-letter .ensures) (c .before .before .put-number .ensures)
+    let number = c .before .before in
+    let letter = number .before .before .before .before in
+    let start = letter .before .before .before in
+    refused-put (start .args .number) (start .args .offset) (letter .put-letter .result) (number .put-number .result)
+    (start .args .page .now) (letter .put-letter .last .0) (number .put-number .last .0) (start .pre)
+    (letter .put-letter .ensures) (number .put-number .ensures)
 
 pub put-refused-spec : {M : Type 1} → statement M
 put-refused-spec =

@@ -9,6 +9,4 @@ returns : tie.Need-returns
 returns c = unread-put (c .args .page .now) (c .pre)
 
 pub put-unread-spec : {M : Type 1} → statement M
-put-unread-spec = tie.close
-    (tie.spec
-    (λ c. search needs) (λ c. search needs) (λ c. search needs) returns)
+put-unread-spec = tie.close (tie.spec (λ c. search needs) (λ c. search needs) (λ c. search needs) returns)

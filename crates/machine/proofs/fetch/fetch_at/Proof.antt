@@ -60,8 +60,8 @@ returns-3 c =
     let framed = c .before .before .frame-at in (
       fetched-at (a .image .now) (a .base) (a .place) (a .status) (start .pre .1) (start .pre .2)
           (omega (arith, from)) (m .result) (x .result) (m .ensures .0) (x .ensures .0) NotCarried
-          (decoded-uncarried (a .image .now) (a .place - a .base) (m .result) (x .result) (framed .result) (framed
-          .ensures) (c .enum-told .given .1)),
+          (decoded-uncarried (a .image .now) (a .place - a .base) (m .result) (x .result) (framed .result)
+          (framed .ensures) (c .enum-told .given .1)),
       tt,
     )
 
@@ -75,8 +75,8 @@ returns-4 c =
     let framed = c .before .before .frame-at in (
       fetched-at (a .image .now) (a .base) (a .place) (a .status) (start .pre .1) (start .pre .2)
           (omega (arith, from)) (m .result) (x .result) (m .ensures .0) (x .ensures .0) CutOff
-          (decoded-short (a .image .now) (a .place - a .base) (m .result) (x .result) (framed .result) (framed
-          .ensures) (c .enum-told2 .given .1)),
+          (decoded-short (a .image .now) (a .place - a .base) (m .result) (x .result) (framed .result)
+          (framed .ensures) (c .enum-told2 .given .1)),
       tt,
     )
 
@@ -84,15 +84,5 @@ pub fetch-at-spec : {M : Type 1} → statement M
 fetch-at-spec =
     tie.close
     (tie.spec
-    returns
-    (λ c. search needs)
-    (λ c κs. search needs)
-    (λ c κs. search needs)
-    (λ c κs. search needs)
-    (λ c. search needs)
-    operand-at-requires
-    (λ c. search needs)
-    (λ c. search needs)
-    returns-2
-    returns-3
-    returns-4)
+    returns (λ c. search needs) (λ c κs. search needs) (λ c κs. search needs) (λ c κs. search needs)
+    (λ c. search needs) operand-at-requires (λ c. search needs) (λ c. search needs) returns-2 returns-3 returns-4)

@@ -22,10 +22,4 @@ returns c =
 
 pub jumps-spec : {M : Type 1} → statement M
 jumps-spec =
-    tie.close
-    (tie.spec
-    (λ c. search needs)
-    (λ c κs. search needs)
-    put-requires
-    (λ c κs. search needs)
-    returns)
+    tie.close (tie.spec (λ c. search needs) (λ c κs. search needs) put-requires (λ c κs. search needs) returns)

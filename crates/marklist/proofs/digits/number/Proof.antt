@@ -24,34 +24,30 @@ mul-value : tie.Need-mul-value Inv-loop μ-loop
 mul-value c =
     let start = c .before .before .before in
     let loop = c .before .loop in
-    omega (
-      arith,
-      room-for-one (start .args .radix) (loop .i) (start .args .count) (loop .value) (drop
-          (start .args .at) (start .args .text .now)) (start .pre .1) (c .loop-test .taken) (start .pre .2)
-          (loop .inv .1),
-    )
+    let fits =
+    room-for-one (start .args .radix) (loop .i) (start .args .count) (loop .value)
+    (drop (start .args .at) (start .args .text .now)) (start .pre .1) (c .loop-test .taken) (start .pre .2)
+    (loop .inv .1) in
+    omega (arith, fits)
 
 add-value : tie.Need-add-value Inv-loop μ-loop
 add-value c =
     let start = c .before .before .before .before .before in
     let loop = c .before .before .before .loop in
-    omega (
-      arith,
-      room-for-one (start .args .radix) (loop .i) (start .args .count) (loop .value) (drop
-          (start .args .at) (start .args .text .now)) (start .pre .1) (c .before .before .loop-test .taken)
-          (start .pre .2)
-          (loop .inv .1),
-    )
+    let fits =
+    room-for-one (start .args .radix) (loop .i) (start .args .count) (loop .value)
+    (drop (start .args .at) (start .args .text .now)) (start .pre .1) (c .before .before .loop-test .taken)
+    (start .pre .2) (loop .inv .1) in
+    omega (arith, fits)
 
 loop-again : tie.Need-loop-again Inv-loop μ-loop
 loop-again c =
     let start = c .before .before .before .before .before in
     let loop = c .before .before .before .loop in (
       omega arith,
-      one-more-shown (start .args .radix) (loop .i) (start .args .count) (loop .value) (drop
-          (start .args .at) (start .args .text .now)) (start .pre .1) (c .before .before .loop-test .taken)
-          (start .pre .2)
-          (loop .inv .1) (c .digit-value .result)
+      one-more-shown (start .args .radix) (loop .i) (start .args .count) (loop .value)
+          (drop (start .args .at) (start .args .text .now)) (start .pre .1) (c .before .before .loop-test .taken)
+          (start .pre .2) (loop .inv .1) (c .digit-value .result)
           (rw (getD-drop (start .args .at) (start .args .text .now) (loop .i) 0, ← c .before .byte-at .ensures)
           (c .digit-value .ensures)) (omega arith),
     )
@@ -60,10 +56,10 @@ returns : tie.Need-returns Inv-loop μ-loop
 returns c =
     let start = c .before .before .before in
     let loop = c .before .loop in
-    all-shown (start .args .radix) (loop .i) (start .args .count) (loop .value) (drop (start .args .at)
-    (start .args .text .now)) (loop .inv .0) (c .loop-test .left) (loop .inv .1)
+    all-shown (start .args .radix) (loop .i) (start .args .count) (loop .value)
+    (drop (start .args .at) (start .args .text .now)) (loop .inv .0) (c .loop-test .left) (loop .inv .1)
 
 pub number-spec : {M : Type 1} → statement M
 number-spec =
-    tie.close (tie.spec Inv-loop μ-loop loop-holds mul-value (λ c. search needs) (λ c κs. search needs) (λ c κs.
-    search needs) (λ c. search needs) add-value (λ c. search needs) (λ c. search needs) loop-again returns)
+    tie.close (tie.spec Inv-loop μ-loop loop-holds mul-value (λ c. search needs) (λ c κs. search needs)
+    (λ c κs. search needs) (λ c. search needs) add-value (λ c. search needs) (λ c. search needs) loop-again returns)

@@ -31,16 +31,16 @@ returns c =
     let start = c .before .before .before .before .before .before in
     let loop = c .before .before .before .before .loop in
     sym (loop .inv ∙ other-digit (start .args .radix) (loop .i) (loop .rest) (c .before .digit .result)
-    (start .args .text .now) (c .before .before .before .loop-test .taken) (c .before .digit .ensures) (λ e.
-    c .if1 .taken (c .before .before .byte-at .ensures ∙ e)))
+    (start .args .text .now) (c .before .before .before .loop-test .taken) (c .before .digit .ensures)
+    (λ e. c .if1 .taken (c .before .before .byte-at .ensures ∙ e)))
 
 loop-again : tie.Need-loop-again Inv-loop μ-loop
 loop-again c =
     let start = c .before .before .before .before .before .before in
     let loop = c .before .before .before .before .loop in
     loop .inv ∙ same-digit (start .args .radix) (loop .i) (loop .rest) (c .before .digit .result)
-    (start .args .text .now) (c .before .before .before .loop-test .taken) (c .before .digit .ensures) (sym
-    (c .before .before .byte-at .ensures) ∙ c .if1 .left)
+    (start .args .text .now) (c .before .before .before .loop-test .taken) (c .before .digit .ensures)
+    (sym (c .before .before .byte-at .ensures) ∙ c .if1 .left)
 
 returns-2 : tie.Need-returns-2 Inv-loop μ-loop
 returns-2 c =

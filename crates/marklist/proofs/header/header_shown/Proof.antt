@@ -1,33 +1,27 @@
 -- Each field by its place.
 -- Assumes nothing.
 use Rattle.model.specs.MarkList as spec
+use Prim.Native.Nat.{_≤_}
 use native.Mathlib.Omega.{arith}
 use Rattle.marklist.proofs.HeaderLaws.{few-digits, power-small}
 use borrow.Author.Needs.{needs}
 use Rattle.marklist.proofs.header.header_shown.Statement.{statement}
 use Rattle.marklist.proofs.header.header_shown.Tie as tie
 
+module _ (c : tie.After-length-digits-shown) where
+  few : c .length-digits-shown .result ≤ spec.lengthDigits
+  few = rw (← c .length-digits-shown .ensures) at (few-digits (c .before .before .args .text .now))
+
 number-requires-2 : tie.Need-number-requires-2
 number-requires-2 c κs =
-    let few = rw (← c .before .length-digits-shown .ensures) at (few-digits
-    (c .before .before .before .args .text .now)) in
-    (omega (arith, few), omega arith, power-small (c .before .length-digits-shown .result) few)
+    let digits = c .before in
+    (omega (arith, few digits), omega arith, power-small (digits .length-digits-shown .result) (few digits))
 
 add-number-2 : tie.Need-add-number-2
-add-number-2 c =
-    omega (
-      arith,
-      rw (← c .before .before .length-digits-shown .ensures) at (few-digits
-          (c .before .before .before .before .args .text .now)),
-    )
+add-number-2 c = omega (arith, few (c .before .before))
 
 number-requires-3 : tie.Need-number-requires-3
-number-requires-3 c κs =
-    omega (
-      arith,
-      rw (← c .before .before .length-digits-shown .ensures) at (few-digits
-          (c .before .before .before .before .args .text .now)),
-    )
+number-requires-3 c κs = omega (arith, few (c .before .before))
 
 returns : tie.Need-returns
 unfolding spec.headerShown

@@ -16,24 +16,26 @@ put-header-requires c κs = small-header (c .before .before .before .before .arg
 
 array-share-prefix-line : tie.Need-array-share-prefix-line
 array-share-prefix-line c =
-    line-long (c .before .before .before .before .before .before .before .args .h) (c .header-size .result)
-    (c .before .before .put-header .last .0) _ (c .header-size .ensures) (c .before .before .put-header .ensures)
+    let put = c .before .before in
+    line-long (put .before .before .before .before .before .args .h) (c .header-size .result)
+    (put .put-header .last .0) _ (c .header-size .ensures) (put .put-header .ensures)
 
 slice-aggregate-starts-with : tie.Need-slice-aggregate-starts-with
 slice-aggregate-starts-with c =
-    begin-long (c .before .before .before .before .before .before .before .before .args .h)
-    (c .before .header-size .result) (c .before .before .before .put-header .last .0) _
-    (c .before .header-size .ensures) (c .before .before .before .put-header .ensures)
+    let put = c .before .before .before in
+    begin-long (put .before .before .before .before .before .args .h) (c .before .header-size .result)
+    (put .put-header .last .0) _ (c .before .header-size .ensures) (put .put-header .ensures)
 
 returns-2 : tie.Need-returns-2
 unfolding spec.isHeader
 returns-2 c =
-    let start = c .before .before .before .before .before .before .before .before .before in
-    rw (lt-ltb (start .args .h .length) spec.lengthLimit
-    (c .before .before .before .before .before .before .if1 .left)) (rw (line-begin (start .args .h)
-    (c .before .before .header-size .result) (c .before .before .before .before .put-header .last .0) _
-    (c .before .before .header-size .ensures) (c .before .before .before .before .put-header .ensures)) at
-    (c .starts-with .ensures))
+    let size = c .before .before .header-size in
+    let put = c .before .before .before .before in
+    let small = put .before .before in
+    let args = small .before .before .before .args in
+    let begin =
+    line-begin (args .h) (size .result) (put .put-header .last .0) _ (size .ensures) (put .put-header .ensures) in
+    rw (lt-ltb (args .h .length) spec.lengthLimit (small .if1 .left)) (rw begin at (c .starts-with .ensures))
 
 pub is-header-spec : {M : Type 1} → statement M
 is-header-spec =

@@ -25,22 +25,19 @@ unfolding spec.lengthDigitsShown
 returns c =
     let start = c .before .before .before .before .before in
     let loop = c .before .before .before .loop in
-    passed-to (spec.tabAt (drop 9 (start .args .text .now))) 0 (loop .i) spec.lengthDigits (loop .inv .0) (omega
-    arith) (rw (getD-drop 9 (start .args .text .now) (loop .i) 0, ← c .before .byte-at .ensures) (eq-eqb
-    (c .before .byte-at .result) spec.tab (c .if1 .taken)))
+    let tab = eq-eqb (c .before .byte-at .result) spec.tab (c .if1 .taken) in
+    passed-to (spec.tabAt (drop 9 (start .args .text .now))) 0 (loop .i) spec.lengthDigits (loop .inv .0) (omega arith)
+    (rw (getD-drop 9 (start .args .text .now) (loop .i) 0, ← c .before .byte-at .ensures) tab)
 
 loop-again : tie.Need-loop-again Inv-loop μ-loop
 loop-again c =
     let start = c .before .before .before .before .before in
-    let loop = c .before .before .before .loop in (
-      one-more-passed (spec.tabAt (drop 9 (start .args .text .now))) 0 (loop .i) (loop .inv .0) (rw (
-        getD-drop 9
-            (start .args .text .now) (loop .i) 0,
-        ← c .before .byte-at .ensures,
-      ) (ne-eqb (c .before .byte-at .result)
-          spec.tab (c .if1 .left))),
-      omega arith,
-    )
+    let loop = c .before .before .before .loop in
+    let other = ne-eqb (c .before .byte-at .result) spec.tab (c .if1 .left) in
+    let passed =
+    one-more-passed (spec.tabAt (drop 9 (start .args .text .now))) 0 (loop .i) (loop .inv .0)
+    (rw (getD-drop 9 (start .args .text .now) (loop .i) 0, ← c .before .byte-at .ensures) other) in
+    (passed, omega arith)
 
 returns-2 : tie.Need-returns-2 Inv-loop μ-loop
 unfolding spec.lengthDigitsShown
@@ -51,5 +48,5 @@ returns-2 c =
 
 pub length-digits-shown-spec : {M : Type 1} → statement M
 length-digits-shown-spec =
-    tie.close (tie.spec Inv-loop μ-loop loop-holds (λ c. search needs) (λ c κs. search needs) returns (λ c. search
-    needs) (λ c. search needs) loop-again returns-2)
+    tie.close (tie.spec Inv-loop μ-loop loop-holds (λ c. search needs) (λ c κs. search needs) returns
+    (λ c. search needs) (λ c. search needs) loop-again returns-2)

@@ -12,13 +12,14 @@ use Rattle.marklist.proofs.header.put_field.Tie as tie
 
 returns : tie.Need-returns
 returns c =
-    let start = c .before .before .before .before .before .before .before .before .before in
-    let digits-put : Front (start .args .page .now) (start .args .count) (digits (start .args .radix)
-    (start .args .count) (start .args .n)) (c .before .before .before .before .before .before .put-digits .last .0) =
+    let put = c .before .before .before .before .before .before in
+    let start = put .before .before .before in
+    let args = start .args in
+    let digits-put : Front (args .page .now) (args .count) (digits (args .radix) (args .count) (args .n))
+    (put .put-digits .last .0) =
     record {
-      same = c .before .before .before .before .before .before .put-digits .ensures;
-      long = length-digits
-          (start .args .radix) (start .args .count) (start .args .n);
+      same = put .put-digits .ensures;
+      long = length-digits (args .radix) (args .count) (args .n);
       room = omega (arith, start .pre .2);
     } in
     front-next 1 (start .args .close ∷ []) (c .before .before .put-byte .last .0) digits-put
@@ -26,5 +27,5 @@ returns c =
 
 pub put-field-spec : {M : Type 1} → statement M
 put-field-spec =
-    tie.close (tie.spec (λ c κs. search needs) (λ c. search needs) (λ c. search needs) (λ c. search needs) (λ c κs.
-    search needs) (λ c. search needs) returns)
+    tie.close (tie.spec (λ c κs. search needs) (λ c. search needs) (λ c. search needs) (λ c. search needs)
+    (λ c κs. search needs) (λ c. search needs) returns)

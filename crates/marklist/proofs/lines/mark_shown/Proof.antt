@@ -1,16 +1,59 @@
 -- Each exit has passed the tests of a line in their order.
 -- Assumes nothing.
-use mathlib.Core.Path.{sym}
-use mathlib.Core.Bool.{true, false}
+use mathlib.Core.Path.{_≡_, refl, sym, _∙_}
+use mathlib.Core.Bool.{Bool, true, false, _&&_}
+use mathlib.Core.List.{List}
+use Prim.Native.Nat.{ℕ, _≤_}
 use native.Mathlib.Omega.{arith}
+use lib.ListN.{length, drop}
 use borrow.Author.Tests.{not-true, not-false}
-use Rattle.model.specs.Digits.{digits}
+use Rattle.model.specs.Choice.{pick}
+use Rattle.model.specs.Digits.{digits, startsWith}
+use Rattle.model.specs.Image.{isFormed}
+use Rattle.model.specs.MarkList.{fields, markShown}
 use Rattle.model.proofs.Digits.{length-digits, starts-long}
 use Rattle.marklist.proofs.Pages.{part-whole}
 use Rattle.marklist.proofs.LineLaws.{too-high, other-address, by-fields}
 use borrow.Author.Needs.{needs}
 use Rattle.marklist.proofs.lines.mark_shown.Statement.{statement}
 use Rattle.marklist.proofs.lines.mark_shown.Tie as tie
+
+-- the address is in front
+module _ (c : tie.Else2) where
+  abbrev start : tie.Start
+  start = c .before .before .before .before
+
+  begins : startsWith (digits 16 4 (start .args .address)) (start .args .text .now) ≡ true
+  begins = rw (c .before .shows-digits .ensures) at (not-false (c .before .shows-digits .result) (c .if2 .left))
+
+  long : 4 ≤ length (start .args .text .now)
+  long =
+      omega (
+        arith,
+        length-digits 16 4 (start .args .address),
+        starts-long (digits 16 4 (start .args .address)) (start .args .text .now) begins,
+      )
+
+-- and the fields behind it, as far as they are those of a mark
+module _ (c : tie.After-starts-with) where
+  abbrev headed : tie.Else2
+  headed = c .before .before .before .before .before
+
+  abbrev text : List ℕ
+  text = start headed .args .text .now
+
+  abbrev mark : ℕ
+  mark = c .before .before .before .fields-mark .result
+
+  tested : c .starts-with .result ≡ startsWith (fields mark) (drop 4 text)
+  tested = rw (c .before .before .fields .ensures, part-whole 4 text) at (c .starts-with .ensures)
+
+  by-mark : (same : Bool) → c .starts-with .result ≡ same → (b : Bool) → (same && isFormed mark) ≡ b
+      → pick b mark 0 ≡ markShown (start headed .args .address) text
+  by-mark same e b e′ =
+      let shown = rw (part-whole 4 text) at (c .before .before .before .fields-mark .ensures) in
+      sym (by-fields (start headed .args .address) text mark shown (omega (arith, headed .before .before .if1 .left))
+      (begins headed) b (rw (sym tested ∙ e) e′))
 
 returns : tie.Need-returns
 returns c =
@@ -20,98 +63,31 @@ returns c =
 returns-2 : tie.Need-returns-2
 returns-2 c =
     let start = c .before .before .before .before in
-    other-address (start .args .address) (start .args .text .now) (rw (c .before .shows-digits .ensures) at (not-true
-    (c .before .shows-digits .result) (c .if2 .taken)))
+    let other = not-true (c .before .shows-digits .result) (c .if2 .taken) in
+    other-address (start .args .address) (start .args .text .now) (rw (c .before .shows-digits .ensures) at other)
 
 sub-rest : tie.Need-sub-rest
-sub-rest c =
-    let start = c .before .before .before .before in
-    omega (
-      arith,
-      length-digits 16 4 (start .args .address),
-      starts-long (digits 16 4 (start .args .address))
-          (start .args .text .now) (rw (c .before .shows-digits .ensures) at (not-false
-          (c .before .shows-digits .result)
-          (c .if2 .left))),
-    )
-
-part-rest-start : tie.Need-part-rest-start
-part-rest-start c =
-    let start = c .before .before .before .before in
-    omega (
-      arith,
-      length-digits 16 4 (start .args .address),
-      starts-long (digits 16 4 (start .args .address))
-          (start .args .text .now) (rw (c .before .shows-digits .ensures) at (not-false
-          (c .before .shows-digits .result)
-          (c .if2 .left))),
-    )
+sub-rest c = omega (arith, long c)
 
 returns-3 : tie.Need-returns-3
-returns-3 c =
-    let start = c .before .before .before .before .before .before .before .before .before .before in
-    let whole = part-whole 4 (start .args .text .now) in
-    let begins = rw (c .before .before .before .before .before .before .before .shows-digits .ensures) at (not-false
-    (c .before .before .before .before .before .before .before .shows-digits .result)
-    (c .before .before .before .before .before .before .if2 .left)) in
-    let shown = rw whole at (c .before .before .before .before .fields-mark .ensures) in
-    let tested = rw (c .before .before .before .fields .ensures, whole) at (c .before .starts-with .ensures) in
-    sym (by-fields (start .args .address) (start .args .text .now)
-    (c .before .before .before .before .fields-mark .result) shown (omega (
-      arith,
-      c .before .before .before .before .before .before .before .before .if1 .left,
-    )) begins false (rw (
-      ← tested,
-      not-true (c .before .starts-with .result) (c .if3 .taken),
-    )))
+returns-3 c = by-mark (c .before) false (not-true (c .before .starts-with .result) (c .if3 .taken)) false refl
 
 returns-4 : tie.Need-returns-4
 returns-4 c =
-    let start = c .before .before .before .before .before .before .before .before .before .before .before .before in
-    let whole = part-whole 4 (start .args .text .now) in
-    let begins = rw
-    (c .before .before .before .before .before .before .before .before .before .shows-digits .ensures) at (not-false
-    (c .before .before .before .before .before .before .before .before .before .shows-digits .result)
-    (c .before .before .before .before .before .before .before .before .if2 .left)) in
-    let shown = rw whole at (c .before .before .before .before .before .before .fields-mark .ensures) in
-    let tested = rw (c .before .before .before .before .before .fields .ensures, whole) at
-    (c .before .before .before .starts-with .ensures) in
-    sym (by-fields (start .args .address) (start .args .text .now)
-    (c .before .before .before .before .before .before .fields-mark .result) shown (omega (
-      arith,
-      c .before .before .before .before .before .before .before .before .before .before .if1 .left,
-    )) begins true (rw (
-      ←
-          tested,
-      not-false (c .before .before .before .starts-with .result) (c .before .before .if3 .left),
-      ←
-          c .before .is-formed .ensures,
-    ) (c .if4 .taken)))
+    let fields = c .before .before .before in
+    by-mark fields true (not-false (fields .starts-with .result) (c .before .before .if3 .left)) true
+    (sym (c .before .is-formed .ensures) ∙ c .if4 .taken)
 
 returns-5 : tie.Need-returns-5
 returns-5 c =
-    let start = c .before .before .before .before .before .before .before .before .before .before .before .before in
-    let whole = part-whole 4 (start .args .text .now) in
-    let begins = rw
-    (c .before .before .before .before .before .before .before .before .before .shows-digits .ensures) at (not-false
-    (c .before .before .before .before .before .before .before .before .before .shows-digits .result)
-    (c .before .before .before .before .before .before .before .before .if2 .left)) in
-    let shown = rw whole at (c .before .before .before .before .before .before .fields-mark .ensures) in
-    let tested = rw (c .before .before .before .before .before .fields .ensures, whole) at
-    (c .before .before .before .starts-with .ensures) in
-    sym (by-fields (start .args .address) (start .args .text .now)
-    (c .before .before .before .before .before .before .fields-mark .result) shown (omega (
-      arith,
-      c .before .before .before .before .before .before .before .before .before .before .if1 .left,
-    )) begins false (rw (
-      ← tested,
-      not-false (c .before .before .before .starts-with .result) (c .before .before .if3 .left),
-      ←
-          c .before .is-formed .ensures,
-    ) (c .if4 .left)))
+    let fields = c .before .before .before in
+    by-mark fields true (not-false (fields .starts-with .result) (c .before .before .if3 .left)) false
+    (sym (c .before .is-formed .ensures) ∙ c .if4 .left)
 
 pub mark-shown-spec : {M : Type 1} → statement M
 mark-shown-spec =
-    tie.close (tie.spec returns (λ c κs. search needs) returns-2 sub-rest part-rest-start (λ c. search needs) (λ c
-    κs. search needs) (λ c κs. search needs) (λ c. search needs) (λ c κs. search needs) returns-3 (λ c κs. search
-    needs) returns-4 returns-5)
+    tie.close
+    (tie.spec
+    returns (λ c κs. search needs) returns-2 sub-rest sub-rest (λ c. search needs) (λ c κs. search needs)
+    (λ c κs. search needs) (λ c. search needs) (λ c κs. search needs) returns-3 (λ c κs. search needs) returns-4
+    returns-5)

@@ -26,9 +26,10 @@ add-place c =
     let start = c .before .before .before .before .before .before .before in
     let loop = c .before .before .before .before .loop in
     let shown = rw (part-whole (loop .place) (start .args .text .now)) at (c .before .mark-shown .ensures) in
-    let next = one-more-filled (start .args .text .now) (start .args .at) (start .args .address)
-    (start .args .marks .now) (loop .marks) (loop .place) (loop .i) (c .before .mark-shown .result)
-    (c .line-size .result) (c .before .before .before .loop-test .taken) shown (c .line-size .ensures) (loop .inv) in
+    let next =
+    one-more-filled (start .args .text .now) (start .args .at) (start .args .address) (start .args .marks .now)
+    (loop .marks) (loop .place) (loop .i) (c .before .mark-shown .result) (c .line-size .result)
+    (c .before .before .before .loop-test .taken) shown (c .line-size .ensures) (loop .inv) in
     omega (arith, next .1)
 
 loop-less : tie.Need-loop-less Inv-loop μ-loop
@@ -55,6 +56,6 @@ returns c =
 
 pub fill-marks-spec : {M : Type 1} → statement M
 fill-marks-spec =
-    tie.close (tie.spec Inv-loop μ-loop loop-holds (λ c. search needs) (λ c. search needs) (λ c. search needs) (λ c.
-    search needs) (λ c. search needs) (λ c κs. search needs) (λ c. search needs) (λ c κs. search needs) add-place (λ
-    c. search needs) loop-less loop-again same-length returns)
+    tie.close (tie.spec Inv-loop μ-loop loop-holds (λ c. search needs) (λ c. search needs) (λ c. search needs)
+    (λ c. search needs) (λ c. search needs) (λ c κs. search needs) (λ c. search needs) (λ c κs. search needs)
+    add-place (λ c. search needs) loop-less loop-again same-length returns)

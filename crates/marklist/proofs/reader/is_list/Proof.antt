@@ -12,34 +12,29 @@ use Rattle.marklist.proofs.reader.is_list.Tie as tie
 returns : tie.Need-returns
 returns c =
     let start = c .before .before .before in
-    no-header (start .args .h) (start .args .text .now) (rw (c .before .is-header .ensures) at (not-true
-    (c .before .is-header .result) (c .if1 .taken)))
+    let other = not-true (c .before .is-header .result) (c .if1 .taken) in
+    no-header (start .args .h) (start .args .text .now) (rw (c .before .is-header .ensures) at other)
 
 lines-end-requires : tie.Need-lines-end-requires
 lines-end-requires c κs =
-    let start = c .before .before .before .before .before in
-    let known = headed (start .args .h) (start .args .text .now) (rw (c .before .before .before .is-header .ensures)
-    at (not-false (c .before .before .before .is-header .result) (c .before .before .if1 .left))) in (
+    let first = c .before .before in
+    let args = first .before .before .before .args in
+    let shown = not-false (first .before .is-header .result) (first .if1 .left) in
+    let known = headed (args .h) (args .text .now) (rw (first .before .is-header .ensures) at shown) in (
       rw (c .before .header-size .ensures) (known .inside),
-      omega (
-        arith,
-        known .few,
-        c .low .ensures,
-        mod-lt
-            (start .args .h .base) {m = bankSize} (omega arith),
-      ),
+      omega (arith, known .few, c .low .ensures, mod-lt (args .h .base) {m = bankSize} (omega arith)),
     )
 
 returns-2 : tie.Need-returns-2
 returns-2 c =
-    let start = c .before .before .before .before .before .before in
-    list-by-end (start .args .h) (start .args .text .now) (c .lines-end .result) (rw
-    (c .before .before .before .before .is-header .ensures) at (not-false
-    (c .before .before .before .before .is-header .result) (c .before .before .before .if1 .left)))
+    let first = c .before .before .before in
+    let args = first .before .before .before .args in
+    let shown = not-false (first .before .is-header .result) (first .if1 .left) in
+    list-by-end (args .h) (args .text .now) (c .lines-end .result) (rw (first .before .is-header .ensures) at shown)
     (c .lines-end .ensures .0)
     (rw (← c .before .before .header-size .ensures, ← c .before .low .ensures) (c .lines-end .ensures .1))
 
 pub is-list-spec : {M : Type 1} → statement M
 is-list-spec =
-    tie.close (tie.spec (λ c κs. search needs) returns (λ c κs. search needs) (λ c κs. search needs) (λ c. search
-    needs) lines-end-requires returns-2)
+    tie.close (tie.spec (λ c κs. search needs) returns (λ c κs. search needs) (λ c κs. search needs)
+    (λ c. search needs) lines-end-requires returns-2)

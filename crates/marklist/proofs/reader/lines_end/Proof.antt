@@ -23,9 +23,10 @@ add-place : tie.Need-add-place Inv-loop μ-loop
 add-place c =
     let start = c .before .before .before .before .before .before in
     let loop = c .before .before .before .before .loop in
-    let size = rw (c .before .mark-shown .ensures, part-whole (loop .place) (start .args .text .now)) at
-    (c .line-size .ensures) in
-    let next = one-more-walked (start .args .text .now) (start .args .at) (start .args .address) (start .args .count)
+    let part = part-whole (loop .place) (start .args .text .now) in
+    let size = rw (c .before .mark-shown .ensures, part) at (c .line-size .ensures) in
+    let next =
+    one-more-walked (start .args .text .now) (start .args .at) (start .args .address) (start .args .count)
     (loop .place) (loop .i) (c .line-size .result) (c .before .before .before .loop-test .taken) size (loop .inv) in
     omega (arith, next .1)
 
@@ -33,8 +34,8 @@ loop-again : tie.Need-loop-again Inv-loop μ-loop
 loop-again c =
     let start = c .before .before .before .before .before .before in
     let loop = c .before .before .before .before .loop in
-    let size = rw (c .before .mark-shown .ensures, part-whole (loop .place) (start .args .text .now)) at
-    (c .line-size .ensures) in
+    let part = part-whole (loop .place) (start .args .text .now) in
+    let size = rw (c .before .mark-shown .ensures, part) at (c .line-size .ensures) in
     one-more-walked (start .args .text .now) (start .args .at) (start .args .address) (start .args .count)
     (loop .place) (loop .i) (c .line-size .result) (c .before .before .before .loop-test .taken) size (loop .inv)
 
@@ -49,6 +50,6 @@ returns c =
 
 pub lines-end-spec : {M : Type 1} → statement M
 lines-end-spec =
-    tie.close (tie.spec Inv-loop μ-loop loop-holds (λ c. search needs) (λ c. search needs) (λ c. search needs) (λ c.
-    search needs) (λ c κs. search needs) (λ c κs. search needs) add-place (λ c. search needs) (λ c. search needs)
-    loop-again returns)
+    tie.close (tie.spec Inv-loop μ-loop loop-holds (λ c. search needs) (λ c. search needs) (λ c. search needs)
+    (λ c. search needs) (λ c κs. search needs) (λ c κs. search needs) add-place (λ c. search needs)
+    (λ c. search needs) loop-again returns)

@@ -15,18 +15,19 @@ use Rattle.marklist.proofs.reader.read_list.Tie as tie
 
 returns : tie.Need-returns
 returns c =
-    let args = c .before .before .before .before .before .before .before .args in
-    refused (args .text .now) (args .marks .now) (c .before .before .before .before .header-shown .result)
-    (c .before .before .before .before .header-shown .ensures)
+    let header = c .before .before .before .before in
+    let args = header .before .before .before .args in
+    refused (args .text .now) (args .marks .now) (header .header-shown .result) (header .header-shown .ensures)
     (sym (c .before .tested .given .1) ∙ c .before .before .before .test-list .ensures)
 
 fill-marks-requires : tie.Need-fill-marks-requires
 fill-marks-requires c κs =
-    let args = c .before .before .before .before .before .before .before .before .before .args in
-    let h = c .before .before .before .before .before .before .header-shown .result in
-    let held = shown (readTests h (args .text .now) (length (args .marks .now)))
-    (sym (c .before .before .before .before .before .test-list .ensures)
-    ∙ c .before .before .before .enum-told .given .1) in
+    let told = c .before .before .before in
+    let header = told .before .before .before in
+    let h = header .header-shown .result in
+    let args = header .before .before .before .args in
+    let tested = sym (told .enum-told .given .1) ∙ told .before .before .test-list .ensures in
+    let held = shown (readTests h (args .text .now) (length (args .marks .now))) (sym tested) in
     let known = list-headed h (args .text .now) (held .0) in
     let long = right-length (h .length) (length (args .marks .now)) (held .1 .0) in (
       rw (c .before .before .header-size .ensures) (known .inside),
@@ -35,22 +36,21 @@ fill-marks-requires c κs =
 
 returns-2 : tie.Need-returns-2
 returns-2 c =
-    let args = c .before .before .before .before .before .before .before .before .before .before .before .before .args
-    in
-    let h = c .before .before .before .before .before .before .before .before .before .header-shown .result in
-    let tested = sym (c .before .before .before .before .before .before .enum-told .given .1)
-    ∙ c .before .before .before .before .before .before .before .before .test-list .ensures in
+    let filled = c .before .before in
+    let low = filled .before .before in
+    let told = low .before .before in
+    let header = told .before .before .before in
+    let h = header .header-shown .result in
+    let args = header .before .before .before .args in
+    let tested = sym (told .enum-told .given .1) ∙ told .before .before .test-list .ensures in
     let held = shown (readTests h (args .text .now) (length (args .marks .now))) (sym tested) in
     let long = right-length (h .length) (length (args .marks .now)) (held .1 .0) in
-    let answer = is-read (args .text .now) (args .marks .now) h
-    (c .before .before .before .before .before .before .before .before .before .header-shown .ensures) tested in (
-      answer .0,
-      all-marks h (args .text .now) (c .before .before .before .before .low .result)
-          (c .before .before .before .before .before .header-size .result) (length (args .marks .now))
-          (c .before .before .fill-marks .last .1 .1 .1 .0) (c .before .before .before .before .low .ensures)
-          (c .before .before .before .before .before .header-size .ensures) (long .same)
-          (c .before .before .fill-marks .ensures) ∙ answer .1,
-    )
+    let answer = is-read (args .text .now) (args .marks .now) h (header .header-shown .ensures) tested in
+    let marks =
+    all-marks h (args .text .now) (low .low .result) (low .before .header-size .result)
+    (length (args .marks .now)) (filled .fill-marks .last .1 .1 .1 .0) (low .low .ensures)
+    (low .before .header-size .ensures) (long .same) (filled .fill-marks .ensures) in
+    (answer .0, marks ∙ answer .1)
 
 pub read-list-spec : {M : Type 1} → statement M
 read-list-spec =

@@ -15,18 +15,18 @@ returns c = reset-past (c .before .before .before .args .h) (c .before .before .
 
 returns-2 : tie.Need-returns-2
 returns-2 c =
-    let args = c .before .before .before .before .before .before .args in
-    below-base (args .h) (args .text .now) (c .before .before .before .if1 .left)
-    (c .before .before .in-bank-of .result) (c .before .before .in-bank-of .ensures)
-    (c .if2 .taken)
+    let bank = c .before .before in
+    let args = bank .before .before .before .before .args in
+    below-base (args .h) (args .text .now) (bank .before .if1 .left) (bank .in-bank-of .result)
+    (bank .in-bank-of .ensures) (c .if2 .taken)
 
 returns-3 : tie.Need-returns-3
 returns-3 c =
-    let args = c .before .before .before .before .before .before .before .before .before .args in
-    past-end (args .h) (args .text .now) (c .before .before .before .before .before .before .if1 .left)
-    (c .before .before .before .before .before .in-bank-of .result)
-    (c .before .before .before .before .before .in-bank-of .ensures)
-    (c .before .before .before .if2 .left) (rw (length-marks-of (args .h) (args .text .now)) (c .if3 .taken))
+    let above = c .before .before .before in
+    let bank = above .before .before in
+    let args = bank .before .before .before .before .args in
+    past-end (args .h) (args .text .now) (bank .before .if1 .left) (bank .in-bank-of .result)
+    (bank .in-bank-of .ensures) (above .if2 .left) (rw (length-marks-of (args .h) (args .text .now)) (c .if3 .taken))
 
 lines-end-requires : tie.Need-lines-end-requires
 lines-end-requires c κs =
@@ -44,18 +44,16 @@ lines-end-requires c κs =
 
 returns-4 : tie.Need-returns-4
 returns-4 c =
-    let args = c .before .before .before .before .before .before .before .before .before .before .before .before
-    .before .before .args in
-    at-offset (args .h) (args .text .now) (c .before .before .before .before .before .before .before .before .before
-    .before .before .if1 .left) (c .before .before .before .before .before .before .before .before .before .before
-    .in-bank-of .result) (c .before .before .before .before .before .before .before .before .before .before
-    .in-bank-of .ensures)
-    (c .before .before .before .before .low .result) (c .before .before .lines-end .result) (c .mark-shown .result)
-    (c .before .before .before .before .before .before .before .before .if2 .left)
-    (c .before .before .before .before .before .if3 .left)
-    (c .before .before .before .before .low .ensures)
-    (rw (← c .before .before .before .header-size .ensures) (c .before .before .lines-end .ensures .1))
-    (rw (part-whole (c .before .before .lines-end .result) (args .text .now)) at (c .mark-shown .ensures))
+    let end = c .before .before .lines-end in
+    let low = c .before .before .before .before in
+    let inside = low .before in
+    let above = inside .before .before .before in
+    let bank = above .before .before in
+    let args = bank .before .before .before .before .args in
+    at-offset (args .h) (args .text .now) (bank .before .if1 .left) (bank .in-bank-of .result)
+    (bank .in-bank-of .ensures) (low .low .result) (end .result) (c .mark-shown .result) (above .if2 .left)
+    (inside .if3 .left) (low .low .ensures) (rw (← c .before .before .before .header-size .ensures) (end .ensures .1))
+    (rw (part-whole (end .result) (args .text .now)) at (c .mark-shown .ensures))
 
 pub reset-shown-spec : {M : Type 1} → statement M
 reset-shown-spec =

@@ -30,8 +30,9 @@ returns-2 c =
     let start = c .before .before .before .before .before .before in
     let loop = c .before .before .before .before .loop in
     sym (loop .inv .1 ∙ starts-next (start .args .bytes .now) (start .args .text .now) (loop .i)
-    (c .before .before .before .loop-test .taken) (omega arith) ∙ rw (ne-eqb (getD (start .args .bytes .now)
-    (loop .i) 0) (getD (start .args .text .now) (loop .i) 0) (c .if2 .taken)))
+    (c .before .before .before .loop-test .taken) (omega arith)
+    ∙ rw (ne-eqb (getD (start .args .bytes .now) (loop .i) 0) (getD (start .args .text .now) (loop .i) 0)
+    (c .if2 .taken)))
 
 loop-again : tie.Need-loop-again Inv-loop μ-loop
 loop-again c =
@@ -39,8 +40,9 @@ loop-again c =
     let loop = c .before .before .before .before .loop in (
       omega arith,
       loop .inv .1 ∙ starts-next (start .args .bytes .now) (start .args .text .now) (loop .i)
-          (c .before .before .before .loop-test .taken) (omega arith) ∙ rw (eq-eqb (getD (start .args .bytes .now)
-          (loop .i) 0) (getD (start .args .text .now) (loop .i) 0) (c .if2 .left)),
+          (c .before .before .before .loop-test .taken) (omega arith)
+          ∙ rw (eq-eqb (getD (start .args .bytes .now) (loop .i) 0) (getD (start .args .text .now) (loop .i) 0)
+          (c .if2 .left)),
     )
 
 returns-3 : tie.Need-returns-3 Inv-loop μ-loop
@@ -52,5 +54,5 @@ returns-3 c =
 
 pub starts-with-spec : {M : Type 1} → statement M
 starts-with-spec =
-    tie.close (tie.spec Inv-loop μ-loop returns loop-holds (λ c. search needs) (λ c. search needs) returns-2 (λ c.
-    search needs) (λ c. search needs) loop-again returns-3)
+    tie.close (tie.spec Inv-loop μ-loop returns loop-holds (λ c. search needs) (λ c. search needs) returns-2
+    (λ c. search needs) (λ c. search needs) loop-again returns-3)

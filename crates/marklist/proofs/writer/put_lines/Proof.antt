@@ -68,6 +68,6 @@ returns c =
 
 pub put-lines-spec : {M : Type 1} → statement M
 put-lines-spec =
-    tie.close (tie.spec Inv-loop μ-loop loop-holds sub-put-line part-put-line-start (λ c. search needs) (λ c. search
-    needs) (λ c. search needs) (λ c. search needs) put-line-requires add-at (λ c. search needs) (λ c. search needs)
-    loop-again same-length returns)
+    tie.close (tie.spec Inv-loop μ-loop loop-holds sub-put-line part-put-line-start (λ c. search needs)
+    (λ c. search needs) (λ c. search needs) (λ c. search needs) put-line-requires add-at (λ c. search needs)
+    (λ c. search needs) loop-again same-length returns)

@@ -1,11 +1,14 @@
 -- A refusal leaves the page; nothing is written before the last test, and then the first line and behind it the lines.
 -- Assumes nothing.
-use Prim.Native.Nat.{_+_}
+use mathlib.Core.List.{List}
+use Prim.Native.Nat.{ℕ, _+_, _≤_}
 use native.Mathlib.Nat.{mod-lt}
 use native.Mathlib.Omega.{arith}
-use mathlib.Core.Path.{sym, _∙_}
+use mathlib.Core.Path.{_≡_, sym, _∙_}
 use lib.ListN.{length}
-use Rattle.model.specs.Image.{bankSize}
+use Rattle.model.specs.declared.refusals.TestResult.the-variants.{Passed}
+use Rattle.model.specs.Image.{bankSize, imageLimit}
+use Rattle.model.specs.Refusals.{Tests, firstRefusal}
 use Rattle.model.specs.Verdict.{marksTests}
 use Rattle.model.proofs.Image.{right-length}
 use Rattle.model.proofs.MarkList.{lines-most}
@@ -18,38 +21,45 @@ use borrow.Author.Needs.{needs}
 use Rattle.marklist.proofs.writer.write_list.Statement.{statement}
 use Rattle.marklist.proofs.writer.write_list.Tie as tie
 
+-- where the tests of the marks pass
+module _ (told : tie.After-enum-told) where
+  abbrev start : tie.Start
+  start = told .before .before .before .before .before
+
+  abbrev marks : List ℕ
+  marks = start .args .marks .now
+
+  abbrev tests : Tests
+  tests = marksTests (length marks) marks (start .args .base) (start .args .reset)
+
+  passed : Passed ≡ firstRefusal tests
+  passed = sym (told .enum-told .given .1) ∙ told .before .before .test-marks .ensures
+
+  few : length marks ≤ imageLimit
+  few = right-length (length marks) (length marks) (shown tests (sym passed) .0) .few
+
 returns : tie.Need-returns
 returns c =
-    let args = c .before .before .before .before .before .before .args in
-    let stays = ends (marksTests (length (args .marks .now)) (args .marks .now) (args .base) (args .reset)) _
-    (c .before .before .before .test-marks .ensures) (c .before .tested .given .1) in
+    let tested = c .before .before .before in
+    let args = tested .before .before .before .args in
+    let stays =
+    ends (marksTests (length (args .marks .now)) (args .marks .now) (args .base) (args .reset)) _
+    (tested .test-marks .ensures) (c .before .tested .given .1) in
     refused (args .marks .now) (args .base) (args .reset) (args .page .now) (sym (c .before .tested .given .1) ∙ stays)
 
 cast-length : tie.Need-cast-length
-cast-length c =
-    let args = c .before .before .before .before .before .args in
-    let held = shown (marksTests (length (args .marks .now)) (args .marks .now) (args .base) (args .reset))
-    (sym (c .before .before .test-marks .ensures) ∙ c .enum-told .given .1) in
-    let few = right-length (length (args .marks .now)) (length (args .marks .now)) (held .0) .few in
-    omega (arith, few)
+cast-length c = omega (arith, few c)
 
 lines-size-requires : tie.Need-lines-size-requires
-lines-size-requires c κs =
-    let args = c .before .before .before .before .before .before .args in
-    let held = shown (marksTests (length (args .marks .now)) (args .marks .now) (args .base) (args .reset))
-    (sym (c .before .before .before .test-marks .ensures) ∙ c .before .enum-told .given .1) in
-    let few = right-length (length (args .marks .now)) (length (args .marks .now)) (held .0) .few in
-    omega (arith, few)
+lines-size-requires c κs = omega (arith, few (c .before))
 
 add-size : tie.Need-add-size
 add-size c =
-    let args = c .before .before .before .before .before .before .before .args in
-    let held = shown (marksTests (length (args .marks .now)) (args .marks .now) (args .base) (args .reset))
-    (sym (c .before .before .before .before .test-marks .ensures) ∙ c .before .before .enum-told .given .1) in
-    let few = right-length (length (args .marks .now)) (length (args .marks .now)) (held .0) .few in
+    let told = c .before .before in
+    let args = start told .args in
     omega (
       arith,
-      few,
+      few told,
       c .before .header-size .ensures,
       small-header (first-line (args .marks .now) (args .base) (args .reset) (args .page .now)),
       c .lines-size .ensures 0,
@@ -58,74 +68,57 @@ add-size c =
 
 returns-2 : tie.Need-returns-2
 returns-2 c =
-    let args = c .before .before .before .before .before .before .before .before .args in
-    let size = list-size (args .marks .now) (args .base) (args .reset) (args .page .now)
-    (c .before .before .header-size .result) (c .before .lines-size .result)
-    (c .before .before .header-size .ensures) (c .before .lines-size .ensures) in
+    let lines = c .before in
+    let first = lines .before in
+    let told = first .before in
+    let args = start told .args in
+    let size =
+    list-size (args .marks .now) (args .base) (args .reset) (args .page .now) (first .header-size .result)
+    (lines .lines-size .result) (first .header-size .ensures) (lines .lines-size .ensures) in
     refused (args .marks .now) (args .base) (args .reset) (args .page .now)
-    (short-page (args .marks .now) (args .base) (args .reset) (args .page .now)
-    (sym (c .before .before .before .enum-told .given .1)
-    ∙ c .before .before .before .before .before .test-marks .ensures)
-    (c .before .before .header-size .result + c .before .lines-size .result)
-    size (c .if1 .taken))
+    (short-page (args .marks .now) (args .base) (args .reset) (args .page .now) (passed told)
+    (first .header-size .result + lines .lines-size .result) size (c .if1 .taken))
 
 put-lines-requires : tie.Need-put-lines-requires
 put-lines-requires c κs =
-    let args = c .before .before .before .before .before .before .before .before .before .before .before .before
-    .before .before .args in
-    let held = shown (marksTests (length (args .marks .now)) (args .marks .now) (args .base) (args .reset))
-    (sym (c .before .before .before .before .before .before .before .before .before .before .before .test-marks
-    .ensures) ∙ c .before .before .before .before .before .before .before .before .before .enum-told .given .1) in
-    let few = right-length (length (args .marks .now)) (length (args .marks .now)) (held .0) .few in
-    let front = header-front (args .marks .now) (args .base) (args .reset) (args .page .now)
-    (c .before .before .before .before .before .before .before .before .header-size .result)
-    (c .before .before .before .before .before .before .before .lines-size .result)
-    (c .before .before .before .before .before .before .before .before .header-size .ensures)
-    (c .before .before .before .before .before .before .before .lines-size .ensures)
-    (c .before .before .before .before .before .before .if1 .left)
-    (c .before .before .before .before .put-header .ensures) in (
-      rw (← c .before .before .before .before .before .before .before .lines-size .ensures (c .low .result))
-          (part-room (c .before .before .before .before .before .before .before .lines-size .result) front
-          (c .before .before .before .before .before .before .if1 .left)),
-      omega (arith, few, c .low .ensures, mod-lt (args .base) {m = bankSize} (omega arith)),
+    let put = c .before .before .before .before in
+    let room = put .before .before .if1 .left in
+    let lines = put .before .before .before in
+    let first = lines .before in
+    let told = first .before in
+    let args = start told .args in
+    let front =
+    header-front (args .marks .now) (args .base) (args .reset) (args .page .now) (first .header-size .result)
+    (lines .lines-size .result) (first .header-size .ensures) (lines .lines-size .ensures) room
+    (put .put-header .ensures) in (
+      rw (← lines .lines-size .ensures (c .low .result)) (part-room (lines .lines-size .result) front room),
+      omega (arith, few told, c .low .ensures, mod-lt (args .base) {m = bankSize} (omega arith)),
     )
 
 returns-3 : tie.Need-returns-3
 returns-3 c =
-    let args = c .before .before .before .before .before .before .before .before .before .before .before .before
-    .before .before .before .before .before .args in
-    let size = list-size (args .marks .now) (args .base) (args .reset) (args .page .now)
-    (c .before .before .before .before .before .before .before .before .before .before .before .header-size .result)
-    (c .before .before .before .before .before .before .before .before .before .before .lines-size .result)
-    (c .before .before .before .before .before .before .before .before .before .before .before .header-size .ensures)
-    (c .before .before .before .before .before .before .before .before .before .before .lines-size .ensures) in
-    let front = header-front (args .marks .now) (args .base) (args .reset) (args .page .now)
-    (c .before .before .before .before .before .before .before .before .before .before .before .header-size .result)
-    (c .before .before .before .before .before .before .before .before .before .before .lines-size .result)
-    (c .before .before .before .before .before .before .before .before .before .before .before .header-size .ensures)
-    (c .before .before .before .before .before .before .before .before .before .before .lines-size .ensures)
-    (c .before .before .before .before .before .before .before .before .before .if1 .left)
-    (c .before .before .before .before .before .before .before .put-header .ensures) in
-    let answer = is-written (args .marks .now) (args .base) (args .reset) (args .page .now)
-    (sym (c .before .before .before .before .before .before .before .before .before .before .before .before .enum-told
-    .given .1) ∙ c .before .before .before .before .before .before .before .before .before .before .before .before
-    .before .before .test-marks .ensures)
-    (c .before .before .before .before .before .before .before .before .before .before .before .header-size .result
-    + c .before .before .before .before .before .before .before .before .before .before .lines-size .result) size
-    (c .before .before .before .before .before .before .before .before .before .if1 .left) in (
-      answer .0,
-      list-put (args .marks .now) (args .base) (args .reset) (args .page .now)
-          (c .before .before .before .before .before .before .before .before .before .before .before .header-size
-          .result) (c .before .before .before .before .before .before .before .before .before .before .lines-size
-          .result)
-          (c .before .before .before .before .before .before .before .before .before .before .before .header-size
-          .ensures) (c .before .before .before .before .before .before .before .before .before .before .lines-size
-          .ensures)
-          (c .before .before .before .low .result) (c .before .before .before .low .ensures)
-          (c .before .before .before .before .before .before .before .before .before .if1 .left)
-          (c .before .before .put-lines .last .0) front
-          (c .before .before .put-lines .ensures) ∙ answer .1,
-    )
+    let low = c .before .before .before in
+    let put = low .before .before .before .before in
+    let room = put .before .before .if1 .left in
+    let lines = put .before .before .before in
+    let first = lines .before in
+    let told = first .before in
+    let args = start told .args in
+    let size =
+    list-size (args .marks .now) (args .base) (args .reset) (args .page .now) (first .header-size .result)
+    (lines .lines-size .result) (first .header-size .ensures) (lines .lines-size .ensures) in
+    let front =
+    header-front (args .marks .now) (args .base) (args .reset) (args .page .now) (first .header-size .result)
+    (lines .lines-size .result) (first .header-size .ensures) (lines .lines-size .ensures) room
+    (put .put-header .ensures) in
+    let answer =
+    is-written (args .marks .now) (args .base) (args .reset) (args .page .now) (passed told)
+    (first .header-size .result + lines .lines-size .result) size room in
+    let page =
+    list-put (args .marks .now) (args .base) (args .reset) (args .page .now) (first .header-size .result)
+    (lines .lines-size .result) (first .header-size .ensures) (lines .lines-size .ensures) (low .low .result)
+    (low .low .ensures) room (c .before .before .put-lines .last .0) front (c .before .before .put-lines .ensures) in
+    (answer .0, page ∙ answer .1)
 
 pub write-list-spec : {M : Type 1} → statement M
 write-list-spec =

@@ -14,14 +14,11 @@ returns-2 c = sym (byte-under-image _ _ _ _ (c .before .if1 .left) (c .if2 .take
 
 returns-3 : tie.Need-returns-3
 returns-3 c =
-    sym (byte-in-image _ _ _ _ (c .before .before .before .if1 .left) (c .before .before .if2 .left) (c .before .if3
-    .taken))
+    sym (byte-in-image _ _ _ _ (c .before .before .before .if1 .left) (c .before .before .if2 .left)
+    (c .before .if3 .taken))
 
 returns-4 : tie.Need-returns-4
 returns-4 c = sym (byte-past-image _ _ _ _ (c .before .before .if1 .left) (c .before .if2 .left) (c .if3 .left))
 
 pub byte-at-spec : {M : Type 1} → statement M
-byte-at-spec =
-    tie.close
-    (tie.spec
-    (λ c. search needs) returns returns-2 (λ c. search needs) returns-3 returns-4)
+byte-at-spec = tie.close (tie.spec (λ c. search needs) returns returns-2 (λ c. search needs) returns-3 returns-4)

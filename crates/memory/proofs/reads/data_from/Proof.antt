@@ -12,9 +12,9 @@ returns c =
 
 returns-2 : tie.Need-returns-2
 returns-2 c =
+    let one = c .before .before .before .before .before in
     rw (
-      not-false (c .before .before .before .before .before .before .before .before .args .short) (c .before .before
-          .before .before .before .if1 .left),
+      not-false (one .before .before .before .args .short) (one .if1 .left),
       ← c .before .before .before .before .byte-at .ensures,
       c .before .before .read .given .1,
       c .word-of-byte .ensures,
@@ -22,9 +22,9 @@ returns-2 c =
 
 returns-3 : tie.Need-returns-3
 returns-3 c =
+    let one = c .before .before .before in
     rw (
-      not-false (c .before .before .before .before .before .before .args .short) (c .before .before .before .if1
-          .left),
+      not-false (one .before .before .before .args .short) (one .if1 .left),
       ← c .before .before .byte-at .ensures,
       c .enum-told .given .1,
     ) refl

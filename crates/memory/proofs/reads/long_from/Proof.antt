@@ -10,34 +10,39 @@ returns c = (rw (← c .before .before .byte-at .ensures, c .enum-told .given .1
 
 returns-2 : tie.Need-returns-2
 returns-2 c =
+    let first = c .before .before .before .before in
     rw (
-      ← c .before .before .before .before .before .before .byte-at .ensures,
-      c .before .before .before .before .first .given .1,
+      ← first .before .before .byte-at .ensures,
+      first .first .given .1,
       ← c .before .before .byte-at2 .ensures,
       c .enum-told2 .given .1,
     ) (refl, tt)
 
 returns-3 : tie.Need-returns-3
 returns-3 c =
+    let second = c .before .before .before .before in
+    let first = second .before .before .before .before in
     rw (
-      ← c .before .before .before .before .before .before .before .before .before .before .byte-at .ensures,
-      c .before .before .before .before .before .before .before .before .first .given .1,
-      ← c .before .before .before .before .before .before .byte-at2 .ensures,
-      c .before .before .before .before .second .given .1,
+      ← first .before .before .byte-at .ensures,
+      first .first .given .1,
+      ← second .before .before .byte-at2 .ensures,
+      second .second .given .1,
       ← c .before .before .byte-at3 .ensures,
       c .enum-told3 .given .1,
     ) (refl, tt)
 
 returns-4 : tie.Need-returns-4
 returns-4 c =
+    let third = c .before .before .before in
+    let second = third .before .before .before .before in
+    let first = second .before .before .before .before in
     rw (
-      ← c .before .before .before .before .before .before .before .before .before .before .before .before .before
-          .byte-at .ensures,
-      c .before .before .before .before .before .before .before .before .before .before .before .first .given .1,
-      ← c .before .before .before .before .before .before .before .before .before .byte-at2 .ensures,
-      c .before .before .before .before .before .before .before .second .given .1,
-      ← c .before .before .before .before .before .byte-at3 .ensures,
-      c .before .before .before .third .given .1,
+      ← first .before .before .byte-at .ensures,
+      first .first .given .1,
+      ← second .before .before .byte-at2 .ensures,
+      second .second .given .1,
+      ← third .before .before .byte-at3 .ensures,
+      third .third .given .1,
       ← c .before .word-of .ensures,
       ← c .long-of .ensures .0,
     ) (refl, c .long-of .ensures .1)

@@ -18,6 +18,4 @@ returns-4 : tie.Need-returns-4
 returns-4 c = sym (served-past-image _ _ _ _ (c .before .before .if1 .left) (c .before .if2 .left) (c .if3 .left))
 
 pub served-at-spec : {M : Type 1} → statement M
-served-at-spec = tie.close
-    (tie.spec
-    returns returns-2 returns-3 returns-4)
+served-at-spec = tie.close (tie.spec returns returns-2 returns-3 returns-4)

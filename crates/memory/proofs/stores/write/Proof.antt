@@ -16,11 +16,12 @@ returns-3 c =
 
 returns-4 : tie.Need-returns-4
 returns-4 c =
+    let second = c .before .before .before .before .before .before in
+    let first = second .before .before .before .before in
     rw (
-      c .before .before .before .before .before .before .before .before .before .before .before .before .before
-          .stores3 .given .1,
-      ← c .before .before .before .before .before .before .before .before .before .before .put4 .ensures,
-      ← c .before .before .before .before .before .before .put5 .ensures,
+      first .before .before .before .stores3 .given .1,
+      ← first .put4 .ensures,
+      ← second .put5 .ensures,
     ) (c .before .before .put6 .ensures)
 
 pub write-spec : {M : Type 1} → statement M

@@ -2,12 +2,14 @@
 -- Assumes nothing.
 use Rattle.runs.proofs.Going.{Going, made-of, begins, ends, goes-on, stops-so}
 use Rattle.machine.specs.Turns.{state, coreOf}
-use Rattle.model.specs.Run.{played}
+use Rattle.model.specs.declared.machine.Core.{Core}
+use Rattle.model.specs.Run.{Ran, played}
 use Rattle.model.specs.Memory.{memory}
 use native.Mathlib.Omega.{arith}
-use Prim.Native.Nat.{_-_}
+use mathlib.Core.List.{List}
+use Prim.Native.Nat.{ℕ, _-_}
 use borrow.Author.Tests.{not-true, not-false}
-use mathlib.Core.Path.{refl, sym, ap, _∙_}
+use mathlib.Core.Path.{_≡_, refl, sym, ap, _∙_}
 use borrow.Author.Needs.{needs}
 use Rattle.runs.proofs.course.run_in.Statement.{statement}
 use Rattle.runs.proofs.course.run_in.Tie as tie
@@ -22,67 +24,65 @@ abbrev μ-loop : tie.MeasureT-loop
     depth steps made =
     asked - steps
 
+-- where the run begins
+module _ (c : tie.After-place-of Inv-loop μ-loop) where
+  abbrev start : tie.Start Inv-loop μ-loop
+  start = c .before .before .before .before .before
+
+  abbrev file : List ℕ
+  file = c .before .file-of .result
+
+  abbrev core : Core
+  core = coreOf (c .place-of .result) (start .args .given .depth) file
+
+  abbrev all : Core → Ran
+  all given =
+      played (memory (start .args .ram .now) (start .args .image .now) (start .args .base))
+      (state given (start .args .calls .now)) (start .args .asked)
+
+  as-given : all core ≡ all (start .args .given)
+  as-given =
+      ap all (made-of (start .args .given) (c .place-of .result) file (c .before .file-of .ensures .0)
+      (c .place-of .ensures .1) (c .place-of .ensures .2))
+
 loop-holds : tie.Need-loop-holds Inv-loop μ-loop
 loop-holds c =
-    let start = c .before .before .before .before .before in
-    begins (start .args .image .now) (start .args .base) (start .args .calls .now) (start .args .ram .now) (coreOf
-    (c .place-of .result) (start .args .given .depth) (c .before .file-of .result)) (start .args .asked) (c .before
-    .file-of .result) (c .place-of .result) (start .pre .4) (c .before .file-of .ensures .1) refl
+    let args = start c .args in
+    begins (args .image .now) (args .base) (args .calls .now) (args .ram .now) (core c) (args .asked) (file c)
+    (c .place-of .result) (start c .pre .4) (c .before .file-of .ensures .1) refl
 
 step-in-requires : tie.Need-step-in-requires Inv-loop μ-loop
 step-in-requires c κs =
-    let start = c .before .before .before .before .before .before .before .before .before .before in
-    let loop = c .before .before .before .before .loop in
-    (start .pre .0, start .pre .1, start .pre .2, start .pre .3, loop .inv .few, loop .inv .filed)
+    let at = c .before .before .before .before in
+    let pre = start (at .before) .pre in
+    (pre .0, pre .1, pre .2, pre .3, at .loop .inv .few, at .loop .inv .filed)
 
 returns : tie.Need-returns Inv-loop μ-loop
 returns c =
-    let start = c .before .before .before .before .before .before .before .before .before .before .before .before
-    .before .before .before .before .before .before in
-    let loop = c .before .before .before .before .before .before .before .before .before .before .before .before
-    .loop in
-    stops-so (start .args .image .now) (start .args .base) (start .args .calls .now) (start .args .ram .now) (coreOf
-    (c .before .before .before .before .before .before .before .before .before .before .before .before .before
-    .place-of .result) (start .args .given .depth) (c .before .before .before .before .before .before .before
-    .before .before .before .before .before .before .before .file-of .result)) (start .args .asked) (loop .calls)
-    (loop .ram) (loop .registers) (loop .place) (loop .depth) (loop .steps) (loop .made) (loop .inv) (c .before
-    .before .before .before .before .before .before .before .before .before .before .loop-test .taken) (c .before
-    .before .before .before .before .before .before .step-in .result) (c .before .before .before .before .before
-    .before .before .step-in .last .1 .1 .1 .1 .1 .1 .1 .0) (c .before .before .before .before .before .before
-    .before .step-in .last .1 .1 .1 .1 .1 .1 .1 .1 .0) (c .before .before .before .before .before .before .before
-    .step-in .last .1 .1 .1 .1 .1 .1 .0) (c .before .before .before .before .before .before .before .step-in
-    .ensures .0) (sym (c .before .before .before .before .is-completed .ensures) ∙ not-true (c .before .before
-    .before .before .is-completed .result) (c .before .before .before .if1 .taken)) (c .before .before .end-at
-    .result) (c .before .before .end-at .ensures) (c .core-of .result) (c .core-of .ensures) ∙ ap (λ g. played
-    (memory (start .args .ram .now) (start .args .image .now) (start .args .base)) (state g (start .args .calls
-    .now)) (start .args .asked)) (made-of (start .args .given) (c .before .before .before .before .before .before
-    .before .before .before .before .before .before .before .place-of .result) (c .before .before .before .before
-    .before .before .before .before .before .before .before .before .before .before .file-of .result) (c .before
-    .before .before .before .before .before .before .before .before .before .before .before .before .before .file-of
-    .ensures .0) (c .before .before .before .before .before .before .before .before .before .before .before .before
-    .before .place-of .ensures .1) (c .before .before .before .before .before .before .before .before .before
-    .before .before .before .before .place-of .ensures .2))
+    let done = c .before .before .before .before in
+    let step = done .before .before .before in
+    let inside = step .before .before .before .before in
+    let loop = inside .before .loop in
+    let begun = inside .before .before in
+    let args = start begun .args in
+    let after = step .step-in .last .1 .1 .1 .1 .1 .1 in
+    stops-so (args .image .now) (args .base) (args .calls .now) (args .ram .now) (core begun) (args .asked)
+    (loop .calls) (loop .ram) (loop .registers) (loop .place) (loop .depth) (loop .steps) (loop .made) (loop .inv)
+    (inside .loop-test .taken) (step .step-in .result) (after .1 .0) (after .1 .1 .0) (after .0)
+    (step .step-in .ensures .0)
+    (sym (done .is-completed .ensures) ∙ not-true (done .is-completed .result) (c .before .before .before .if1 .taken))
+    (c .before .before .end-at .result) (c .before .before .end-at .ensures) (c .core-of .result) (c .core-of .ensures)
+    ∙ as-given begun
 
 with-call-requires : tie.Need-with-call-requires Inv-loop μ-loop
 with-call-requires c κs =
-    let loop = c .before .before .before .before .before .before .before .before .before .loop in
-    omega (
-      arith,
-      loop .inv .counted,
-      loop .inv .within,
-      c .before .before .before .before .before .before .before
-          .before .before .before .before .before .before .before .before .pre .5,
-    )
+    let at = c .before .before .before .before .before .before .before .before .before in
+    omega (arith, at .loop .inv .counted, at .loop .inv .within, start (at .before) .pre .5)
 
 add-steps : tie.Need-add-steps Inv-loop μ-loop
 add-steps c =
-    omega (
-      arith,
-      c .before .before .before .before .before .before .before .before .before .before .loop .inv
-          .within,
-      c .before .before .before .before .before .before .before .before .before .before .before .before
-          .before .before .before .before .pre .5,
-    )
+    let at = c .before .before .before .before .before .before .before .before .before .before in
+    omega (arith, at .loop .inv .within, start (at .before) .pre .5)
 
 loop-less : tie.Need-loop-less Inv-loop μ-loop
 loop-less c =
@@ -90,58 +90,37 @@ loop-less c =
 
 loop-again : tie.Need-loop-again Inv-loop μ-loop
 loop-again c =
-    let start = c .before .before .before .before .before .before .before .before .before .before .before .before
-    .before .before .before .before in
-    let loop = c .before .before .before .before .before .before .before .before .before .before .loop in
-    goes-on (start .args .image .now) (start .args .base) (start .args .calls .now) (start .args .ram .now) (coreOf
-    (c .before .before .before .before .before .before .before .before .before .before .before .place-of .result)
-    (start .args .given .depth) (c .before .before .before .before .before .before .before .before .before .before
-    .before .before .file-of .result)) (start .args .asked) (loop .calls) (loop .ram) (loop .registers) (loop
-    .place) (loop .depth) (loop .steps) (loop .made) (loop .inv) (c .before .before .before .before .before .before
-    .before .before .before .loop-test .taken) (c .before .before .before .before .before .step-in .result) (c
-    .before .before .before .before .before .step-in .last .1 .1 .1 .1 .1 .1 .1 .0) (c .before .before .before
-    .before .before .step-in .last .1 .1 .1 .1 .1 .1 .1 .1 .0) (c .before .before .before .before .before .step-in
-    .last .1 .1 .1 .1 .1 .1 .0) (c .before .before .before .before .before .step-in .ensures .0) (sym (c .before
-    .before .is-completed .ensures) ∙ not-false (c .before .before .is-completed .result) (c .before .if1 .left))
-    (search needs) (c .before .before .before .before .before .step-in .ensures .1) (c .with-call .result) (c
-    .with-call .ensures)
+    let done = c .before .before in
+    let step = done .before .before .before in
+    let inside = step .before .before .before .before in
+    let loop = inside .before .loop in
+    let begun = inside .before .before in
+    let args = start begun .args in
+    let after = step .step-in .last .1 .1 .1 .1 .1 .1 in
+    goes-on (args .image .now) (args .base) (args .calls .now) (args .ram .now) (core begun) (args .asked)
+    (loop .calls) (loop .ram) (loop .registers) (loop .place) (loop .depth) (loop .steps) (loop .made) (loop .inv)
+    (inside .loop-test .taken) (step .step-in .result) (after .1 .0) (after .1 .1 .0) (after .0)
+    (step .step-in .ensures .0)
+    (sym (done .is-completed .ensures) ∙ not-false (done .is-completed .result) (c .before .if1 .left)) (search needs)
+    (step .step-in .ensures .1) (c .with-call .result) (c .with-call .ensures)
 
 same-length-2 : tie.Need-same-length-2 Inv-loop μ-loop
 same-length-2 c = c .before .before .before .loop .inv .same
 
 returns-2 : tie.Need-returns-2 Inv-loop μ-loop
 returns-2 c =
-    let start = c .before .before .before .before .before .before .before .before .before in
-    let loop = c .before .before .before .loop in
-    ends (start .args .image .now) (start .args .base) (start .args .calls .now) (start .args .ram .now) (coreOf (c
-    .before .before .before .before .place-of .result) (start .args .given .depth) (c .before .before .before
-    .before .before .file-of .result)) (start .args .asked) (loop .calls) (loop .ram) (loop .registers) (loop
-    .place) (loop .depth) (loop .steps) (loop .made) (loop .inv) (omega (arith, c .before .before .loop-test .left))
-    (c .core-of2 .result) (c .core-of2 .ensures) ∙ ap (λ g. played (memory (start .args .ram .now) (start .args
-    .image .now) (start .args .base)) (state g (start .args .calls .now)) (start .args .asked)) (made-of (start
-    .args .given) (c .before .before .before .before .place-of .result) (c .before .before .before .before .before
-    .file-of .result) (c .before .before .before .before .before .file-of .ensures .0) (c .before .before .before
-    .before .place-of .ensures .1) (c .before .before .before .before .place-of .ensures .2))
+    let at = c .before .before .before in
+    let loop = at .loop in
+    let args = start (at .before) .args in
+    ends (args .image .now) (args .base) (args .calls .now) (args .ram .now) (core (at .before)) (args .asked)
+    (loop .calls) (loop .ram) (loop .registers) (loop .place) (loop .depth) (loop .steps) (loop .made) (loop .inv)
+    (omega (arith, c .before .before .loop-test .left)) (c .core-of2 .result) (c .core-of2 .ensures)
+    ∙ as-given (at .before)
 
 pub run-in-spec : {M : Type 1} → statement M
 run-in-spec =
     tie.close
     (tie.spec
-    Inv-loop
-    μ-loop
-    (λ c κs. search needs)
-    (λ c κs. search needs)
-    loop-holds
-    step-in-requires
-    (λ c κs. search needs)
-    (λ c κs. search needs)
-    (λ c κs. search needs)
-    (λ c. search needs)
-    returns
-    with-call-requires
-    add-steps
-    loop-less
-    loop-again
-    (λ c κs. search needs)
-    same-length-2
-    returns-2)
+    Inv-loop μ-loop (λ c κs. search needs) (λ c κs. search needs) loop-holds step-in-requires (λ c κs. search needs)
+    (λ c κs. search needs) (λ c κs. search needs) (λ c. search needs) returns with-call-requires add-steps loop-less
+    loop-again (λ c κs. search needs) same-length-2 returns-2)
