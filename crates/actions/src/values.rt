@@ -1,12 +1,12 @@
 // What an action works with, by its task's choice, and how bits and flags are wanted.
-use cpu::data::cleared_by;
-use cpu::data::wide;
 use cpu::effects::behind_address;
 use cpu::file::DT;
 use cpu::file::FILE_SIZE;
 use cpu::file::PS;
 use cpu::flags::with_flags_cleared;
 use cpu::flags::with_flags_set;
+use datawidth::cleared_by;
+use datawidth::wide;
 use model::addresses::BANK_SIZE;
 use model::code::Mode;
 use model::machine::Status;

@@ -1,6 +1,4 @@
 // The address of an instruction's data by its mode, and the data there.
-use cpu::data::low;
-use cpu::data::wide;
 use cpu::effects::pulled_at;
 use cpu::effects::residence_of;
 use cpu::file::DPR;
@@ -12,6 +10,8 @@ use cpu::file::X;
 use cpu::file::Y;
 use cpu::file::accumulator_in;
 use cpu::flags::is_set;
+use datawidth::low;
+use datawidth::wide;
 use memory::reads::LongRead;
 use memory::reads::WordRead;
 use memory::reads::data_from;

@@ -2,6 +2,5 @@
 pub mod Files
 pub mod Masks
 pub mod Numbers
-pub mod Outside
 pub mod Sizes
 pub mod Steps

@@ -1,9 +1,9 @@
 // What an operation leaves: registers of the file, the status, bytes to be stored, and whether it branches.
-use crate::data::low;
-use crate::data::wide;
 use crate::file::FILE_SIZE;
 use crate::file::PS;
 use crate::file::S;
+use datawidth::low;
+use datawidth::wide;
 use memory::stores::Stores;
 use model::code::Mode;
 use model::machine::Residence;

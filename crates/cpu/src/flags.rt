@@ -1,7 +1,7 @@
 // The flags of the status register's number, and the number with some of them changed.
-use crate::data::bit_of;
-use crate::data::half;
-use crate::data::low;
+use datawidth::bit_of;
+use datawidth::half;
+use datawidth::low;
 use model::machine::Status;
 ghost use mathlib.Core.Path.{_≡_};
 ghost use Prim.Native.Nat.{_^_, _≤_, _<_};

@@ -2,11 +2,11 @@
 -- answer, since every answer fits its packing.
 -- Assumes nothing.
 use mathlib.Core.Path.{_≡_, ap, _∙_}
-use Rattle.loader.specs.Packed.{verdictNumbers, checkNumbers, listReadNumbers, readNumbers, listWrittenNumbers}
-use Rattle.loader.specs.Packed.{writtenNumbers, packedRun, answerNumbers, runNumbers}
-use Rattle.loader.proofs.Answers.{verdict-fits, read-fits}
-use Rattle.loader.proofs.Counts.{run-fits}
-use Rattle.loader.proofs.Unpacked.{verdict-unpacked, read-unpacked, written-unpacked, run-unpacked}
+use Rattle.packing.specs.Packed.{verdictNumbers, checkNumbers, listReadNumbers, readNumbers, listWrittenNumbers}
+use Rattle.packing.specs.Packed.{writtenNumbers, packedRun, answerNumbers, runNumbers}
+use Rattle.packing.proofs.Answers.{verdict-fits, read-fits}
+use Rattle.packing.proofs.Counts.{run-fits}
+use Rattle.packing.proofs.Unpacked.{verdict-unpacked, read-unpacked, written-unpacked, run-unpacked}
 use Rattle.model.specs.declared.rules.Verdict.{Verdict}
 use Rattle.model.specs.declared.lists.ListRead.{ListRead}
 use Rattle.model.specs.declared.lists.ListWritten.{ListWritten}

@@ -14,8 +14,8 @@ use Rattle.loader.proofs.m7700_read_list.Met as ReadMet
 use Rattle.loader.proofs.m7700_write_list.Met as WriteMet
 use Rattle.loader.proofs.m7700_run.Met as RunMet
 use Rattle.loader.proofs.m7700_step.Met as StepMet
-use Rattle.loader.specs.Packed.{packedVerdict, verdictNumbers, checkNumbers, listReadNumbers, readNumbers}
-use Rattle.loader.specs.Packed.{listWrittenNumbers, writtenNumbers, answerNumbers}
+use Rattle.packing.specs.Packed.{packedVerdict, verdictNumbers, checkNumbers, listReadNumbers, readNumbers}
+use Rattle.packing.specs.Packed.{listWrittenNumbers, writtenNumbers, answerNumbers}
 use Rattle.model.specs.declared.rules.Verdict.{Verdict}
 use Rattle.model.specs.declared.rules.Verdict.the-variants.{Accepted, Refused}
 use Rattle.model.specs.declared.lists.Header.{Header}

@@ -27,7 +27,7 @@ use Rattle.loader.proofs.m7700_run.Statement as RunStatement
 use Rattle.loader.proofs.m7700_step as Step
 use Rattle.loader.proofs.m7700_step.Reads as StepReads
 use Rattle.loader.proofs.m7700_step.Statement as StepStatement
-use Rattle.loader.specs.Packed.{RunNumbers, runNumbers}
+use Rattle.packing.specs.Packed.{RunNumbers, runNumbers}
 use Rattle.model.specs.declared.machine.State.{State}
 use Rattle.model.specs.Image.{AllBytes}
 use Rattle.model.specs.Memory.{Memory, memory}

@@ -5,7 +5,7 @@
 -- A call is what it is given, its result and what it leaves, with its function's contract (Calls.antt): `holds` is
 -- what a buffer holds when it is given, `..-left` what it holds after the call. The numbers that the macros of
 -- m7700.h take out of a result are `checkNumbers`, `readNumbers`, `writtenNumbers` and, of a run, `numbers`
--- (loader/specs/Packed.antt). Every other notion is document 01's, in model/specs: `Accepts` (Rules), what a number
+-- (packing/specs/Packed.antt). Every other notion is document 01's, in model/specs: `Accepts` (Rules), what a number
 -- means, `Breaks` (Meaning), which texts are mark lists, `IsMarkList` (ListForm), the answers `verdict`, `readList`,
 -- `writeList`, `ranBytes` (Verdict, MarkList, RunBytes), `step` (Step), histories and lists of runs (Run), `Safe` and
 -- `Begins` (Guarantee).
@@ -16,8 +16,8 @@ use Prim.Native.Nat.{ℕ, _≤_, _<_}
 use mathlib.Core.Bool.{true, false}
 use mathlib.Core.List.{List, [], _∷_, _++_}
 use lib.ListN.{length, take, drop}
-use Rattle.loader.specs.Packed.{verdictNumbers, checkNumbers, listReadNumbers, readNumbers, listWrittenNumbers}
-use Rattle.loader.specs.Packed.{writtenNumbers, answerNumbers}
+use Rattle.packing.specs.Packed.{verdictNumbers, checkNumbers, listReadNumbers, readNumbers, listWrittenNumbers}
+use Rattle.packing.specs.Packed.{writtenNumbers, answerNumbers}
 use Rattle.model.specs.declared.refusals.Refusal.{Refusal}
 use Rattle.model.specs.declared.runs.RunAnswer.the-variants.{Ended}
 use Rattle.model.specs.Refusals.{refusalNumber}

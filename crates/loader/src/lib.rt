@@ -1,32 +1,18 @@
 // The interface for loaders written in C (include/m7700.h): numbers and byte slices, each as a pointer and a length.
-pub mod packing;
-
-use crate::packing::pack_run;
 use checker::check;
 use marklist::reader::read_list;
 use marklist::writer::write_list;
-use model::lists::ListRead;
-use model::lists::ListWritten;
-use model::refusals::refusal_number;
-use model::rules::Verdict;
+use packing::pack;
+use packing::pack_read;
+use packing::pack_run;
+use packing::pack_written;
 use runs::bytes::run;
 ghost use mathlib.Core.Path.{_≡_};
 ghost use Rattle.model.specs.Memory.{memory};
 ghost use Rattle.model.specs.RunBytes.{ranBytes};
 ghost use Rattle.model.specs.Verdict.{verdict};
 ghost use Rattle.model.specs.MarkList.{readList, marksRead, writeList, pageWritten};
-ghost use Rattle.loader.specs.Packed.{packedVerdict, Fits, packedRead, ReadFits, packedWritten, WrittenFits};
-ghost use Rattle.loader.specs.Packed.{packedRun};
-
-fn pack(answer: Verdict) -> u32
-    requires { ⌜ Fits answer ⌝ }
-    ensures { λ r. ⌜ r ≡ packedVerdict answer ⌝ }
-{
-    match answer {
-        Verdict::Accepted => 0,
-        Verdict::Refused { why, offset } => refusal_number(why) as u32 * 65_536 + offset,
-    }
-}
+ghost use Rattle.packing.specs.Packed.{packedVerdict, packedRead, packedWritten, packedRun};
 
 // The check: 0 where the image is accepted, else the number of the first broken rule and its offset.
 #[no_mangle]
@@ -34,26 +20,6 @@ pub extern "C" fn m7700_check(image: &[u8], marks: &[u8], base: u32, reset: u32)
     ensures { λ r. ⌜ r ≡ packedVerdict (verdict (now (image .entry)) (now (marks .entry)) base reset) ⌝ }
 {
     pack(check(image, marks, base, reset))
-}
-
-fn pack_read(answer: ListRead) -> u64
-    requires { ⌜ ReadFits answer ⌝ }
-    ensures { λ r. ⌜ r ≡ packedRead answer ⌝ }
-{
-    match answer {
-        ListRead::NotRead(why) => refusal_number(why) as u64,
-        ListRead::Read(h) => h.base as u64 * 256 + h.reset as u64 * 4_294_967_296,
-    }
-}
-
-fn pack_written(answer: ListWritten) -> u64
-    requires { ⌜ WrittenFits answer ⌝ }
-    ensures { λ r. ⌜ r ≡ packedWritten answer ⌝ }
-{
-    match answer {
-        ListWritten::NotWritten(why) => refusal_number(why) as u64,
-        ListWritten::Written(length) => length as u64 * 256,
-    }
 }
 
 // The reader of mark lists: 0 in the low byte and the list's base and reset above it, or the number that refuses it.

@@ -1,7 +1,7 @@
 -- The check's answer fits its packing.
 -- Assumes nothing.
-use Rattle.loader.proofs.Answers.{verdict-fits}
-use Rattle.loader.specs.Packed.{packedVerdict}
+use Rattle.packing.proofs.Answers.{verdict-fits}
+use Rattle.packing.specs.Packed.{packedVerdict}
 use mathlib.Core.Path.{_∙_, ap}
 use borrow.Author.Needs.{needs}
 use Rattle.loader.proofs.m7700_check.Statement.{statement}

@@ -1,7 +1,7 @@
 -- The reader's answer fits its packing.
 -- Assumes nothing.
-use Rattle.loader.proofs.Answers.{read-fits}
-use Rattle.loader.specs.Packed.{packedRead}
+use Rattle.packing.proofs.Answers.{read-fits}
+use Rattle.packing.specs.Packed.{packedRead}
 use mathlib.Core.Path.{_∙_, ap}
 use borrow.Author.Needs.{needs}
 use Rattle.loader.proofs.m7700_read_list.Statement.{statement}

@@ -1,9 +1,9 @@
 -- The run's answer fits its packing.
 -- Assumes nothing.
 use mathlib.Core.Path.{_∙_, ap}
-use Rattle.loader.specs.Packed.{packedRun}
+use Rattle.packing.specs.Packed.{packedRun}
 use Rattle.model.specs.Memory.{memory}
-use Rattle.loader.proofs.Counts.{run-fits}
+use Rattle.packing.proofs.Counts.{run-fits}
 use borrow.Author.Needs.{needs}
 use Rattle.loader.proofs.m7700_run.Statement.{statement}
 use Rattle.loader.proofs.m7700_run.Tie as tie

@@ -1,7 +1,7 @@
 -- The writer's answer fits its packing.
 -- Assumes nothing.
-use Rattle.loader.proofs.Answers.{written-fits}
-use Rattle.loader.specs.Packed.{packedWritten}
+use Rattle.packing.proofs.Answers.{written-fits}
+use Rattle.packing.specs.Packed.{packedWritten}
 use mathlib.Core.Path.{_∙_, ap}
 use borrow.Author.Needs.{needs}
 use Rattle.loader.proofs.m7700_write_list.Statement.{statement}

@@ -1,0 +1,38 @@
+-- Every answer of the check, the reader and the writer fits its packing.
+-- Assumes nothing.
+use mathlib.Core.Path.{_≡_, refl}
+use mathlib.Core.List.{List}
+use Prim.Native.Nat.{ℕ}
+use native.Mathlib.Omega.{arith}
+use Rattle.model.specs.declared.rules.Verdict.{Verdict}
+use Rattle.model.specs.declared.rules.Verdict.the-variants.{Accepted, Refused}
+use Rattle.model.specs.declared.lists.ListRead.{ListRead}
+use Rattle.model.specs.declared.lists.ListRead.the-variants.{NotRead, Read}
+use Rattle.model.specs.declared.lists.ListWritten.{ListWritten}
+use Rattle.model.specs.declared.lists.ListWritten.the-variants.{NotWritten, Written}
+use Rattle.model.specs.Verdict.{verdict}
+use Rattle.model.specs.MarkList.{readList, writeList}
+use Rattle.model.proofs.Meaning.{refused-small}
+use Rattle.model.proofs.ListAnswers.{read-small, written-small}
+use Rattle.packing.specs.Packed.{Fits, ReadFits, WrittenFits}
+
+pub verdict-fits : (image marks : List ℕ) (base reset : ℕ) → Fits (verdict image marks base reset)
+verdict-fits image marks base reset = by (verdict image marks base reset) refl
+  where
+    by : (v : Verdict) → verdict image marks base reset ≡ v → Fits v
+    by Accepted e = tt
+    by (Refused why at) e = refused-small image marks base reset at why e
+
+pub read-fits : (text marks : List ℕ) → ReadFits (readList text marks)
+read-fits text marks = by (readList text marks) refl
+  where
+    by : (a : ListRead) → readList text marks ≡ a → ReadFits a
+    by (NotRead why) e = tt
+    by (Read h) e = read-small text marks h e
+
+pub written-fits : (marks : List ℕ) (base reset : ℕ) (page : List ℕ) → WrittenFits (writeList marks base reset page)
+written-fits marks base reset page = by (writeList marks base reset page) refl
+  where
+    by : (a : ListWritten) → writeList marks base reset page ≡ a → WrittenFits a
+    by (NotWritten why) e = tt
+    by (Written n) e = omega (arith, written-small marks base reset n page e)

@@ -1,0 +1,85 @@
+-- The numbers that the macros of include/m7700.h take out of a result are those of the answer that was packed: each
+-- number is below the bound of its bits.
+-- Assumes nothing.
+use mathlib.Core.Path.{_≡_, refl}
+use Prim.Native.Nat.{_+_, _*_, _/_, _^_, _<_}
+use native.Mathlib.Omega.{arith}
+use Rattle.model.specs.declared.rules.Verdict.{Verdict}
+use Rattle.model.specs.declared.rules.Verdict.the-variants.{Accepted, Refused}
+use Rattle.model.specs.declared.lists.ListRead.{ListRead}
+use Rattle.model.specs.declared.lists.ListRead.the-variants.{NotRead, Read}
+use Rattle.model.specs.declared.lists.ListWritten.{ListWritten}
+use Rattle.model.specs.declared.lists.ListWritten.the-variants.{NotWritten, Written}
+use Rattle.model.specs.declared.runs.End.{End}
+use Rattle.model.specs.declared.runs.End.the-variants.{Done, AtStop}
+use Rattle.model.specs.declared.runs.RunAnswer.{RunAnswer}
+use Rattle.model.specs.declared.runs.RunAnswer.the-variants.{NotRun, Ended}
+use Rattle.model.specs.Refusals.{refusalNumber}
+use Rattle.model.specs.Run.{endNumber}
+use Rattle.model.proofs.TestResults.{refusal-range}
+use Rattle.model.proofs.Step.{stop-range}
+use Rattle.packing.specs.Packed.{packedVerdict, Fits, verdictNumbers, checkNumbers}
+use Rattle.packing.specs.Packed.{packedRead, ReadFits, listReadNumbers, readNumbers}
+use Rattle.packing.specs.Packed.{packedWritten, listWrittenNumbers, writtenNumbers}
+use Rattle.packing.specs.Packed.{packedRun, RunFits, answerNumbers, runNumbers}
+
+pub verdict-unpacked : (v : Verdict) → Fits v → checkNumbers (packedVerdict v) ≡ verdictNumbers v
+verdict-unpacked Accepted f = refl
+verdict-unpacked (Refused why at) f =
+    let result = refusalNumber why * 65_536 + at in
+    let number : checkNumbers result .number ≡ refusalNumber why = omega arith in
+    let offset : checkNumbers result .offset ≡ at = omega arith in
+    λ j. record { number = number j; offset = offset j }
+
+pub read-unpacked : (a : ListRead) → ReadFits a → readNumbers (packedRead a) ≡ listReadNumbers a
+read-unpacked (NotRead why) f =
+    let result = refusalNumber why in
+    let below = refusal-range why .1 in
+    let number : readNumbers result .number ≡ result = omega arith in
+    let base : readNumbers result .base ≡ 0 = omega arith in
+    let reset : readNumbers result .reset ≡ 0 = omega arith in
+    λ j. record { number = number j; base = base j; reset = reset j }
+read-unpacked (Read h) f =
+    let result = h .base * 256 + h .reset * 4_294_967_296 in
+    let above : result / 2 ^ 8 ≡ h .base + 2 ^ 24 * h .reset = omega arith in
+    let higher : result / 2 ^ 32 ≡ h .reset = omega arith in
+    let number : readNumbers result .number ≡ 0 = omega arith in
+    let base : readNumbers result .base ≡ h .base = rw above (omega arith) in
+    let reset : readNumbers result .reset ≡ h .reset = rw higher (omega arith) in
+    λ j. record { number = number j; base = base j; reset = reset j }
+
+pub written-unpacked : (a : ListWritten) → writtenNumbers (packedWritten a) ≡ listWrittenNumbers a
+written-unpacked (NotWritten why) =
+    let result = refusalNumber why in
+    let below = refusal-range why .1 in
+    let number : writtenNumbers result .number ≡ result = omega arith in
+    let length : writtenNumbers result .length ≡ 0 = omega arith in
+    λ j. record { number = number j; length = length j }
+written-unpacked (Written n) =
+    let number : writtenNumbers (n * 256) .number ≡ 0 = omega arith in
+    let length : writtenNumbers (n * 256) .length ≡ n = omega arith in
+    λ j. record { number = number j; length = length j }
+
+end-below : (end : End) → endNumber end < 256
+end-below Done = omega arith
+end-below (AtStop stop) = omega (arith, stop-range stop .1)
+
+pub run-unpacked : (a : RunAnswer) → RunFits a → runNumbers (packedRun a) ≡ answerNumbers a
+run-unpacked (NotRun why) f =
+    let result = refusalNumber why in
+    let below = refusal-range why .1 in
+    let refusal : runNumbers result .refusal ≡ result = omega arith in
+    let end : runNumbers result .end ≡ 0 = omega arith in
+    let steps : runNumbers result .steps ≡ 0 = omega arith in
+    let calls : runNumbers result .calls ≡ 0 = omega arith in
+    λ j. record { refusal = refusal j; end = end j; steps = steps j; calls = calls j }
+run-unpacked (Ended stopped taken called) f =
+    let result = 256 * endNumber stopped + 65_536 * taken + 1_099_511_627_776 * called in
+    let below = end-below stopped in
+    let above : result / 2 ^ 8 ≡ endNumber stopped + 2 ^ 8 * (taken + 2 ^ 24 * called) = omega arith in
+    let higher : result / 2 ^ 16 ≡ taken + 2 ^ 24 * called = omega arith in
+    let refusal : runNumbers result .refusal ≡ 0 = omega arith in
+    let end : runNumbers result .end ≡ endNumber stopped = rw above (omega arith) in
+    let steps : runNumbers result .steps ≡ taken = rw higher (omega arith) in
+    let calls : runNumbers result .calls ≡ called = omega arith in
+    λ j. record { refusal = refusal j; end = end j; steps = steps j; calls = calls j }

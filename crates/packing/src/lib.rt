@@ -1,0 +1,86 @@
+// The answers of the C interface as numbers (include/m7700.h). Each function asks that the answer fits its bits, which
+// every answer does (proofs/Answers.antt, Counts.antt).
+use model::lists::ListRead;
+use model::lists::ListWritten;
+use model::machine::Stop;
+use model::refusals::refusal_number;
+use model::rules::Verdict;
+use model::runs::End;
+use model::runs::RunAnswer;
+ghost use mathlib.Core.Path.{_≡_};
+ghost use Rattle.model.specs.Run.{endNumber};
+ghost use Rattle.model.specs.Step.{stopNumber};
+ghost use Rattle.packing.specs.Packed.{packedVerdict, Fits, packedRead, ReadFits, packedWritten, WrittenFits};
+ghost use Rattle.packing.specs.Packed.{packedRun, RunFits};
+
+// The check's answer: the number above the offset, 0 where the image is accepted.
+pub fn pack(answer: Verdict) -> u32
+    requires { ⌜ Fits answer ⌝ }
+    ensures { λ r. ⌜ r ≡ packedVerdict answer ⌝ }
+{
+    match answer {
+        Verdict::Accepted => 0,
+        Verdict::Refused { why, offset } => refusal_number(why) as u32 * 65_536 + offset,
+    }
+}
+
+// The reader's answer: the refusal's number, or base and reset above a byte that is 0.
+pub fn pack_read(answer: ListRead) -> u64
+    requires { ⌜ ReadFits answer ⌝ }
+    ensures { λ r. ⌜ r ≡ packedRead answer ⌝ }
+{
+    match answer {
+        ListRead::NotRead(why) => refusal_number(why) as u64,
+        ListRead::Read(h) => h.base as u64 * 256 + h.reset as u64 * 4_294_967_296,
+    }
+}
+
+// The writer's answer: the refusal's number, or the length above a byte that is 0.
+pub fn pack_written(answer: ListWritten) -> u64
+    requires { ⌜ WrittenFits answer ⌝ }
+    ensures { λ r. ⌜ r ≡ packedWritten answer ⌝ }
+{
+    match answer {
+        ListWritten::NotWritten(why) => refusal_number(why) as u64,
+        ListWritten::Written(length) => length as u64 * 256,
+    }
+}
+
+// The paper's number of a stop.
+fn stop_number(stop: Stop) -> u8
+    ensures { λ r. ⌜ r ≡ stopNumber stop ⌝ }
+{
+    match stop {
+        Stop::Outside => 20,
+        Stop::Uncarried => 21,
+        Stop::Halt => 22,
+        Stop::Unmapped => 23,
+        Stop::Astray => 24,
+        Stop::Deep => 25,
+        Stop::ImageStore => 26,
+        Stop::Decimal => 27,
+    }
+}
+
+// The number of an end: 0, or the stop's.
+fn end_number(end: End) -> u8
+    ensures { λ r. ⌜ r ≡ endNumber end ⌝ }
+{
+    match end {
+        End::Done => 0,
+        End::AtStop(stop) => stop_number(stop),
+    }
+}
+
+// A run's answer: the refusal's number; or the end, the steps and the calls, each in its bits.
+pub fn pack_run(answer: RunAnswer) -> u64
+    requires { ⌜ RunFits answer ⌝ }
+    ensures { λ r. ⌜ r ≡ packedRun answer ⌝ }
+{
+    match answer {
+        RunAnswer::NotRun(why) => refusal_number(why) as u64,
+        RunAnswer::Ended { end, steps, calls } => {
+            256 * end_number(end) as u64 + 65_536 * steps as u64 + 1_099_511_627_776 * calls as u64
+        }
+    }
+}
