@@ -10,10 +10,10 @@ use lib.ListN.{getD}
 use Rattle.model.specs.declared.code.Mode.{Mode}
 use Rattle.model.specs.declared.machine.Data.{Data}
 use Rattle.model.specs.declared.machine.Status.{Status}
-use Rattle.model.specs.AnyWidth.{merged, decremented, clearedBy}
+use Rattle.anywidth.specs.AnyWidth.{merged, decremented, clearedBy}
 use Rattle.model.specs.Addressing.{bits, residenceOf}
 use Rattle.model.specs.Arithmetic.{withResult, withFlagsSet, withFlagsCleared}
-use Rattle.model.specs.Choice.{pick}
+use Rattle.prelude.specs.Choice.{pick}
 use Rattle.model.specs.Effects.{Effect, pushes, behindAddress}
 use Rattle.model.specs.Image.{bankSize}
 use Rattle.model.specs.Status.{numberOf, isSet}

@@ -13,7 +13,7 @@ use model::machine::Status;
 ghost use mathlib.Core.Path.{_≡_};
 ghost use Prim.Native.Nat.{_+_, _<_};
 ghost use Rattle.model.specs.Addressing.{bits};
-ghost use Rattle.model.specs.Choice.{pick};
+ghost use Rattle.prelude.specs.Choice.{pick};
 ghost use Rattle.model.specs.Decode.{operandLimit};
 ghost use Rattle.model.specs.Image.{addressLimit};
 ghost use Rattle.model.specs.Status.{statusOf};

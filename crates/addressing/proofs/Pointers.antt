@@ -27,7 +27,7 @@ use Rattle.model.specs.declared.machine.Residence.{Residence}
 use Rattle.model.specs.declared.machine.Residence.the-variants.{Memory as InMemory, Instruction, Register}
 use Rattle.model.specs.Memory.{Memory, Act, ret, _>>=_, Outcome, done, unmapped, come}
 use Rattle.model.specs.Memory.{readWord, readLong, readData}
-use Rattle.model.specs.AnyWidth.{size, low}
+use Rattle.anywidth.specs.AnyWidth.{size, low}
 use Rattle.model.specs.Addressing.{bits, dataAt, addressOf, residenceOf, operandBy, dataOf}
 use Rattle.model.specs.declared.machine.Data.{Data}
 use Rattle.model.proofs.machine.Access.{the-type}

@@ -16,9 +16,9 @@ use Rattle.model.specs.declared.machine.Data.{Data}
 use Rattle.model.specs.declared.machine.Registers.{Registers}
 use Rattle.model.specs.declared.machine.Residence.{Residence}
 use Rattle.model.specs.declared.machine.Residence.the-variants.{Memory, Instruction, Register}
-use Rattle.model.specs.AnyWidth.{low}
+use Rattle.anywidth.specs.AnyWidth.{low}
 use Rattle.model.specs.Addressing.{bits, dataAt, accumulatorOf, addressOf, residenceOf, inMemory}
-use Rattle.model.specs.Choice.{pick}
+use Rattle.prelude.specs.Choice.{pick}
 use Rattle.model.specs.Memory.{Act, ret, _>>=_, Outcome, done, unmapped}
 
 abbrev pub addressRead : Outcome ℕ → AddressRead

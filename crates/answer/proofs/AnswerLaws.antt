@@ -15,7 +15,7 @@ use Rattle.model.specs.declared.rules.Verdict.the-variants.{Accepted}
 use Rattle.model.specs.Image.{imageLimit, isStart, startCount}
 use Rattle.model.specs.Verdict.{verdict}
 use Rattle.model.specs.MarkList.{readList, marksRead, marksBy}
-use Rattle.model.proofs.Choice.{one-or-none}
+use Rattle.prelude.proofs.Choice.{one-or-none}
 use Rattle.model.proofs.Image.{right-length}
 use Rattle.model.proofs.Verdict.{accepted-rules}
 use Rattle.answer.specs.declared.answers.Answer.{Answer}

@@ -7,7 +7,7 @@ use native.Mathlib.Omega.{arith}
 use lib.ListN.{length, take, drop, set}
 use lib.Seq.{length-take-le}
 use borrow.Rule.Slice.PartMut.{putMid}
-use Rattle.model.specs.Digits.{digits}
+use Rattle.text.specs.Digits.{digits}
 use Rattle.model.specs.MarkList.{tab, lineEnd, decimalDigits}
 use Rattle.model.proofs.MarkList.{decimal-most}
 use Rattle.marklist.proofs.Pages.{Front, front-next, front-inside}

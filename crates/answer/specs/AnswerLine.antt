@@ -9,8 +9,8 @@ use lib.ListN.{length, drop}
 use Rattle.model.specs.declared.rules.Verdict as verdicts
 use Rattle.model.specs.declared.lists.ListRead.{ListRead}
 use Rattle.model.specs.declared.lists.ListRead.the-variants.{NotRead, Read}
-use Rattle.model.specs.Choice.{pick}
-use Rattle.model.specs.Digits.{digits}
+use Rattle.prelude.specs.Choice.{pick}
+use Rattle.text.specs.Digits.{digits}
 use Rattle.model.specs.Refusals.{refusalNumber}
 use Rattle.model.specs.Image.{imageLimit, startCount}
 use Rattle.model.specs.Verdict.{verdict}

@@ -23,13 +23,15 @@ use Rattle.model.specs.Image.{isFormed, lengthFits, baseFits, markAt, resetFits
 use Rattle.model.specs.Rules.{targetOf, mAfter, xAfter, markOfRoutine, markOnReturn, markAfter, owedBy, owedAt}
 use Rattle.model.specs.Rules.{returnsBy, returnFits}
 use Rattle.model.specs.Refusals.{firstRefusal}
-use Rattle.model.specs.Verdict.{firstFrom, isClear, wantsStart, allStarts, wantsMark, allMarks}
+use Rattle.prelude.specs.First.{firstFrom}
+use Rattle.model.specs.Verdict.{isClear, wantsStart, allStarts, wantsMark, allMarks}
 use Rattle.model.specs.Verdict.{decodedResult, startResult, badMark, badStart, startsVerdict, verdict}
-use Rattle.model.specs.Digits.{digit, digits, digitValue, value, startsWith}
+use Rattle.text.specs.Digits.{digit, digits, digitValue, value}
+use Rattle.text.specs.Text.{startsWith}
 use Rattle.model.specs.MarkList.{decimalDigits, headerText, kindLetter, fields, lengthDigitsShown, headerShown}
 use Rattle.model.specs.MarkList.{isHeader, bitShown, kindShown, fieldsMark, isLine, markShown, lineSize, marksShown}
 use Rattle.model.specs.MarkList.{linesLeft, linesText, marksOf, leftOf, isList, readAs, readList, marksBy, marksRead}
-use Rattle.model.specs.Status.{bit}
+use Rattle.prelude.specs.Choice.{bit}
 use Rattle.model.specs.Memory.{Memory, memory, byteAt, servedAt}
 use Rattle.model.specs.Addressing.{operandBy, dataOf}
 use Rattle.model.specs.Effects.{effectOf}
@@ -38,7 +40,7 @@ use Rattle.model.specs.Run.{stepLimit, levelLimit, history, ramFits, callsFit, 
 use Rattle.model.specs.Run.{played, ran}
 use Rattle.model.specs.StateBytes.{coreOf}
 use Rattle.model.specs.Guarantee.{Every}
-use Rattle.model.proofs.Verdict.{both-true}
+use Rattle.prelude.proofs.Choice.{both-true}
 use Rattle.model.proofs.RoundTrips.{read-then-written}
 use Rattle.model.proofs.Run.{admitted-ran}
 use Rattle.cases.specs.Rows.{listOf, Silent, Named, Claim, listed, does, stops, returns, Row, Listed, RanTo}

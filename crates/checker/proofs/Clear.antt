@@ -9,10 +9,11 @@ use borrow.Author.Tests.{eq-eqb, ltb-true}
 use lib.Dec.{ltb, leb}
 use lib.ListN.{length, getD, take, drop}
 use lib.Seq.{getD-drop}
-use Rattle.model.specs.Decode.{number}
-use Rattle.model.specs.Verdict.{firstFrom, startAt, isClear}
-use Rattle.model.proofs.First.{passed-all}
-use Rattle.model.proofs.Verdict.{both-true}
+use Rattle.fields.specs.Fields.{number}
+use Rattle.prelude.specs.First.{firstFrom}
+use Rattle.model.specs.Verdict.{startAt, isClear}
+use Rattle.prelude.proofs.First.{passed-all}
+use Rattle.prelude.proofs.Choice.{both-true}
 
 zeros : (l : List ℕ) (n j : ℕ) → number (take n l) ≡ 0 → j < n → getD l j 0 ≡ 0
 zeros l zero j e h = absurd (omega arith)

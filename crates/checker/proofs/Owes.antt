@@ -21,13 +21,13 @@ use Rattle.model.specs.declared.refusals.TestResult.{TestResult}
 use Rattle.model.specs.declared.rules.Want.{Want}
 use Rattle.model.specs.declared.rules.Owed.{Owed}
 use Rattle.model.specs.declared.rules.Owed.the-variants.{Nothing, One, Two}
-use Rattle.model.specs.Choice.{pick}
+use Rattle.prelude.specs.Choice.{pick}
 use Rattle.model.specs.Image.{addressLimit, isStart, markM, markX, markKind, returnM, returnX, markOf, markAt}
 use Rattle.model.specs.Refusals.{firstRefusal}
 use Rattle.model.specs.Rules.{kindNumber, markOfRoutine, markOnReturn, markAfter, mAfter, xAfter}
 use Rattle.model.specs.Rules.{owedBy, owedAt, returnFits}
 use Rattle.model.specs.Verdict.{wantsStart, allStarts, wantsMark, allMarks}
-use Rattle.model.proofs.Verdict.{both-true}
+use Rattle.prelude.proofs.Choice.{both-true}
 use Rattle.model.proofs.Widths.{same-fields}
 use Rattle.checker.specs.Owes.{returnTests, owedTests, MarksOfStarts}
 

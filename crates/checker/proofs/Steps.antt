@@ -13,12 +13,13 @@ use Rattle.model.specs.declared.code.Decoded.{Decoded}
 use Rattle.model.specs.declared.code.Decoded.the-variants.{Whole, NotCarried, CutOff}
 use Rattle.model.specs.declared.refusals.TestResult.{TestResult}
 use Rattle.model.specs.declared.refusals.TestResult.the-variants.{Passed as NoneFailed}
-use Rattle.model.specs.Choice.{pick}
+use Rattle.prelude.specs.Choice.{pick}
 use Rattle.model.specs.Image.{markM, markX}
 use Rattle.model.specs.Rules.{instructionAt, StartRules}
-use Rattle.model.specs.Verdict.{firstFrom, startAt, startResult, brokenAt}
+use Rattle.prelude.specs.First.{firstFrom}
+use Rattle.model.specs.Verdict.{startAt, startResult, brokenAt}
 use Rattle.model.proofs.Decode.{decodes}
-use Rattle.model.proofs.First.{Passed, one-more-passed, passed-all}
+use Rattle.prelude.proofs.First.{Passed, one-more-passed, passed-all}
 use Rattle.model.proofs.Verdict.{start-rules}
 use Rattle.checker.specs.declared.start.Step.{Step}
 use Rattle.checker.specs.Steps.{bytesOf, bytesAt, stepAt}

@@ -16,7 +16,7 @@ ghost use mathlib.Core.Path.{_≡_};
 ghost use Prim.Native.Nat.{_+_, _≤_, _<_};
 ghost use lib.ListN.{length};
 ghost use Rattle.codepages.specs.Packing.{numbers};
-ghost use Rattle.model.specs.Choice.{pick};
+ghost use Rattle.prelude.specs.Choice.{pick};
 ghost use Rattle.model.specs.Image.{addressLimit, bankSize, isStart, startCount};
 ghost use Rattle.model.specs.Verdict as spec;
 

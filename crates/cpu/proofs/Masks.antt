@@ -10,7 +10,7 @@ use lib.Bits.{bitAnd, bitOr, bitXor, and-shr, or-shr, xor-shr}
 use lib.Bits.{and-mod, or-mod, xor-mod, and-le-l, or-zero-l, xor-zero-l}
 use lib.Dec.{eqb}
 use Rattle.model.specs.Arithmetic.{withFlagsSet, withFlagsCleared}
-use Rattle.model.specs.Choice.{pick}
+use Rattle.prelude.specs.Choice.{pick}
 use Rattle.model.specs.Status.{isSet, statusOf}
 
 -- a flag of two numbers joined digit by digit

@@ -8,8 +8,8 @@ use lib.Bits.{bitAnd, bitOr, bitXor}
 use lib.ListN.{getD}
 use Rattle.model.specs.declared.machine.Status.{Status}
 use Rattle.model.specs.declared.machine.Residence.{Residence}
-use Rattle.model.specs.AnyWidth.{low, merged, isNegative, sum, difference, isPast, decremented, shiftedLeft}
-use Rattle.model.specs.AnyWidth.{shiftedRight, isOdd, rotated}
+use Rattle.anywidth.specs.AnyWidth.{low, merged, isNegative, sum, difference, isPast, decremented, shiftedLeft}
+use Rattle.anywidth.specs.AnyWidth.{shiftedRight, isOdd, rotated}
 use Rattle.model.specs.Addressing.{bits, pulledAt}
 use Rattle.model.specs.Arithmetic.{withCarry, withResult, withStatus, withS, sumStatus, differenceStatus}
 use Rattle.model.specs.Effects.{Effect, effect, only, storesOf, bytes}

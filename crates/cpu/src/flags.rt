@@ -8,7 +8,8 @@ ghost use Prim.Native.Nat.{_^_, _≤_, _<_};
 ghost use lib.Dec.{eqb};
 ghost use Rattle.model.specs.Addressing.{bits};
 ghost use Rattle.model.specs.Arithmetic as spec;
-ghost use Rattle.model.specs.Status.{isSet, bit, statusOf};
+ghost use Rattle.model.specs.Status.{isSet, statusOf};
+ghost use Rattle.prelude.specs.Choice.{bit};
 
 // Whether the flag that a mask names is set.
 pub fn is_set(mask: u16, status: u16) -> bool

@@ -8,7 +8,7 @@ use native.Mathlib.Omega.{arith}
 use lib.Dec.{ltb, leb}
 use lib.Pow.{pow-mono}
 use borrow.Author.Tests.{lt-ltb, le-ltb, le-leb, lt-leb, leb-true, leb-false}
-use Rattle.model.specs.AnyWidth.{size, half, isOutside}
+use Rattle.anywidth.specs.AnyWidth.{size, half, isOutside}
 
 pub below-half : (n v : ℕ) → v < half n → true ≡ isOutside n v
 below-half n v h = rw (lt-leb (half n) v h) refl

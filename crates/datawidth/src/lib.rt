@@ -2,8 +2,8 @@
 ghost use mathlib.Core.Path.{_≡_};
 ghost use Prim.Native.Nat.{_*_, _%_, _^_, _<_, _≤_};
 ghost use Rattle.model.specs.Addressing.{bits};
-ghost use Rattle.model.specs.AnyWidth as spec;
-ghost use Rattle.model.specs.Status.{bit};
+ghost use Rattle.anywidth.specs.AnyWidth as spec;
+ghost use Rattle.prelude.specs.Choice.{bit};
 
 // Data where a larger number is wanted.
 pub fn wide(v: u16) -> u64

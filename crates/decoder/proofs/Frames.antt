@@ -13,11 +13,11 @@ use lib.ListN.{length, getD, drop, length-drop}
 use lib.Seq.{getD-drop}
 use Rattle.model.specs.declared.code.Instruction.{Instruction}
 use Rattle.model.specs.declared.code.Decoded.the-variants.{Whole, NotCarried, CutOff}
-use Rattle.model.specs.Choice.{pick}
+use Rattle.prelude.specs.Choice.{pick}
 use Rattle.model.specs.CodeMap.{prefixBytes, lengthAt}
 use Rattle.model.specs.CodePages.{plain}
 use Rattle.model.specs.Decode.{pageOf, judged, decodeOn, decode}
-use Rattle.model.proofs.Choice.{one-of}
+use Rattle.prelude.proofs.Choice.{one-of}
 use Rattle.model.proofs.CodeMap.{carried-length}
 use Rattle.codepages.specs.Packing.{unpacked, numbers, numberAt}
 use Rattle.codepages.proofs.Unpacked.{unpacked-at}

@@ -7,9 +7,9 @@ use native.Mathlib.Omega.{arith}
 use lib.Dec.{eqb}
 use lib.ListN.{getD}
 use Rattle.model.specs.declared.code.LengthRule.the-variants.{Fixed}
-use Rattle.model.specs.Choice.{pick}
+use Rattle.prelude.specs.Choice.{pick}
 use Rattle.model.specs.CodeMap.{moreBytes, lengthAt}
-use Rattle.model.proofs.Choice.{one-or-none}
+use Rattle.prelude.proofs.Choice.{one-or-none}
 use Rattle.codepages.specs.Packing.{rules, unpacked}
 
 bit-of-rule : (m x r : ℕ) → r < 4

@@ -8,9 +8,9 @@ use native.Mathlib.Omega.{arith}
 use native.Mathlib.Nat.{pow-le-pow-right}
 use lib.ListN.{length, getD, drop, length-drop}
 use lib.Seq.{drop-cons, getD-drop}
-use Rattle.model.specs.Decode.{number}
-use Rattle.model.specs.Image.{AllBytes}
-use Rattle.model.proofs.Decode.{number-bound}
+use Rattle.fields.specs.Fields.{number}
+use Rattle.prelude.specs.Bytes.{AllBytes}
+use Rattle.fields.proofs.Fields.{number-bound}
 
 last-turn : (bytes : List ℕ) → 0 ≡ number (drop (length bytes) bytes)
 last-turn [] = refl

@@ -12,9 +12,10 @@ use native.Mathlib.Numerals.{add-one}
 use native.Mathlib.Omega.{arith}
 use lib.ListN.{length, getD, take, drop, length-drop}
 use lib.Seq.{drop-cons, drop-drop}
-use Rattle.model.specs.Decode.{number, operandOf}
-use Rattle.model.specs.Image.{AllBytes}
-use Rattle.model.proofs.Decode.{bytes-drop}
+use Rattle.fields.specs.Fields.{number}
+use Rattle.model.specs.Decode.{operandOf}
+use Rattle.prelude.specs.Bytes.{AllBytes}
+use Rattle.prelude.proofs.Bytes.{bytes-drop}
 
 twice : (k v : ℕ) → 2 ^ k ≡ v → 2 ^ suc k ≡ v * 2
 twice k v e = rw (pow-suc, e)

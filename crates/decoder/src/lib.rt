@@ -13,7 +13,7 @@ ghost use mathlib.Core.Bool.{false};
 ghost use Prim.Native.Nat.{_+_, _-_, _%_, _^_, _≤_, _<_};
 ghost use lib.ListN.{length, getD, take, drop};
 ghost use lib.Dec.{eqb};
-ghost use Rattle.model.specs.Choice.{pick};
+ghost use Rattle.prelude.specs.Choice.{pick};
 ghost use Rattle.model.specs.CodeMap.{entryAt, moreBytes, lengthAt};
 ghost use Rattle.model.specs.Decode as spec;
 ghost use Rattle.codepages.specs.Packing.{numbers, numberAt, unpacked};

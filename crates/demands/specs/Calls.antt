@@ -29,7 +29,7 @@ use Rattle.loader.proofs.m7700_step.Reads as StepReads
 use Rattle.loader.proofs.m7700_step.Statement as StepStatement
 use Rattle.packing.specs.Packed.{RunNumbers, runNumbers}
 use Rattle.model.specs.declared.machine.State.{State}
-use Rattle.model.specs.Image.{AllBytes}
+use Rattle.prelude.specs.Bytes.{AllBytes}
 use Rattle.model.specs.Memory.{Memory, memory}
 use Rattle.model.specs.Run.{Event, runHistory}
 use Rattle.model.specs.StateBytes.{stateOf}

@@ -5,9 +5,9 @@ use mathlib.Core.Path.{_≡_, refl}
 use mathlib.Core.Bool.{Bool, true, false}
 use Prim.Native.Nat.{ℕ, _/_, _%_, _<_}
 use lib.Dec.{T, eqb, eqb→eq, ltb}
-use Rattle.model.specs.Choice.{pick}
+use Rattle.prelude.specs.Choice.{pick}
 use Rattle.model.specs.Image.{isFormed}
-use Rattle.model.proofs.Table.{upTo, below-all}
+use Rattle.prelude.proofs.Table.{upTo, below-all}
 
 abbrev chosen : ℕ → ℕ
 chosen mark =

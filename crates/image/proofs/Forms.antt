@@ -9,10 +9,10 @@ use native.Mathlib.Omega.{arith}
 use borrow.Author.Tests.{eq-eqb}
 use lib.Bits.{bitOr}
 use lib.Dec.{eqb}
-use Rattle.model.specs.Choice.{pick}
-use Rattle.model.specs.Verdict.{firstFrom}
-use Rattle.model.proofs.Verdict.{none-found}
-use Rattle.model.proofs.First.{Passed, none-passed, one-more-passed, passed-all}
+use Rattle.prelude.specs.Choice.{pick}
+use Rattle.prelude.specs.First.{firstFrom}
+use Rattle.prelude.proofs.First.{none-found}
+use Rattle.prelude.proofs.First.{Passed, none-passed, one-more-passed, passed-all}
 
 module _ (test : ℕ → Bool) where
   -- a place below i where the test holds

@@ -7,7 +7,7 @@ use model::refusals::TestResult;
 ghost use mathlib.Core.Path.{_≡_};
 ghost use Prim.Native.Nat.{_%_};
 ghost use lib.ListN.{getD};
-ghost use Rattle.model.specs.Choice.{pick};
+ghost use Rattle.prelude.specs.Choice.{pick};
 ghost use Rattle.model.specs.Image.{bankSize, isStart, isFormed, lengthFits, baseFits, markAt, resetFits};
 ghost use Rattle.model.specs.Refusals.{firstRefusal};
 ghost use Rattle.model.specs.Verdict.{badMark, allFormed, imageTests, marksTests};

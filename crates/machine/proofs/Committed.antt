@@ -14,9 +14,10 @@ use Rattle.model.specs.declared.code.WidthEffect.{WidthEffect}
 use Rattle.model.specs.declared.code.WidthEffect.the-variants.{KeepWidths, SetM, ClearM, SetBits, ClearBits}
 use Rattle.model.specs.Arithmetic.{withStatus, withWidths}
 use Rattle.model.specs.Rules.{mAfter, xAfter}
-use Rattle.model.specs.Status.{maskM, maskX, isSet, bit, statusOf}
+use Rattle.model.specs.Status.{maskM, maskX, isSet, statusOf}
+use Rattle.prelude.specs.Choice.{bit}
 use Rattle.model.specs.Step.{widthsAfter}
-use Rattle.model.proofs.Choice.{one-of}
+use Rattle.prelude.proofs.Choice.{one-of}
 use Rattle.machine.specs.declared.fetch.Fetched.{Fetched}
 use Rattle.machine.specs.Fetches.{instruction}
 

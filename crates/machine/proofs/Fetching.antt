@@ -10,7 +10,8 @@ use Rattle.model.specs.declared.machine.Core.{Core}
 use Rattle.model.specs.Decode.{decode}
 use Rattle.model.specs.Image.{addressLimit, imageLimit}
 use Rattle.model.specs.Memory.{memory}
-use Rattle.model.specs.Status.{maskM, maskX, isSet, bit, statusOf}
+use Rattle.model.specs.Status.{maskM, maskX, isSet, statusOf}
+use Rattle.prelude.specs.Choice.{bit}
 use Rattle.model.specs.Step.{placeOf, fetched}
 use Rattle.model.proofs.Step.{fetched-from}
 

@@ -28,7 +28,7 @@ use Rattle.model.specs.declared.machine.CallChange.the-variants.{Keep}
 use Rattle.model.specs.declared.machine.Stop.the-variants.{Unmapped, Decimal}
 use Rattle.model.specs.declared.machine.Answer.the-variants.{Completed, Stopped}
 use Rattle.model.specs.Addressing.{accessOf, isShort, dataOf}
-use Rattle.model.specs.Choice.{pick}
+use Rattle.prelude.specs.Choice.{pick}
 use Rattle.model.specs.Effects.{Effect, effectOf}
 use Rattle.model.specs.Image.{addressLimit}
 use Rattle.model.specs.Memory.{Memory, Outcome, done, unmapped, come}

@@ -20,7 +20,7 @@ use Rattle.model.specs.declared.machine.CallChange.the-variants.{Keep}
 use Rattle.model.specs.declared.machine.Core.{Core}
 use Rattle.model.specs.declared.machine.Stop.the-variants.{Outside, Uncarried, Halt as Halted}
 use Rattle.model.specs.declared.machine.Answer.the-variants.{Stopped}
-use Rattle.model.specs.Choice.{pick}
+use Rattle.prelude.specs.Choice.{pick}
 use Rattle.model.specs.Image.{addressLimit}
 use Rattle.model.specs.Memory.{Memory}
 use Rattle.model.specs.Rules.{nextAddress, targetAddress}

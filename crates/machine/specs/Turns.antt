@@ -14,7 +14,7 @@ use Rattle.memory.specs.declared.reads.LongRead.the-variants.{Long, Unmapped as
 use Rattle.model.specs.declared.machine.Answer.{Answer}
 use Rattle.model.specs.declared.machine.Core.{Core}
 use Rattle.model.specs.declared.machine.State.{State}
-use Rattle.model.specs.Choice.{pick}
+use Rattle.prelude.specs.Choice.{pick}
 use Rattle.model.specs.Image.{bankSize, inBankOf}
 use Rattle.model.specs.Rules.{nextAddress, targetAddress}
 use Rattle.model.specs.Memory.{Memory}

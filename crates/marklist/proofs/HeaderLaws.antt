@@ -9,10 +9,10 @@ use lib.ListN.{length, take, drop, set, length-append}
 use lib.Seq.{take-at, length-take-le}
 use borrow.Rule.Slice.PartMut.{putMid}
 use Rattle.model.specs.declared.lists.Header.{Header}
-use Rattle.model.specs.Digits.{digits}
+use Rattle.text.specs.Digits.{digits}
 use Rattle.model.specs.MarkList.{tab, lineEnd, decimalDigits, headerText, lengthDigits, lengthDigitsShown, tabAt}
-use Rattle.model.proofs.First.{first-is}
-use Rattle.model.proofs.Digits.{length-digits}
+use Rattle.prelude.proofs.First.{first-is}
+use Rattle.text.proofs.Digits.{length-digits}
 use Rattle.model.proofs.MarkList.{decimal-most, length-header}
 use Rattle.marklist.proofs.Pages.{Front, front-next, front-at}
 

@@ -9,11 +9,12 @@ use borrow.Author.Tests.{lt-ltb, le-ltb}
 use lib.Dec.{ltb}
 use lib.ListN.{length, take, drop}
 use borrow.Rule.Slice.PartMut.{putMid}
-use Rattle.model.specs.Choice.{pick}
-use Rattle.model.specs.Digits.{digits, startsWith}
+use Rattle.prelude.specs.Choice.{pick}
+use Rattle.text.specs.Digits.{digits}
+use Rattle.text.specs.Text.{startsWith}
 use Rattle.model.specs.Image.{bankSize, isStart, isFormed}
 use Rattle.model.specs.MarkList.{fields, line, lineOf, fieldsMark, isLine, markShown, lineSize}
-use Rattle.model.proofs.Digits.{length-digits}
+use Rattle.text.proofs.Digits.{length-digits}
 use Rattle.marklist.proofs.Texts.{and-false}
 use Rattle.marklist.proofs.Pages.{Front, front-next}
 

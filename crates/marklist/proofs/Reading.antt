@@ -15,13 +15,13 @@ use Rattle.model.specs.declared.refusals.Refusal.{Refusal}
 use Rattle.model.specs.declared.refusals.TestResult.the-variants.{Passed, Failed}
 use Rattle.model.specs.declared.lists.ListRead.the-variants.{NotRead, Read}
 use Rattle.model.specs.Refusals.{firstRefusal}
-use Rattle.model.specs.Digits.{startsWith}
+use Rattle.text.specs.Text.{startsWith}
 use Rattle.model.specs.Image.{bankSize, inBankOf, markAt, resetFits}
 use Rattle.model.specs.MarkList.{lengthLimit, headerText, headerShown, isHeader, markShown, lineSize, marksShown}
 use Rattle.model.specs.MarkList.{linesLeft}
 use Rattle.model.specs.MarkList.{linesText, leftOf, marksOf, isList, readTests, readAs, readList, marksBy, marksRead}
-use Rattle.model.proofs.Digits.{starts-long}
-use Rattle.model.proofs.Verdict.{both-true}
+use Rattle.text.proofs.Text.{starts-long}
+use Rattle.prelude.proofs.Choice.{both-true}
 
 -- ---- 14
 

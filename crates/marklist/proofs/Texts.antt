@@ -12,8 +12,10 @@ use lib.Dec.{eqb}
 use lib.ListN.{length, getD, take, drop, set, length-set}
 use lib.Seq.{drop-cons, take-suc, take-length, drop-length, drop-set-lt, getD-set-same, getD-drop, set-at}
 use lib.Seq.{length-take-le, append-snoc}
-use Rattle.model.specs.Digits.{digit, digits, digitValue, value, startsWith}
-use Rattle.model.proofs.Digits.{digit-high, length-digits, last-digit, starts-long, starts-join}
+use Rattle.text.specs.Digits.{digit, digits, digitValue, value}
+use Rattle.text.specs.Text.{startsWith}
+use Rattle.text.proofs.Digits.{digit-high, length-digits, last-digit}
+use Rattle.text.proofs.Text.{starts-long, starts-join}
 
 and-true : (b : Bool) → (b && true) ≡ b
 and-true true = refl

@@ -4,7 +4,7 @@ ghost use mathlib.Core.Path.{_≡_};
 ghost use mathlib.Core.List.{_++_};
 ghost use Prim.Native.Nat.{_+_, _*_, _^_, _≤_, _<_};
 ghost use lib.ListN.{length, drop};
-ghost use Rattle.model.specs.Digits as spec;
+ghost use Rattle.text.specs.Digits as spec;
 
 // 0 to 9, then the capitals from A on.
 pub(crate) fn digit(n: u8) -> u8

@@ -11,7 +11,7 @@ ghost use mathlib.Core.Path.{_≡_};
 ghost use mathlib.Core.List.{[], _∷_, _++_};
 ghost use Prim.Native.Nat.{_+_, _≤_, _<_};
 ghost use lib.ListN.{length, drop};
-ghost use Rattle.model.specs.Digits.{digits};
+ghost use Rattle.text.specs.Digits.{digits};
 ghost use Rattle.model.specs.MarkList as spec;
 
 const BASE_DIGITS: usize = 6;

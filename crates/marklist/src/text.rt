@@ -3,7 +3,7 @@ ghost use mathlib.Core.Path.{_≡_};
 ghost use mathlib.Core.List.{_∷_, _++_};
 ghost use Prim.Native.Nat.{_≤_, _<_};
 ghost use lib.ListN.{length, drop};
-ghost use Rattle.model.specs.Digits.{startsWith};
+ghost use Rattle.text.specs.Text.{startsWith};
 
 // A text begins with these bytes.
 pub(crate) fn starts_with(text: &[u8], bytes: &[u8]) -> bool

@@ -25,8 +25,8 @@ use Rattle.model.specs.Operations.{isIn}
 use Rattle.model.specs.Addressing.{residenceOf}
 use Rattle.model.specs.CodePages.{Form, none, plain, behind42, behind89, pages}
 use Rattle.model.specs.CodeMap.{prefixBytes, entryOf, entryAt, moreBytes, lengthAt}
-use Rattle.model.proofs.Choice.{one-or-none}
-use Rattle.model.proofs.Table.{every, everywhere, and-left, and-right}
+use Rattle.prelude.proofs.Choice.{one-or-none}
+use Rattle.prelude.proofs.Table.{every, everywhere, and-left, and-right}
 
 -- the bytes of an entry at the widths m and x: more than its prefix bytes, and at most six
 abbrev within : ℕ → Entry → ℕ → ℕ → Bool

@@ -12,14 +12,17 @@ use borrow.Author.Tests.{leb-true}
 use lib.Dec.{ltb, leb}
 use lib.ListN.{length, getD, take, drop, length-take, length-drop}
 use lib.Seq.{getD-drop, take-all}
+use Rattle.prelude.proofs.Bytes.{bytes-take, bytes-drop}
+use Rattle.fields.proofs.Fields.{number-bound}
 use Rattle.model.specs.declared.code.Entry.{Entry}
 use Rattle.model.specs.declared.code.Instruction.{Instruction}
 use Rattle.model.specs.declared.code.Decoded.{Decoded}
 use Rattle.model.specs.declared.code.Decoded.the-variants.{Whole, NotCarried, CutOff}
-use Rattle.model.specs.Choice.{pick}
+use Rattle.prelude.specs.Choice.{pick}
 use Rattle.model.specs.CodeMap.{prefixBytes, entryAt, lengthAt}
-use Rattle.model.specs.Image.{AllBytes}
-use Rattle.model.specs.Decode.{number, pageOf, operandOf, judged, decodeOn, decode}
+use Rattle.prelude.specs.Bytes.{AllBytes}
+use Rattle.fields.specs.Fields.{number}
+use Rattle.model.specs.Decode.{pageOf, operandOf, judged, decodeOn, decode}
 use Rattle.model.proofs.CodeMap.{carried-length}
 
 passed-or-cut : (t : Bool) (d : Decoded) (i : Instruction) → pick t d CutOff ≡ Whole i → (t ≡ true) × (d ≡ Whole i)
@@ -98,22 +101,6 @@ unfolding decode
 decoded-entry bytes m x i h =
     let p = passed (pageOf (getD bytes 0 0)) bytes m x i h in
     (p .entry, rw (p .entry) (p .long))
-
-pub bytes-drop : (n : ℕ) (l : List ℕ) → AllBytes l → AllBytes (drop n l)
-bytes-drop n l small k = rw getD-drop (small (n + k))
-
-pub bytes-take : (n : ℕ) (l : List ℕ) → AllBytes l → AllBytes (take n l)
-bytes-take zero l small k = omega arith
-bytes-take (suc n) [] small k = omega arith
-bytes-take (suc n) (b ∷ bs) small zero = small 0
-bytes-take (suc n) (b ∷ bs) small (suc k) = bytes-take n bs (λ j. small (suc j)) k
-
--- bytes as a number are below the power of 256 that has as many digits
-pub number-bound : (bytes : List ℕ) → AllBytes bytes → number bytes < 256 ^ length bytes
-number-bound [] small = omega arith
-number-bound (b ∷ bs) small =
-    let rest = number-bound bs (λ k. small (suc k)) in
-    rw pow-suc (omega (arith, small 0))
 
 part-length : (n k : ℕ) (bytes : List ℕ) → n ≤ length bytes → length (take (n - k) (drop k bytes)) ≡ n - k
 part-length n k bytes h = simp (length-take, length-drop) (omega arith)

@@ -34,11 +34,11 @@ use Rattle.model.specs.declared.machine.Residence.the-variants.{Register
 use Rattle.model.specs.declared.machine.ByteRead.{ByteRead}
 use Rattle.model.specs.declared.machine.ByteRead.the-variants.{Byte, Unmapped as NoByte}
 use Rattle.model.specs.declared.machine.Store.{Store}
-use Rattle.model.specs.Choice.{pick}
-use Rattle.model.specs.Image.{AllBytes}
+use Rattle.prelude.specs.Choice.{pick}
+use Rattle.prelude.specs.Bytes.{AllBytes}
 use Rattle.model.specs.Memory.{Memory, inRam, inImage, byteAt, Act, ret, load, _>>=_, Outcome, done, unmapped}
 use Rattle.model.specs.Memory.{onByte, come, dataFrom}
-use Rattle.model.specs.AnyWidth.{low, merged}
+use Rattle.anywidth.specs.AnyWidth.{low, merged}
 use Rattle.model.specs.Addressing.{bits, direct, addressOf, residenceOf, accumulatorOf, dataAt, pulledAt}
 use Rattle.model.specs.Addressing.{operandBy, dataOf}
 use Rattle.model.specs.Arithmetic.{withA, withB, withS, withDpr, withDt, withStatus}

@@ -39,14 +39,14 @@ use Rattle.model.specs.declared.refusals.TestResult.{TestResult}
 use Rattle.model.specs.declared.refusals.TestResult.the-variants.{Passed, Failed}
 use Rattle.model.specs.declared.runs.End.{End}
 use Rattle.model.specs.declared.runs.End.the-variants.{Done, AtStop}
-use Rattle.model.specs.Choice.{pick}
+use Rattle.prelude.specs.Choice.{pick}
 use Rattle.model.specs.CodeMap.{prefixBytes, entryAt}
 use Rattle.model.specs.Image.{bankSize, addressLimit, isStart, markM, markX, markKind, returnM, returnX, markOf}
 use Rattle.model.specs.Image.{markAt}
 use Rattle.model.specs.Decode.{pageOf, decode}
 use Rattle.model.specs.Rules.{nextAddress, mAfter, xAfter, kindNumber, want, markOfRoutine, markOnReturn}
 use Rattle.model.specs.Rules.{markAfter, owedBy, owedAt, returnsBy, returnFits, Met, AllMet, StartRules, Accepts}
-use Rattle.model.specs.Status.{bit}
+use Rattle.prelude.specs.Choice.{bit}
 use Rattle.model.specs.Memory.{Memory, memory, inRam, inImage, Outcome, done, unmapped, come, servedAt}
 use Rattle.model.specs.Memory.{andThen, served}
 use Rattle.model.specs.Addressing.{dataOf}
@@ -64,7 +64,8 @@ use Rattle.model.specs.Guarantee.{OwnKind, OwnKinds}
 use Rattle.model.proofs.CodeMap.{call-keeps, return-keeps}
 use Rattle.model.proofs.Decode.{decodes, decoded-entry}
 use Rattle.model.proofs.Widths.{m-after-bit, x-after-bit, kind-bits}
-use Rattle.model.proofs.Verdict.{both-true, accepted-rules}
+use Rattle.prelude.proofs.Choice.{both-true}
+use Rattle.model.proofs.Verdict.{accepted-rules}
 use Rattle.model.proofs.Image.{right-length, base-whole}
 use Rattle.model.proofs.Step.{bytes-inside, is-inside}
 use Rattle.model.proofs.Run.{onward, by-first-step, state-passes, all-asked, admitted-ran, refused-ran}

@@ -9,10 +9,10 @@ use borrow.Author.Tests.{ltb-true, leb-true, eqb-true}
 use lib.Dec.{eqb, ltb, leb}
 use lib.ListN.{length, getD, drop}
 use lib.Seq.{drop-cons}
-use Rattle.model.specs.Choice.{pick}
+use Rattle.prelude.specs.Choice.{pick}
 use Rattle.model.specs.Image.{imageLimit, bankSize, addressLimit, isStart, lengthFits, baseFits, startCount}
-use Rattle.model.proofs.Choice.{one-or-none}
-use Rattle.model.proofs.Verdict.{both-true}
+use Rattle.prelude.proofs.Choice.{one-or-none}
+use Rattle.prelude.proofs.Choice.{both-true}
 
 pub record RightLength (image marks : ℕ) : Type 0 where
   pub some : 0 < image

@@ -30,9 +30,9 @@ use Rattle.model.specs.declared.machine.CallChange.{CallChange}
 use Rattle.model.specs.declared.machine.CallChange.the-variants.{Keep, Open, Close}
 use Rattle.model.specs.declared.refusals.TestResult.{TestResult}
 use Rattle.model.specs.declared.refusals.TestResult.the-variants.{Passed, Failed}
-use Rattle.model.specs.Choice.{pick}
-use Rattle.model.specs.Image.{AllBytes}
-use Rattle.model.specs.Decode.{number}
+use Rattle.prelude.specs.Choice.{pick}
+use Rattle.prelude.specs.Bytes.{AllBytes}
+use Rattle.fields.specs.Fields.{number}
 use Rattle.model.specs.Rules.{kindNumber}
 use Rattle.model.specs.Memory.{Memory, Act, Outcome, done, unmapped, come, served, stored}
 use Rattle.model.specs.Addressing.{pulledAt, dataOf}
@@ -43,10 +43,12 @@ use Rattle.model.specs.Step.{next, target, short, access, works, operate
 use Rattle.model.specs.Step.{pullsReturn, isReturn, returnsTo, planBy, lastOpened, plan, depthAfter, callsAfter}
 use Rattle.model.specs.Step.{stateAfter, onServed, finish, onDecoded, step}
 use Rattle.model.specs.Run.{event, withRam, history, stateLeft, ramLeft, admission, ran}
-use Rattle.model.specs.StateBytes.{headSize, entrySize, parted, coreOf, stateOf, InWidth, Keeps}
-use Rattle.model.proofs.Decode.{bytes-drop, bytes-take, number-bound}
+use Rattle.model.specs.StateBytes.{headSize, entrySize, coreOf, stateOf, InWidth, Keeps}
+use Rattle.fields.specs.Fields.{parted}
+use Rattle.prelude.proofs.Bytes.{bytes-drop, bytes-take}
+use Rattle.fields.proofs.Fields.{number-bound}
 use Rattle.model.proofs.Widths.{kind-bits}
-use Rattle.model.proofs.StateBytes.{length-parted}
+use Rattle.fields.proofs.Fields.{length-parted}
 use Rattle.model.proofs.Run.{onward, by-first-step, state-passes, ram-passes, admitted-ran, refused-ran}
 use Rattle.model.proofs.Effects.{Comes, comes, SmallData, data-small, SmallStores, in-status, in-s, effect-fine}
 

@@ -17,7 +17,7 @@ use Rattle.model.specs.MarkList.{listText, headerShown, linesText}
 use Rattle.model.specs.MarkList.{marksOf, readTests, readAs, readList, writeTests, writeList}
 use Rattle.model.proofs.TestResults.{AllHold, shown, all-passed}
 use Rattle.model.proofs.Image.{right-length, base-below}
-use Rattle.model.proofs.Verdict.{both-true}
+use Rattle.prelude.proofs.Choice.{both-true}
 use Rattle.model.proofs.MarkList.{length-shown, lines-most, length-header, decimal-most}
 
 -- ---- what a text that is read has passed

@@ -15,17 +15,18 @@ use lib.Seq.{drop-at}
 use Rattle.model.specs.declared.lists.Header.{Header}
 use Rattle.model.specs.declared.refusals.Refusal.the-variants as refusal
 use Rattle.model.specs.declared.lists.ListRead.the-variants.{NotRead, Read}
-use Rattle.model.specs.Choice.{pick}
+use Rattle.prelude.specs.Choice.{pick}
 use Rattle.model.specs.Refusals.{firstRefusal, answered}
-use Rattle.model.specs.Digits.{startsWith}
+use Rattle.text.specs.Text.{startsWith}
 use Rattle.model.specs.Image.{bankSize, isStart, isFormed, lengthFits, baseFits, resetFits}
 use Rattle.model.specs.MarkList.{lengthLimit, headerText, line, headerShown, isHeader, fieldsMark, isLine}
 use Rattle.model.specs.MarkList.{markShown, lineSize, linesLeft, linesText, marksOf, leftOf, isList, readAs}
 use Rattle.model.specs.MarkList.{readList}
 use Rattle.model.specs.ListForm.{StartLines, IsMarkList}
 use Rattle.model.specs.ListForm.StartLines.{none, start}
-use Rattle.model.proofs.Digits.{digits-low, starts-split, starts-append}
-use Rattle.model.proofs.Verdict.{both-true}
+use Rattle.text.proofs.Digits.{digits-low}
+use Rattle.text.proofs.Text.{starts-split, starts-append}
+use Rattle.prelude.proofs.Choice.{both-true}
 use Rattle.model.proofs.MarkList.{length-line, shown-start, line-at, own-line, other-line, no-line}
 use Rattle.model.proofs.MarkList.{header-again}
 use Rattle.model.proofs.RoundTrips.{nothing}

@@ -14,18 +14,20 @@ use lib.Dec.{T, eqb, ltb, eqb→eq}
 use lib.ListN.{length, getD, drop, length-append, List·getD-append}
 use lib.Seq.{drop-drop, drop-append-add, drop-at, getD-at}
 use Rattle.model.specs.declared.lists.Header.{Header}
-use Rattle.model.specs.Choice.{pick}
-use Rattle.model.specs.Digits.{digit, digits, value, startsWith}
+use Rattle.prelude.specs.Choice.{pick}
+use Rattle.text.specs.Digits.{digit, digits, value}
+use Rattle.text.specs.Text.{startsWith}
 use Rattle.model.specs.Image.{bankSize, isStart, markKind, returnM, returnX, isFormed}
-use Rattle.model.specs.Verdict.{firstFrom}
+use Rattle.prelude.specs.First.{firstFrom}
 use Rattle.model.specs.MarkList.{tab, lineEnd, lengthDigits, lengthLimit, decimalDigits, headerText, kindLetter}
 use Rattle.model.specs.MarkList.{fields, line, lineOf, lines, tabAt, lengthDigitsShown, headerShown, bitShown}
 use Rattle.model.specs.MarkList.{kindShown, fieldsMark, isLine, markShown, lineSize, marksShown, linesLeft}
-use Rattle.model.proofs.Table.{upTo, below-all}
-use Rattle.model.proofs.Verdict.{both-true}
-use Rattle.model.proofs.First.{first-is, first-only}
-use Rattle.model.proofs.Digits.{digit-high, length-digits, value-digits, starts-split, starts-append}
-use Rattle.model.proofs.Digits.{starts-long, starts-join}
+use Rattle.prelude.proofs.Table.{upTo, below-all}
+use Rattle.prelude.proofs.Choice.{both-true}
+use Rattle.prelude.proofs.First.{first-is, first-only}
+use Rattle.text.proofs.Digits.{digit-high, length-digits, value-digits}
+use Rattle.text.proofs.Text.{starts-split, starts-append}
+use Rattle.text.proofs.Text.{starts-long, starts-join}
 
 -- ---- a line
 

@@ -21,20 +21,22 @@ use Rattle.model.specs.declared.rules.Want.{Want}
 use Rattle.model.specs.declared.rules.Owed.{Owed}
 use Rattle.model.specs.declared.rules.Owed.the-variants.{Nothing, One, Two}
 use Rattle.model.specs.declared.rules.Verdict.the-variants.{Accepted, Refused}
-use Rattle.model.specs.Choice.{pick}
+use Rattle.prelude.specs.Choice.{pick}
 use Rattle.model.specs.Image.{bankSize, isStart, isFormed, lengthFits, markAt}
 use Rattle.model.specs.Refusals.{Tests, firstRefusal, answered}
 use Rattle.model.specs.Rules.{owedThere, instructionAt}
 use Rattle.model.specs.Meaning.{Among, StartBreaks, Breaks}
-use Rattle.model.specs.Verdict.{firstFrom, startAt, isClear, wantsStart, allStarts, wantsMark, allMarks}
+use Rattle.prelude.specs.First.{firstFrom}
+use Rattle.model.specs.Verdict.{startAt, isClear, wantsStart, allStarts, wantsMark, allMarks}
 use Rattle.model.specs.Verdict.{wholeTests}
 use Rattle.model.specs.Verdict.{decodedResult, startResult, brokenAt, badStart, startsVerdict, unformedAt}
 use Rattle.model.specs.Verdict.{badMark}
 use Rattle.model.specs.Verdict.{marksTests, offsetOf, verdict}
-use Rattle.model.proofs.First.{first-is}
+use Rattle.prelude.proofs.First.{first-is}
 use Rattle.model.proofs.Image.{right-length}
 use Rattle.model.proofs.TestResults.{AllHold, FirstFails, shown, failed-passed, not-failed}
-use Rattle.model.proofs.Verdict.{both-true, clear-all, formed-all, start-inside, start-rules}
+use Rattle.prelude.proofs.Choice.{both-true}
+use Rattle.model.proofs.Verdict.{clear-all, formed-all, start-inside, start-rules}
 
 below-end : (j n : ℕ) → j ≤ n → (j ≡ n → ⊥) → j < n
 below-end j n h ne = ⊎-elim (λ (e : j ≡ n). absurd (ne e)) (λ (below : j < n). below) (eq-or-lt-of-le h)

@@ -14,7 +14,7 @@ use Rattle.model.specs.declared.machine.ByteRead.the-variants.{Byte, Unm
 use Rattle.model.specs.declared.machine.Stop.the-variants.{Unmapped, ImageStore}
 use Rattle.model.specs.declared.machine.Served.{Served}
 use Rattle.model.specs.declared.machine.Served.the-variants.{All, Refused}
-use Rattle.model.specs.Choice.{pick}
+use Rattle.prelude.specs.Choice.{pick}
 use Rattle.model.specs.Memory.{Memory, memory, byteAt, servedAt, Act, ret, load, _>>=_, Outcome, done, unmapped}
 use Rattle.model.specs.Memory.{onByte, come, andThen}
 

@@ -16,19 +16,21 @@ use Rattle.model.specs.declared.lists.ListRead.the-variants.{Read}
 use Rattle.model.specs.declared.lists.ListWritten.the-variants.{Written}
 use Rattle.model.specs.declared.refusals.TestResult.the-variants.{Passed}
 use Rattle.model.specs.Refusals.{firstRefusal}
-use Rattle.model.specs.Digits.{startsWith}
+use Rattle.text.specs.Text.{startsWith}
 use Rattle.model.specs.Image.{bankSize, addressLimit, baseFits}
-use Rattle.model.specs.Verdict.{firstFrom, badMark, unformedAt, allFormed}
+use Rattle.prelude.specs.First.{firstFrom}
+use Rattle.model.specs.Verdict.{badMark, unformedAt, allFormed}
 use Rattle.model.specs.MarkList.{lengthLimit, headerText, lines, listText, headerShown, isHeader, linesLeft}
 use Rattle.model.specs.MarkList.{linesText, leftOf}
 use Rattle.model.specs.MarkList.{marksShown, marksOf, isList, readTests, readAs, readList, marksBy, marksRead}
 use Rattle.model.specs.MarkList.{writeTests, writeList, pageBy, pageWritten}
-use Rattle.model.proofs.First.{passed-all}
+use Rattle.prelude.proofs.First.{passed-all}
 use Rattle.model.proofs.Image.{right-length, base-below}
-use Rattle.model.proofs.Verdict.{both-true, formed-all}
+use Rattle.prelude.proofs.Choice.{both-true}
+use Rattle.model.proofs.Verdict.{formed-all}
 use Rattle.model.proofs.ListAnswers.{read-passes, length-marks-of, written-passes, reset-below}
 use Rattle.model.proofs.TestResults.{AllHold, none-fails}
-use Rattle.model.proofs.Digits.{starts-split, starts-append}
+use Rattle.text.proofs.Text.{starts-split, starts-append}
 use Rattle.model.proofs.MarkList.{all-formed, shown-lines, lines-again, header-again}
 
 -- a text that is a list is the text of the first line and the marks that it shows

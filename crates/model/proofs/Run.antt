@@ -28,10 +28,10 @@ use Rattle.model.specs.declared.runs.End.{End}
 use Rattle.model.specs.declared.runs.End.the-variants.{Done, AtStop}
 use Rattle.model.specs.declared.runs.RunAnswer.{RunAnswer}
 use Rattle.model.specs.declared.runs.RunAnswer.the-variants.{NotRun, Ended}
-use Rattle.model.specs.Choice.{pick}
+use Rattle.prelude.specs.Choice.{pick}
 use Rattle.model.specs.Image.{imageLimit, addressLimit}
 use Rattle.model.specs.Refusals.{firstRefusal}
-use Rattle.model.specs.Status.{bit}
+use Rattle.prelude.specs.Choice.{bit}
 use Rattle.model.specs.Memory.{Memory, memory, served}
 use Rattle.model.specs.Step.{Change, Plan, stops, changes, answerOf, onServed, finish, plan, fetched, onDecoded}
 use Rattle.model.specs.Step.{step}

@@ -19,8 +19,8 @@ use Rattle.model.specs.Run.{history, completedSteps, callsAmong, endOf, 
 use Rattle.model.specs.Run.{runHistory, played, ran}
 use Rattle.model.specs.StateBytes.{stateSize, stateOf, bytesOf}
 use Rattle.model.specs.RunBytes.{bytesFit, asBytes, ranBytesBy, ranBytes}
-use Rattle.model.specs.Image.{AllBytes}
-use Rattle.model.proofs.Verdict.{both-true}
+use Rattle.prelude.specs.Bytes.{AllBytes}
+use Rattle.prelude.proofs.Choice.{both-true}
 use Rattle.model.proofs.Run.{admitted-ran, refused-ran, admitted, none-completed}
 use Rattle.model.proofs.StateBytes.{state-bytes, bytes-state, bytes-length}
 use Rattle.model.proofs.Keeps.{InBytes, run-keeps, given-keeps}

@@ -10,20 +10,10 @@ use native.Mathlib.Omega.{arith}
 use borrow.Author.Tests.{eq-eqb, ne-eqb}
 use lib.Dec.{eqb}
 use lib.ListN.{length}
+use Rattle.prelude.proofs.Choice.{remainder-bit}
 use Rattle.model.specs.declared.machine.Status.{Status}
-use Rattle.model.specs.Status.{bit, statusOf, numberOf, levelUnit}
-
-pub bit-not : (f : Bool) → bit f + bit (not f) ≡ 1
-bit-not true = refl
-bit-not false = refl
-
-pub remainder-bit : (k : ℕ) → bit (eqb (k % 2) 1) ≡ k % 2
-remainder-bit k = small (k % 2) (mod-lt k (omega arith))
-  where
-    small : (r : ℕ) → r < 2 → bit (eqb r 1) ≡ r
-    small zero h = refl
-    small (suc zero) h = refl
-    small (suc (suc r)) h = absurd (omega arith)
+use Rattle.prelude.specs.Choice.{bit}
+use Rattle.model.specs.Status.{statusOf, numberOf, levelUnit}
 
 halved : (n mask : ℕ) → n / mask ≡ n / mask % 2 + 2 * (n / (mask * 2))
 halved n mask = omega (arith, div-add-mod (n / mask) 2, div-div-eq-div-mul n mask 2)

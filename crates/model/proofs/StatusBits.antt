@@ -16,13 +16,14 @@ use Rattle.model.specs.declared.code.Decoded.the-variants.{Whole}
 use Rattle.model.specs.declared.machine.Status.{Status}
 use Rattle.model.specs.declared.machine.State.{State}
 use Rattle.model.specs.declared.machine.Residence.the-variants.{Instruction as Instr}
-use Rattle.model.specs.Choice.{pick}
+use Rattle.prelude.specs.Choice.{pick}
 use Rattle.model.specs.Operations.{isIn}
 use Rattle.model.specs.CodeMap.{prefixBytes, entryAt, flowOf, effectOf as changesOf, widthOf}
 use Rattle.model.specs.Decode.{pageOf}
 use Rattle.model.specs.Rules.{setBit, clearBit, mAfter, xAfter}
-use Rattle.model.specs.Status.{maskX, maskM, isSet, bit, statusOf, numberOf}
-use Rattle.model.specs.AnyWidth.{size, low, clearedBy}
+use Rattle.model.specs.Status.{maskX, maskM, isSet, statusOf, numberOf}
+use Rattle.prelude.specs.Choice.{bit}
+use Rattle.anywidth.specs.AnyWidth.{size, low, clearedBy}
 use Rattle.model.specs.Memory.{Memory}
 use Rattle.model.specs.Addressing.{residenceOf, dataOf, operandBy}
 use Rattle.model.specs.Arithmetic.{withWidths, withFlagsSet, withFlagsCleared}
@@ -31,7 +32,8 @@ use Rattle.model.specs.Step.{bytesFrom, fetched, placeOf, operates, plan
 use Rattle.model.specs.StatusBits.{byteBehind, SepSets, ClpClears}
 use Rattle.model.proofs.CodeMap.{data-behind}
 use Rattle.model.proofs.Decode.{decoded-entry}
-use Rattle.model.proofs.Status.{bit-not, status-number, stacked, without-lowest, lowest-bit, flagsOf}
+use Rattle.prelude.proofs.Choice.{bit-not}
+use Rattle.model.proofs.Status.{status-number, stacked, without-lowest, lowest-bit, flagsOf}
 use Rattle.model.proofs.Status.{number-stacked}
 
 -- ---- an operation on bits, bit by bit

@@ -31,7 +31,7 @@ use Rattle.model.specs.declared.machine.Served.the-variants.{All, Refuse
 use Rattle.model.specs.declared.machine.CallChange.{CallChange}
 use Rattle.model.specs.declared.machine.CallChange.the-variants.{Keep, Open, Close}
 use Rattle.model.specs.declared.machine.Data.{Data}
-use Rattle.model.specs.Choice.{pick}
+use Rattle.prelude.specs.Choice.{pick}
 use Rattle.model.specs.Image.{addressLimit}
 use Rattle.model.specs.Rules.{nextAddress, kindNumber}
 use Rattle.model.specs.Memory.{Memory, memory, inImage, Outcome, done, unmapped, come, servedAt, served}
@@ -39,7 +39,7 @@ use Rattle.model.specs.Addressing.{accessOf, dataOf, pulledAt}
 use Rattle.model.specs.Arithmetic.{withS}
 use Rattle.model.specs.Effects.{store, storesOf, pushOf, pushedAt}
 use Rattle.model.specs.Decode.{decode}
-use Rattle.model.specs.Status.{bit}
+use Rattle.prelude.specs.Choice.{bit}
 use Rattle.model.specs.Step.{callLimit, stopNumber, placeOf, bytesFrom, fetched, stops, isDecimal, operates}
 use Rattle.model.specs.Step.{calls, pullsReturn, planBy, stopped, returnsTo, returnBytes, next, target, short}
 use Rattle.model.specs.Step.{access, works, pushesReturn, isReturn, Change, change, changes, Plan, plan, onRead}

@@ -11,6 +11,7 @@ use native.Mathlib.Omega.{arith}
 use borrow.Author.Tests.{eqb-true, eq-eqb, ltb-true, ltb-false, not-false}
 use lib.Dec.{eqb, ltb}
 use lib.ListN.{length, getD, List·getD-eq-default}
+use Rattle.prelude.proofs.Choice.{both-true}
 use Rattle.model.specs.declared.code.Instruction.{Instruction}
 use Rattle.model.specs.declared.code.Decoded.{Decoded}
 use Rattle.model.specs.declared.code.Decoded.the-variants.{Whole, NotCarried, CutOff}
@@ -20,21 +21,18 @@ use Rattle.model.specs.declared.rules.Want.{Want}
 use Rattle.model.specs.declared.rules.Owed.{Owed}
 use Rattle.model.specs.declared.rules.Owed.the-variants.{Nothing, One, Two}
 use Rattle.model.specs.declared.rules.Verdict.the-variants.{Accepted, Refused}
-use Rattle.model.specs.Choice.{pick}
+use Rattle.prelude.specs.Choice.{pick}
 use Rattle.model.specs.Image.{isFormed, markAt}
 use Rattle.model.specs.Refusals.{firstRefusal}
 use Rattle.model.specs.Rules.{owedThere, instructionAt, Met, AllMet, StartRules, Accepts}
-use Rattle.model.specs.Verdict.{firstFrom, startAt, isClear, wantsStart, allStarts, wantsMark, allMarks}
+use Rattle.prelude.specs.First.{firstFrom}
+use Rattle.model.specs.Verdict.{startAt, isClear, wantsStart, allStarts, wantsMark, allMarks}
 use Rattle.model.specs.Verdict.{wholeTests}
 use Rattle.model.specs.Verdict.{decodedResult, startResult, brokenAt, badStart, startsVerdict, unformedAt}
 use Rattle.model.specs.Verdict.{badMark}
 use Rattle.model.specs.Verdict.{allFormed, marksTests, verdict}
-use Rattle.model.proofs.First.{first-is, first-only, none-holds}
+use Rattle.prelude.proofs.First.{first-is, first-only, none-holds, found-none, none-found}
 use Rattle.model.proofs.TestResults.{shown, none-fails, all-passed, failed-passed, not-failed}
-
-pub both-true : (a b : Bool) → a && b ≡ true → (a ≡ true) × (b ≡ true)
-both-true true b h = (refl, h)
-both-true false b h = let z : _≡_ {A = ℕ} 0 1 = cc in absurd (omega arith)
 
 -- ---- 7: no start on the later bytes
 
@@ -141,23 +139,6 @@ module _ (image marks : List ℕ) (base at : ℕ) where
       by true e = let r = rules e in rw (r .whole) (rules-whole r)
 
 -- ---- the verdict
-
--- a search over all marks that ends at their number has found nothing, and the other way round
-pub none-found : (test : ℕ → Bool) (n : ℕ) → eqb (firstFrom test 0 n) n ≡ true → (k : ℕ) → k < n → test k ≡ false
-none-found test n h k inside =
-    let e = eqb-true (firstFrom test 0 n) n h in
-    first-is test 0 n .before k (omega arith) (omega arith)
-
-found-none : (test : ℕ → Bool) (n : ℕ) → ((k : ℕ) → k < n → test k ≡ false) → eqb (firstFrom test 0 n) n ≡ true
-found-none test n h =
-    eq-eqb (firstFrom test 0 n) n
-    (first-only test 0 n (firstFrom test 0 n) n (first-is test 0 n)
-    (record {
-      at-most = omega arith;
-      at-least = omega arith;
-      before = λ k low high. h k high;
-      found = λ inside. absurd (omega arith);
-    }))
 
 pub formed-all : (marks : List ℕ) → allFormed marks ≡ true → (at : ℕ) → at < length marks
     → isFormed (getD marks at 0) ≡ true

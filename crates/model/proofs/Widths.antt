@@ -11,8 +11,8 @@ use Rattle.model.specs.declared.code.Kind.the-variants.{ByRts, ByRtl}
 use Rattle.model.specs.Image.{markM, markX, markKind, returnM, returnX, markOf}
 use Rattle.model.specs.Status.{maskX, maskM}
 use Rattle.model.specs.Rules.{mAfter, xAfter, kindNumber}
-use Rattle.model.proofs.Choice.{one-of}
-use Rattle.model.proofs.Table.{below-all}
+use Rattle.prelude.proofs.Choice.{one-of}
+use Rattle.prelude.proofs.Table.{below-all}
 
 pub m-after-bit : (e : WidthEffect) (m operand : ℕ) → m ≤ 1 → mAfter e m operand ≤ 1
 unfolding mAfter

@@ -31,10 +31,10 @@ use Rattle.model.specs.declared.machine.Access.the-variants.{Operand, Ad
 use Rattle.model.specs.declared.machine.Residence.{Residence}
 use Rattle.model.specs.declared.machine.Residence.the-variants.{Memory, Instruction, Register}
 use Rattle.model.specs.declared.machine.Data.{Data}
-use Rattle.model.specs.Choice.{pick}
+use Rattle.prelude.specs.Choice.{pick}
 use Rattle.model.specs.Image.{bankSize, addressLimit}
 use Rattle.model.specs.Operations.{isIn}
-use Rattle.model.specs.AnyWidth.{low}
+use Rattle.anywidth.specs.AnyWidth.{low}
 use Rattle.model.specs.Memory.{Act, ret, _>>=_, wordFrom, longFrom, dataFrom, readWord, readLong}
 use Rattle.model.specs.Memory.{readData}
 

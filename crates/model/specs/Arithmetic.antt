@@ -10,8 +10,8 @@ use Rattle.model.specs.declared.code.Accumulator.the-variants.{Unnamed, 
 use Rattle.model.specs.declared.machine.Status.{Status}
 use Rattle.model.specs.declared.machine.Registers.{Registers}
 use Rattle.model.specs.Status.{maskC, maskZ, maskI, maskD, maskV, maskN, isSet}
-use Rattle.model.specs.AnyWidth.{low, merged, isNegative, sum, difference, isPast, sumOverflows}
-use Rattle.model.specs.AnyWidth.{differenceOverflows, rotated}
+use Rattle.anywidth.specs.AnyWidth.{low, merged, isNegative, sum, difference, isPast, sumOverflows}
+use Rattle.anywidth.specs.AnyWidth.{differenceOverflows, rotated}
 use Rattle.model.specs.Addressing.{accumulatorOf}
 
 -- ---- the status with some flags changed

@@ -37,7 +37,7 @@ use Rattle.model.specs.declared.code.LengthRule.the-variants.{Fixed, Mor
 use Rattle.model.specs.declared.code.DataWidth.{DataWidth}
 use Rattle.model.specs.declared.code.DataWidth.the-variants.{NoData, ByM, ByX, Byte, Word}
 use Rattle.model.specs.declared.code.Entry.{Entry}
-use Rattle.model.specs.Choice.{pick}
+use Rattle.prelude.specs.Choice.{pick}
 use Rattle.model.specs.Operations.{isIn, neverCarried, branches, jumps, halts, byIndex, ofByte, ofWord}
 use Rattle.model.specs.Operations.{withoutData}
 use Rattle.model.specs.CodePages.{Form, none, pages}

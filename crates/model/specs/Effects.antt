@@ -39,10 +39,10 @@ use Rattle.model.specs.declared.machine.Residence.{Residence}
 use Rattle.model.specs.declared.machine.Residence.the-variants.{Memory, Instruction, Register}
 use Rattle.model.specs.declared.machine.Data.{Data}
 use Rattle.model.specs.declared.machine.Store.{Store}
-use Rattle.model.specs.Choice.{pick}
+use Rattle.prelude.specs.Choice.{pick}
 use Rattle.model.specs.Image.{bankSize}
 use Rattle.model.specs.Status.{numberOf}
-use Rattle.model.specs.AnyWidth.{low, isNegative, decremented, clearedBy, shiftedLeft, shiftedRight, isOdd}
+use Rattle.anywidth.specs.AnyWidth.{low, isNegative, decremented, clearedBy, shiftedLeft, shiftedRight, isOdd}
 use Rattle.model.specs.Addressing.{bits, residenceOf, accumulatorOf, pulledAt}
 use Rattle.model.specs.Arithmetic.{withCarry, withDisable, withOverflow, withFlagsSet, withFlagsCleared}
 use Rattle.model.specs.Arithmetic.{withS, withDpr, withDt, withStatus, flagged, loadsA, loadsB, loadsX, loadsY}

@@ -27,7 +27,7 @@ use Rattle.model.specs.CodeMap.{lengthAt}
 use Rattle.model.specs.Image.{isStart, markM, markX, markAt}
 use Rattle.model.specs.Rules.{nextAddress, kindNumber}
 use Rattle.model.specs.Verdict.{verdict}
-use Rattle.model.specs.Status.{bit}
+use Rattle.prelude.specs.Choice.{bit}
 use Rattle.model.specs.Memory.{Memory, memory, inImage}
 use Rattle.model.specs.Step.{kindOf, stopNumber, placeOf, fetched, lastOpened}
 use Rattle.model.specs.Run.{Event, history, completedSteps, callsAmong, endOf, stateLeft, ramLeft}

@@ -5,7 +5,7 @@ use mathlib.Core.Bool.{Bool, not, _&&_, _||_}
 use mathlib.Core.List.{List, [], _∷_}
 use lib.Dec.{eqb, ltb, leb}
 use lib.ListN.{getD}
-use Rattle.model.specs.Choice.{pick}
+use Rattle.prelude.specs.Choice.{pick}
 
 -- 'The image is 1 to 16,384 bytes'
 abbrev pub imageLimit : ℕ
@@ -14,10 +14,6 @@ imageLimit = 16_384
 -- 'within one bank (64 KiB)'
 abbrev pub bankSize : ℕ
 bankSize = 65_536
-
--- every element is a byte, as in a lent buffer; past the end `getD` gives 0, which is one too
-abbrev pub AllBytes : List ℕ → Type 0
-AllBytes l = (k : ℕ) → getD l k 0 < 256
 
 -- addresses have 24 bits
 abbrev pub addressLimit : ℕ

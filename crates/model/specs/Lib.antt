@@ -1,5 +1,4 @@
 -- Everything that a reader has to believe, a file for each topic of document 01.
-pub mod Choice
 pub mod Refusals
 pub mod Operations
 pub mod Words
@@ -10,11 +9,9 @@ pub mod Image
 pub mod Rules
 pub mod Meaning
 pub mod Verdict
-pub mod Digits
 pub mod MarkList
 pub mod ListForm
 pub mod Status
-pub mod AnyWidth
 pub mod Memory
 pub mod Addressing
 pub mod Arithmetic

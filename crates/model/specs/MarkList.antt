@@ -12,12 +12,14 @@ use Rattle.model.specs.declared.lists.ListRead.{ListRead}
 use Rattle.model.specs.declared.lists.ListRead.the-variants.{NotRead, Read}
 use Rattle.model.specs.declared.lists.ListWritten.{ListWritten}
 use Rattle.model.specs.declared.lists.ListWritten.the-variants.{NotWritten, Written}
-use Rattle.model.specs.Choice.{pick}
-use Rattle.model.specs.Digits.{digit, digits, value, startsWith}
+use Rattle.prelude.specs.Choice.{pick}
+use Rattle.text.specs.Digits.{digit, digits, value}
+use Rattle.text.specs.Text.{startsWith}
 use Rattle.model.specs.Image.{bankSize, isStart, markM, markX, markKind, returnM, returnX, markOf, isFormed}
 use Rattle.model.specs.Image.{resetFits}
 use Rattle.model.specs.Refusals.{Tests, firstRefusal, answered}
-use Rattle.model.specs.Verdict.{firstFrom, imageTests, marksTests}
+use Rattle.prelude.specs.First.{firstFrom}
+use Rattle.model.specs.Verdict.{imageTests, marksTests}
 
 -- 'fields parted by tabs (09), each line closed by 0A'
 abbrev pub tab : ℕ

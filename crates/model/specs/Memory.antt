@@ -13,7 +13,7 @@ use Rattle.model.specs.declared.machine.Store.{Store}
 use Rattle.model.specs.declared.machine.Stop.the-variants.{Unmapped, ImageStore}
 use Rattle.model.specs.declared.machine.Served.{Served}
 use Rattle.model.specs.declared.machine.Served.the-variants.{All, Refused}
-use Rattle.model.specs.Choice.{pick}
+use Rattle.prelude.specs.Choice.{pick}
 use Rattle.model.specs.Image.{bankSize}
 
 pub record Memory : Type 0 where

@@ -17,12 +17,13 @@ use Rattle.model.specs.declared.runs.End.{End}
 use Rattle.model.specs.declared.runs.End.the-variants.{Done, AtStop}
 use Rattle.model.specs.declared.runs.RunAnswer.{RunAnswer}
 use Rattle.model.specs.declared.runs.RunAnswer.the-variants.{NotRun, Ended}
-use Rattle.model.specs.Choice.{pick}
+use Rattle.prelude.specs.Choice.{pick}
 use Rattle.model.specs.Refusals.{Tests, firstRefusal}
 use Rattle.model.specs.Image.{addressLimit}
 use Rattle.model.specs.Rules.{kindNumber}
-use Rattle.model.specs.Verdict.{firstFrom, imageTests}
-use Rattle.model.specs.Status.{bit}
+use Rattle.prelude.specs.First.{firstFrom}
+use Rattle.model.specs.Verdict.{imageTests}
+use Rattle.prelude.specs.Choice.{bit}
 use Rattle.model.specs.Memory.{Memory, memory}
 use Rattle.model.specs.Step.{callLimit, returnOf, kindOf, stopNumber, Stepped, step}
 

@@ -9,7 +9,7 @@ use lib.ListN.{length, getD, take, drop}
 use Rattle.model.specs.declared.machine.Registers.{Registers}
 use Rattle.model.specs.declared.machine.Core.{Core}
 use Rattle.model.specs.declared.machine.State.{State}
-use Rattle.model.specs.Decode.{number}
+use Rattle.fields.specs.Fields.{number, fieldAt, joined, parted}
 use Rattle.model.specs.Status.{statusOf, numberOf}
 use Rattle.model.specs.Step.{callLimit}
 
@@ -22,25 +22,6 @@ entrySize = 8
 
 abbrev pub stateSize : ℕ
 stateSize = headSize + entrySize * callLimit
-
--- 'low first': so many bytes of a number
-unfoldable pub lowBytes : ℕ → ℕ → List ℕ
-lowBytes zero value = []
-lowBytes (suc size) value = value % 256 ∷ lowBytes size (value / 256)
-
--- fields of one size, one behind the other
-unfoldable pub joined : ℕ → List ℕ → List ℕ
-joined size [] = []
-joined size (value ∷ values) = lowBytes size value ++ joined size values
-
--- so many fields of one size that bytes begin with
-unfoldable pub parted : ℕ → ℕ → List ℕ → List ℕ
-parted size zero bytes = []
-parted size (suc n) bytes = number (take size bytes) ∷ parted size n (drop size bytes)
-
--- the field of a size at a place
-abbrev pub fieldAt : ℕ → ℕ → List ℕ → ℕ
-fieldAt at size bytes = number (take size (drop at bytes))
 
 -- all but the entries, each field at its place
 unfoldable pub coreOf : List ℕ → Core

@@ -5,7 +5,7 @@ use Prim.Native.Nat.{ℕ, _+_, _*_, _/_, _%_}
 use mathlib.Core.Bool.{Bool}
 use lib.Dec.{eqb}
 use Rattle.model.specs.declared.machine.Status.{Status}
-use Rattle.model.specs.Choice.{pick}
+use Rattle.prelude.specs.Choice.{pick, bit}
 
 -- manual 2.9: the place of each flag, as its bit's value
 abbrev pub maskC : ℕ
@@ -39,9 +39,6 @@ levelUnit = 256
 
 abbrev pub isSet : ℕ → ℕ → Bool
 isSet mask n = eqb (n / mask % 2) 1
-
-abbrev pub bit : Bool → ℕ
-bit flag = pick flag 1 0
 
 -- the status of a number
 abbrev pub statusOf : ℕ → Status

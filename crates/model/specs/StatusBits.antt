@@ -11,7 +11,7 @@ use Rattle.model.specs.declared.code.Decoded.the-variants.{Whole}
 use Rattle.model.specs.declared.machine.Answer.the-variants.{Completed}
 use Rattle.model.specs.declared.machine.State.{State}
 use Rattle.model.specs.Status.{numberOf}
-use Rattle.model.specs.AnyWidth.{size, low, clearedBy}
+use Rattle.anywidth.specs.AnyWidth.{size, low, clearedBy}
 use Rattle.model.specs.Memory.{Memory}
 use Rattle.model.specs.Step.{fetched, step}
 

@@ -29,11 +29,11 @@ use Rattle.model.specs.declared.machine.CallChange.{CallChange}
 use Rattle.model.specs.declared.machine.CallChange.the-variants.{Keep, Open, Close}
 use Rattle.model.specs.declared.machine.Answer.{Answer}
 use Rattle.model.specs.declared.machine.Answer.the-variants.{Completed, Called, Stopped}
-use Rattle.model.specs.Choice.{pick}
+use Rattle.prelude.specs.Choice.{pick}
 use Rattle.model.specs.Image.{bankSize, inBankOf}
 use Rattle.model.specs.Decode.{decode}
 use Rattle.model.specs.Rules.{nextAddress, targetAddress, mAfter, xAfter, kindNumber}
-use Rattle.model.specs.Status.{bit}
+use Rattle.prelude.specs.Choice.{bit}
 use Rattle.model.specs.Memory.{Memory, Act, ret, _>>=_, Outcome, done, unmapped, come, inImage}
 use Rattle.model.specs.Memory.{served, stored}
 use Rattle.model.specs.Addressing.{accessOf, isShort, dataOf, pulledAt, pulledWord, pulledLong}

@@ -7,6 +7,7 @@ use mathlib.Core.Bool.{Bool, true, not, _&&_}
 use mathlib.Core.List.{List, [], _∷_, _++_}
 use lib.Dec.{eqb}
 use lib.ListN.{length, getD}
+use Rattle.prelude.specs.First.{firstFrom}
 use Rattle.model.specs.declared.code.Instruction.{Instruction}
 use Rattle.model.specs.declared.code.Decoded.{Decoded}
 use Rattle.model.specs.declared.code.Decoded.the-variants.{Whole, NotCarried, CutOff}
@@ -19,15 +20,10 @@ use Rattle.model.specs.declared.rules.Owed.{Owed}
 use Rattle.model.specs.declared.rules.Owed.the-variants.{Nothing, One, Two}
 use Rattle.model.specs.declared.rules.Verdict.{Verdict}
 use Rattle.model.specs.declared.rules.Verdict.the-variants.{Accepted, Refused}
-use Rattle.model.specs.Choice.{pick}
+use Rattle.prelude.specs.Choice.{pick}
 use Rattle.model.specs.Image.{isStart, isFormed, lengthFits, baseFits, markAt, resetFits}
 use Rattle.model.specs.Refusals.{refusalNumber, Tests, firstRefusal, isFailed, answered}
 use Rattle.model.specs.Rules.{owedThere, returnFits, instructionAt}
-
--- the lowest of n places from i on where a test holds, or the place past them
-unfoldable pub firstFrom : (ℕ → Bool) → ℕ → ℕ → ℕ
-firstFrom test i zero = i
-firstFrom test i (suc n) = pick (test i) i (firstFrom test (i + 1) n)
 
 -- 7: 'start inside an instruction'
 abbrev pub startAt : List ℕ → ℕ → Bool

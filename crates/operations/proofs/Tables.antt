@@ -13,7 +13,7 @@ use Rattle.model.specs.declared.code.Accumulator.{Accumulator}
 use Rattle.model.specs.declared.code.Mode.{Mode}
 use Rattle.model.specs.declared.machine.Data.{Data}
 use Rattle.model.specs.Addressing.{accessOf}
-use Rattle.model.specs.Choice.{pick}
+use Rattle.prelude.specs.Choice.{pick}
 use Rattle.model.specs.Effects.{Effect, effectOf}
 use Rattle.codepages.specs.Packing.{operations, modes, modePlace, accumulators, unpacked}
 use Rattle.cpu.specs.File.{registersOf}

@@ -11,7 +11,7 @@ use Rattle.model.specs.declared.code.Mode.{Mode}
 use Rattle.model.specs.declared.code.Operation.{Operation}
 use Rattle.model.specs.declared.machine.Data.{Data}
 use Rattle.model.specs.Addressing.{accessOf}
-use Rattle.model.specs.Choice.{pick}
+use Rattle.prelude.specs.Choice.{pick}
 use Rattle.model.specs.Effects.{effectOf}
 use Rattle.codepages.specs.Packing.{unpacked}
 use Rattle.cpu.specs.File.{registersOf}

@@ -11,7 +11,7 @@ use Rattle.model.specs.declared.machine.State.{State}
 use Rattle.model.specs.declared.refusals.TestResult.{TestResult}
 use Rattle.model.specs.declared.refusals.TestResult.the-variants.{Passed, Failed}
 use Rattle.model.specs.Refusals.{firstRefusal}
-use Rattle.model.specs.Status.{bit}
+use Rattle.prelude.specs.Choice.{bit}
 use Rattle.model.specs.Memory.{Memory}
 use Rattle.model.specs.Step.{step}
 use Rattle.model.specs.Run.{isCompleted, isCall, Event, withRam, history, completedSteps, callsAmong}

@@ -18,7 +18,7 @@ use Rattle.model.specs.Step.{callLimit}
 use Rattle.model.specs.Run.{levelLimit, callsFit, stateFits, runTests, Ran, played}
 use Rattle.model.specs.RunBytes.{bytesFit, asBytes, ranBytes}
 use Rattle.model.specs.StateBytes.{stateSize, stateOf}
-use Rattle.model.proofs.Verdict.{both-true}
+use Rattle.prelude.proofs.Choice.{both-true}
 use Rattle.machine.specs.Turns.{state}
 
 -- a state that a run takes

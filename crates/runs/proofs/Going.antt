@@ -15,7 +15,7 @@ use Rattle.model.specs.declared.runs.End.{End}
 use Rattle.model.specs.declared.runs.End.the-variants.{Done}
 use Rattle.model.specs.Image.{bankSize}
 use Rattle.model.specs.Memory.{Memory, memory}
-use Rattle.model.specs.Status.{bit}
+use Rattle.prelude.specs.Choice.{bit}
 use Rattle.model.specs.Step.{callLimit, step}
 use Rattle.model.specs.Run.{isCompleted, isCall, endAfter, Ran, played}
 use Rattle.model.proofs.Run.{further, ended, completed-stops, stopped-leaves}

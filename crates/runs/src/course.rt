@@ -18,7 +18,7 @@ ghost use Rattle.model.specs.Image.{addressLimit, bankSize, imageLimit};
 ghost use Rattle.model.specs.Memory.{memory};
 ghost use Rattle.model.specs.declared.runs.End.the-variants.{Done};
 ghost use Rattle.model.specs.Run.{stepLimit, isCompleted, isCall, endAfter, played};
-ghost use Rattle.model.specs.Status.{bit};
+ghost use Rattle.prelude.specs.Choice.{bit};
 ghost use Rattle.model.specs.Step.{callLimit, placeOf};
 ghost use Rattle.machine.specs.Turns.{state, coreOf};
 ghost use Rattle.operations.specs.Table.{Tasked};

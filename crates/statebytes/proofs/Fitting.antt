@@ -7,7 +7,7 @@ use Prim.Native.Nat.{ℕ, _≤_, _<_}
 use native.Mathlib.Omega.{arith}
 use borrow.Author.Tests.{eq-eqb, ne-eqb}
 use Rattle.model.specs.Run.{callBroken, callsFit}
-use Rattle.model.proofs.First.{Passed, passed-to, passed-all}
+use Rattle.prelude.proofs.First.{Passed, passed-to, passed-all}
 
 module _ (calls : List ℕ) (depth i : ℕ) (p : Passed (callBroken calls) 0 i) where
   pub one-broken : i < depth → callBroken calls i ≡ true → false ≡ callsFit calls depth

@@ -10,10 +10,11 @@ use native.Mathlib.Numerals.{add-one}
 use native.Mathlib.Omega.{arith}
 use lib.ListN.{length, getD, take, drop, set, length-set, drop-of-length-le}
 use lib.Seq.{drop-cons, drop-drop, getD-drop, length-sets, sets, take-all, take-nil, take-suc, take-suc-set}
-use Rattle.model.specs.Decode.{number}
+use Rattle.fields.specs.Fields.{number}
 use Rattle.model.specs.Step.{callLimit}
-use Rattle.model.specs.StateBytes.{headSize, entrySize, lowBytes, joined, parted, fieldAt}
-use Rattle.model.proofs.StateBytes.{length-low, length-parted}
+use Rattle.model.specs.StateBytes.{headSize, entrySize}
+use Rattle.fields.specs.Fields.{lowBytes, joined, parted, fieldAt}
+use Rattle.fields.proofs.Fields.{length-low, length-parted}
 
 -- ---- a field is read
 

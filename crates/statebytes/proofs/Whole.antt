@@ -11,8 +11,9 @@ use Rattle.model.specs.declared.machine.Core.{Core}
 use Rattle.model.specs.declared.machine.State.{State}
 use Rattle.model.specs.Status.{numberOf}
 use Rattle.model.specs.Step.{callLimit}
-use Rattle.model.specs.StateBytes.{headSize, entrySize, stateSize, lowBytes, joined, headOf, bytesOf}
-use Rattle.model.proofs.StateBytes.{length-joined}
+use Rattle.model.specs.StateBytes.{headSize, entrySize, stateSize, headOf, bytesOf}
+use Rattle.fields.specs.Fields.{lowBytes, joined}
+use Rattle.fields.proofs.Fields.{length-joined}
 use Rattle.statebytes.proofs.Turns.{sets-append}
 
 pub words-head : (c : Core) (status middle : ℕ) → status ≡ numberOf (c .registers .status)

@@ -4,7 +4,7 @@ ghost use mathlib.Core.Path.{_≡_};
 ghost use Prim.Native.Nat.{_+_, _*_, _^_, _≤_, _<_};
 ghost use lib.ListN.{length};
 ghost use lib.Seq.{sets};
-ghost use Rattle.model.specs.StateBytes.{lowBytes, joined, fieldAt};
+ghost use Rattle.fields.specs.Fields.{lowBytes, joined, fieldAt};
 
 fn wide(byte: u8) -> u64
     ensures { λ r. ⌜ r ≡ byte ⌝ }

@@ -14,7 +14,8 @@ ghost use Prim.Native.Nat.{_+_, _*_, _≤_, _<_};
 ghost use lib.ListN.{length};
 ghost use Rattle.model.specs.Run.{ramFits, callFits, callsFit, stateFits};
 ghost use Rattle.model.specs.Step.{callLimit};
-ghost use Rattle.model.specs.StateBytes.{stateSize, joined, fieldAt, stateOf, headOf, bytesOf};
+ghost use Rattle.model.specs.StateBytes.{stateSize, stateOf, headOf, bytesOf};
+ghost use Rattle.fields.specs.Fields.{joined, fieldAt};
 
 // The sizes and limits of model/specs/StateBytes.antt and Run.antt.
 const HEAD_SIZE: usize = 20;

@@ -6,9 +6,9 @@ use mathlib.Core.List.{List}
 use Prim.Native.Nat.{ℕ, _+_}
 use native.Mathlib.Omega.{arith}
 use lib.ListN.{getD}
-use Rattle.model.specs.AnyWidth.{low, decremented}
+use Rattle.anywidth.specs.AnyWidth.{low, decremented}
 use Rattle.model.specs.Addressing.{bits}
-use Rattle.model.specs.Choice.{pick}
+use Rattle.prelude.specs.Choice.{pick}
 use Rattle.cpu.specs.Rows.{status, loading}
 use Rattle.actions.specs.Works.{counted}
 use borrow.Author.Needs.{needs}

@@ -2,7 +2,7 @@
 -- Assumes nothing.
 use mathlib.Core.Path.{ap, ap₂, _∙_}
 use lib.ListN.{getD}
-use Rattle.model.specs.AnyWidth.{merged}
+use Rattle.anywidth.specs.AnyWidth.{merged}
 use Rattle.model.specs.Addressing.{bits}
 use Rattle.model.specs.Arithmetic.{withResult}
 use Rattle.cpu.specs.Rows.{status, pulling}

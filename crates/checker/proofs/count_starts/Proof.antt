@@ -3,7 +3,7 @@
 use Rattle.model.specs.Image.{isStart}
 use lib.ListN.{getD}
 use Rattle.model.proofs.Image.{Counted, none-counted, one-more-counted, all-counted}
-use Rattle.model.proofs.Choice.{one-or-none}
+use Rattle.prelude.proofs.Choice.{one-or-none}
 use borrow.Author.Needs.{needs}
 use native.Mathlib.Omega.{arith}
 use Prim.Native.Nat.{_-_}

@@ -8,7 +8,7 @@ use lib.ListN.{length}
 use Rattle.checker.proofs.Steps.{step-result, few-bytes, goes-on, passed-past}
 use Rattle.model.specs.Verdict as spec
 use Rattle.model.specs.Verdict.{badStart}
-use Rattle.model.proofs.First.{Passed, none-passed, passed-to}
+use Rattle.prelude.proofs.First.{Passed, none-passed, passed-to}
 use Rattle.model.proofs.Verdict.{stopped-at, passed-over}
 use Rattle.checker.proofs.starts_verdict.Statement.{statement}
 use Rattle.checker.proofs.starts_verdict.Tie as tie

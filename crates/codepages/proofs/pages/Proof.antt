@@ -1,7 +1,7 @@
 -- The constants of src/lib.rt add up to the numbers of the definition's 768 entries: antt compares them number by
 -- number.
 -- Assumes nothing.
-use Rattle.model.proofs.Table.{same-pages}
+use Rattle.prelude.proofs.Table.{same-pages}
 use Rattle.codepages.specs.Packing.{numbers}
 use Rattle.codepages.proofs.pages.Statement.{statement}
 use Rattle.codepages.proofs.pages.Tie as tie

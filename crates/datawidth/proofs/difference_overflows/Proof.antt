@@ -2,7 +2,7 @@
 -- Assumes nothing.
 use mathlib.Core.Path.{refl, ap, _∙_}
 use Rattle.model.specs.Addressing.{bits}
-use Rattle.model.specs.AnyWidth.{isOutside}
+use Rattle.anywidth.specs.AnyWidth.{isOutside}
 use borrow.Author.Needs.{needs}
 use Rattle.datawidth.proofs.difference_overflows.Statement.{statement}
 use Rattle.datawidth.proofs.difference_overflows.Tie as tie

@@ -1,7 +1,7 @@
 -- The operand is the low bytes of six, or, near the end of the image, the number of a part.
 -- Assumes nothing.
 use Rattle.decoder.proofs.Words.{operand-of-six, operand-of-part, operand-small}
-use Rattle.model.specs.Image.{AllBytes}
+use Rattle.prelude.specs.Bytes.{AllBytes}
 use native.Mathlib.Omega.{arith}
 use borrow.Author.Needs.{needs}
 use Rattle.decoder.proofs.operand_at.Statement.{statement}

@@ -2,7 +2,7 @@
 -- Assumes nothing.
 use mathlib.Core.Path.{refl}
 use borrow.Author.Needs.{needs}
-use Rattle.model.proofs.Match.{no-key}
+use Rattle.prelude.proofs.Match.{no-key}
 use Rattle.model.specs.declared.code.Accumulator.the-variants.{Unnamed}
 use Rattle.codepages.specs.Packing.{accumulators}
 use Rattle.entries.proofs.accumulator_at.Statement.{statement}

@@ -2,7 +2,7 @@
 -- Assumes nothing.
 use mathlib.Core.Path.{refl}
 use borrow.Author.Needs.{needs}
-use Rattle.model.proofs.Match.{no-key}
+use Rattle.prelude.proofs.Match.{no-key}
 use Rattle.model.specs.declared.code.WidthEffect.the-variants.{KeepWidths}
 use Rattle.codepages.specs.Packing.{effects}
 use Rattle.entries.proofs.effect_at.Statement.{statement}

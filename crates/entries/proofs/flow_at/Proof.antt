@@ -2,7 +2,7 @@
 -- Assumes nothing.
 use mathlib.Core.Path.{refl}
 use borrow.Author.Needs.{needs}
-use Rattle.model.proofs.Match.{no-key}
+use Rattle.prelude.proofs.Match.{no-key}
 use Rattle.model.specs.declared.code.Flow.the-variants.{Next}
 use Rattle.codepages.specs.Packing.{flows}
 use Rattle.entries.proofs.flow_at.Statement.{statement}

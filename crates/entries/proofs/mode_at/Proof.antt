@@ -2,7 +2,7 @@
 -- Assumes nothing.
 use mathlib.Core.Path.{refl}
 use borrow.Author.Needs.{needs}
-use Rattle.model.proofs.Match.{no-key}
+use Rattle.prelude.proofs.Match.{no-key}
 use Rattle.model.specs.declared.code.Mode.the-variants.{Implied}
 use Rattle.codepages.specs.Packing.{modes}
 use Rattle.entries.proofs.mode_at.Statement.{statement}

@@ -2,7 +2,7 @@
 -- Assumes nothing.
 use mathlib.Core.Path.{refl}
 use borrow.Author.Needs.{needs}
-use Rattle.model.proofs.Match.{no-key}
+use Rattle.prelude.proofs.Match.{no-key}
 use Rattle.model.specs.declared.code.LengthRule.the-variants.{Fixed}
 use Rattle.codepages.specs.Packing.{rules}
 use Rattle.entries.proofs.rule_at.Statement.{statement}

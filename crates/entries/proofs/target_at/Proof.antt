@@ -2,7 +2,7 @@
 -- Assumes nothing.
 use mathlib.Core.Path.{refl}
 use borrow.Author.Needs.{needs}
-use Rattle.model.proofs.Match.{no-key}
+use Rattle.prelude.proofs.Match.{no-key}
 use Rattle.model.specs.declared.code.Target.the-variants.{NoTarget}
 use Rattle.codepages.specs.Packing.{targets}
 use Rattle.entries.proofs.target_at.Statement.{statement}

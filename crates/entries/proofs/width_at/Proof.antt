@@ -2,7 +2,7 @@
 -- Assumes nothing.
 use mathlib.Core.Path.{refl}
 use borrow.Author.Needs.{needs}
-use Rattle.model.proofs.Match.{no-key}
+use Rattle.prelude.proofs.Match.{no-key}
 use Rattle.model.specs.declared.code.DataWidth.the-variants.{NoData}
 use Rattle.codepages.specs.Packing.{widths}
 use Rattle.entries.proofs.width_at.Statement.{statement}

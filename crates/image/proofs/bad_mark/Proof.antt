@@ -1,6 +1,6 @@
 -- The invariant: every mark passed has the form.
 -- Assumes nothing.
-use Rattle.model.proofs.First.{Passed, none-passed, one-more-passed, passed-to, passed-all}
+use Rattle.prelude.proofs.First.{Passed, none-passed, one-more-passed, passed-to, passed-all}
 use Rattle.model.specs.Verdict.{badMark}
 use Rattle.model.specs.Verdict as spec
 use borrow.Author.Needs.{needs}

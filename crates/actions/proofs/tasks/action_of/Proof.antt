@@ -3,7 +3,7 @@
 use Prim.Native.Nat.{ℕ, _%_}
 use mathlib.Core.Path.{_≡_, refl}
 use lib.ListN.{getD}
-use Rattle.model.proofs.Match.{NoKey, keys, no-key}
+use Rattle.prelude.proofs.Match.{NoKey, keys, no-key}
 use Rattle.actions.specs.declared.tasks.Action.{Action}
 use Rattle.actions.specs.Tasks.{actions, unpackedTask}
 use Rattle.actions.proofs.tasks.action_of.Statement.{statement}

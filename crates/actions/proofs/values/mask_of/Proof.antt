@@ -2,7 +2,7 @@
 -- Assumes nothing.
 use mathlib.Core.Path.{refl}
 use mathlib.Core.List.{[], _∷_}
-use Rattle.model.proofs.Match.{no-key}
+use Rattle.prelude.proofs.Match.{no-key}
 use borrow.Author.Needs.{needs}
 use Rattle.actions.proofs.values.mask_of.Statement.{statement}
 use Rattle.actions.proofs.values.mask_of.Tie as tie

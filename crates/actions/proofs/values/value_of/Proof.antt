@@ -3,7 +3,7 @@
 use mathlib.Core.Path.{refl, sym, _∙_}
 use mathlib.Core.List.{_∷_}
 use lib.ListN.{getD}
-use Rattle.model.proofs.Match.{no-key}
+use Rattle.prelude.proofs.Match.{no-key}
 use Rattle.model.proofs.Status.{status-number}
 use Rattle.actions.specs.Works.{others, wordOf}
 use borrow.Author.Needs.{needs}

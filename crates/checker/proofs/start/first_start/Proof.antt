@@ -1,6 +1,6 @@
 -- The invariant: every place passed is no start.
 -- Assumes nothing.
-use Rattle.model.proofs.First.{Passed, none-passed, one-more-passed, passed-to, passed-all}
+use Rattle.prelude.proofs.First.{Passed, none-passed, one-more-passed, passed-to, passed-all}
 use Rattle.model.specs.Verdict as verdict
 use borrow.Author.Needs.{needs}
 use native.Mathlib.Omega.{arith}

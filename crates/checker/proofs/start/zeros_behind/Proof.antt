@@ -1,7 +1,7 @@
 -- The low bytes of six marks are the number of the first of them.
 -- Assumes nothing.
 use Rattle.decoder.proofs.Words.{low-number}
-use Rattle.model.proofs.Decode.{bytes-drop}
+use Rattle.prelude.proofs.Bytes.{bytes-drop}
 use borrow.Author.Tests.{lt-leb, le-leb}
 use lib.ListN.{length, drop}
 use Prim.Native.Nat.{_+_}

@@ -1,7 +1,7 @@
 -- Each key chooses its one, and any other number the first.
 -- Assumes nothing.
 use mathlib.Core.Path.{refl, _∙_}
-use Rattle.model.proofs.Match.{no-key}
+use Rattle.prelude.proofs.Match.{no-key}
 use Rattle.model.specs.Addressing.{bits}
 use Rattle.model.specs.Status.{statusOf}
 use Rattle.cpu.specs.Rows.{added, combinations}

@@ -1,7 +1,7 @@
 -- What is worked out of the old data is loaded.
 -- Assumes nothing.
 use mathlib.Core.Path.{ap, _∙_}
-use Rattle.model.specs.AnyWidth.{low}
+use Rattle.anywidth.specs.AnyWidth.{low}
 use Rattle.model.specs.Addressing.{bits}
 use Rattle.cpu.specs.Rows.{status, combined, loadingWork}
 use borrow.Author.Needs.{needs}

@@ -4,9 +4,9 @@ use mathlib.Core.Path.{_≡_, refl, sym, ap, _∙_}
 use mathlib.Core.Bool.{false}
 use Prim.Native.Nat.{ℕ, _*_, _/_}
 use native.Mathlib.Nat.{add-zero}
-use Rattle.model.proofs.Match.{no-key}
+use Rattle.prelude.proofs.Match.{no-key}
 use Rattle.model.specs.declared.machine.Status.{Status}
-use Rattle.model.specs.AnyWidth.{shiftedLeft, shiftedRight}
+use Rattle.anywidth.specs.AnyWidth.{shiftedLeft, shiftedRight}
 use Rattle.model.specs.Addressing.{bits}
 use Rattle.model.specs.Status.{statusOf}
 use Rattle.cpu.specs.Rows.{worked, modifications}

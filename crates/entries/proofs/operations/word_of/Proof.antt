@@ -9,7 +9,7 @@ use native.Mathlib.Omega.{arith}
 use borrow.Author.Needs.{needs}
 use lib.Dec.{eqb, eqb→eq}
 use lib.ListN.{getD, take, drop, replicate}
-use Rattle.model.proofs.Table.{same, same-list, below-all}
+use Rattle.prelude.proofs.Table.{same, same-list, below-all}
 use Rattle.model.specs.declared.code.Operation.{Operation}
 use Rattle.model.specs.Words.{wordOf}
 use Rattle.codepages.specs.Packing.{operations, unpacked}

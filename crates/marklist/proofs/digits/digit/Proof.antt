@@ -1,6 +1,6 @@
 -- A digit below 10 is a figure, another a letter.
 -- Assumes nothing.
-use Rattle.model.specs.Digits as spec
+use Rattle.text.specs.Digits as spec
 use borrow.Author.Tests.{lt-ltb, le-ltb}
 use native.Mathlib.Omega.{arith}
 use borrow.Author.Needs.{needs}

@@ -1,6 +1,6 @@
 -- A byte below that of 0 has the value that a difference stops at.
 -- Assumes nothing.
-use Rattle.model.specs.Digits as spec
+use Rattle.text.specs.Digits as spec
 use borrow.Author.Tests.{lt-ltb, le-ltb}
 use native.Mathlib.Omega.{arith}
 use borrow.Author.Needs.{needs}

@@ -6,7 +6,7 @@ use Prim.Native.Nat.{_≤_}
 use native.Mathlib.Nat.{mod-lt}
 use native.Mathlib.Omega.{arith}
 use lib.ListN.{length, drop, length-set}
-use Rattle.model.specs.Digits as spec
+use Rattle.text.specs.Digits as spec
 use Rattle.marklist.proofs.Texts.{put-digit, none-left}
 use borrow.Author.Needs.{needs}
 use Rattle.marklist.proofs.digits.put_digits.Statement.{statement}

@@ -3,7 +3,7 @@
 use mathlib.Core.Path.{_≡_, refl, sym, _∙_}
 use native.Mathlib.Nat.{mod-lt}
 use native.Mathlib.Omega.{arith}
-use Rattle.model.specs.Digits as spec
+use Rattle.text.specs.Digits as spec
 use Rattle.marklist.proofs.Texts.{other-digit, same-digit, none-other}
 use borrow.Author.Needs.{needs}
 use Rattle.marklist.proofs.digits.shows_digits.Statement.{statement}

@@ -5,7 +5,7 @@ use native.Mathlib.Omega.{arith}
 use lib.ListN.{drop}
 use lib.Seq.{getD-drop}
 use Rattle.model.specs.MarkList as spec
-use Rattle.model.proofs.First.{Passed, none-passed, one-more-passed, passed-to, passed-all}
+use Rattle.prelude.proofs.First.{Passed, none-passed, one-more-passed, passed-to, passed-all}
 use borrow.Author.Tests.{eq-eqb, ne-eqb}
 use borrow.Author.Needs.{needs}
 use Rattle.marklist.proofs.header.length_digits_shown.Statement.{statement}

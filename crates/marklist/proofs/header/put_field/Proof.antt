@@ -2,8 +2,8 @@
 -- Assumes nothing.
 use mathlib.Core.List.{[], _∷_}
 use mathlib.Core.Path.{refl}
-use Rattle.model.specs.Digits.{digits}
-use Rattle.model.proofs.Digits.{length-digits}
+use Rattle.text.specs.Digits.{digits}
+use Rattle.text.proofs.Digits.{length-digits}
 use native.Mathlib.Omega.{arith}
 use Rattle.marklist.proofs.Pages.{Front, front-next}
 use borrow.Author.Needs.{needs}

@@ -7,11 +7,13 @@ use Prim.Native.Nat.{ℕ, _≤_}
 use native.Mathlib.Omega.{arith}
 use lib.ListN.{length, drop}
 use borrow.Author.Tests.{not-true, not-false}
-use Rattle.model.specs.Choice.{pick}
-use Rattle.model.specs.Digits.{digits, startsWith}
+use Rattle.prelude.specs.Choice.{pick}
+use Rattle.text.specs.Digits.{digits}
+use Rattle.text.specs.Text.{startsWith}
 use Rattle.model.specs.Image.{isFormed}
 use Rattle.model.specs.MarkList.{fields, markShown}
-use Rattle.model.proofs.Digits.{length-digits, starts-long}
+use Rattle.text.proofs.Digits.{length-digits}
+use Rattle.text.proofs.Text.{starts-long}
 use Rattle.marklist.proofs.Pages.{part-whole}
 use Rattle.marklist.proofs.LineLaws.{too-high, other-address, by-fields}
 use borrow.Author.Needs.{needs}

@@ -5,7 +5,7 @@ use Prim.Native.Nat.{_-_, _≤_}
 use native.Mathlib.Omega.{arith}
 use borrow.Author.Tests.{eq-eqb, ne-eqb}
 use lib.ListN.{length, drop, getD}
-use Rattle.model.specs.Digits.{startsWith}
+use Rattle.text.specs.Text.{startsWith}
 use Rattle.marklist.proofs.Texts.{starts-short, starts-next, starts-all}
 use borrow.Author.Needs.{needs}
 use Rattle.marklist.proofs.text.starts_with.Statement.{statement}

@@ -1,12 +1,10 @@
--- Numbers as digits in any radix, and texts that begin with given bytes: what the fields of 01's 'The mark list' are
--- made of.
+-- Numbers as digits in any radix, the highest digit first.
 -- Assumes nothing.
 use Prim.Native.Nat.{ℕ, zero, suc, _+_, _-_, _*_, _/_, _%_}
-use mathlib.Core.Bool.{Bool, true, false, _&&_}
 use mathlib.Core.List.{List, [], _∷_, _++_}
-use lib.Dec.{eqb, ltb}
+use lib.Dec.{ltb}
 use lib.ListN.{getD}
-use Rattle.model.specs.Choice.{pick}
+use Rattle.prelude.specs.Choice.{pick}
 
 -- a digit: 0 to 9, then the capitals from A on
 unfoldable pub digit : ℕ → ℕ
@@ -25,9 +23,3 @@ digitValue byte = pick (ltb byte 0x3A) (byte - 0x30) (byte - 0x37)
 unfoldable pub value : ℕ → ℕ → List ℕ → ℕ
 value radix zero text = 0
 value radix (suc count) text = value radix count text * radix + digitValue (getD text count 0)
-
--- a text begins with these bytes
-unfoldable pub startsWith : List ℕ → List ℕ → Bool
-startsWith [] text = true
-startsWith (b ∷ bytes) [] = false
-startsWith (b ∷ bytes) (c ∷ text) = eqb b c && startsWith bytes text

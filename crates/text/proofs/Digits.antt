@@ -1,21 +1,20 @@
 -- Digits and their value, both ways, for any radix and any count: one more digit at the end is one more step of the
--- value. Then the laws of a text that begins with given bytes.
+-- value.
 -- Assumes nothing.
-use mathlib.Core.Path.{_≡_, refl, ap, _∙_}
-use mathlib.Core.Bool.{Bool, true, false, _&&_}
+use mathlib.Core.Path.{_≡_, refl, _∙_}
+use mathlib.Core.Bool.{Bool, true, false}
 use mathlib.Core.List.{List, [], _∷_, _++_, append-assoc}
 use Prim.Native.Nat.{ℕ, zero, suc, _+_, _*_, _/_, _%_, _^_, _≤_, _<_}
 use native.Mathlib.Nat.{pow-zero, pow-suc, div-lt-iff-lt-mul, div-add-mod', mul-add-div-right, mul-add-mod-self-right}
 use native.Mathlib.Nat.{div-eq-of-lt, mod-eq-of-lt, mod-lt, one-le-pow}
 use native.Mathlib.Omega.{arith}
-use borrow.Author.Tests.{ltb-true, ltb-false, lt-ltb, le-ltb, eqb-true, eq-eqb}
+use borrow.Author.Tests.{ltb-true, ltb-false, lt-ltb, le-ltb}
 use lib.Arith.{mod-mul}
-use lib.Dec.{eqb, ltb}
-use lib.ListN.{length, getD, take, drop, length-append}
+use lib.Dec.{ltb}
+use lib.ListN.{length, getD, take, length-append}
 use lib.Seq.{getD-at, take-suc}
-use Rattle.model.specs.Choice.{pick}
-use Rattle.model.specs.Digits.{digit, digits, digitValue, value, startsWith}
-use Rattle.model.proofs.Verdict.{both-true}
+use Rattle.prelude.specs.Choice.{pick}
+use Rattle.text.specs.Digits.{digit, digits, digitValue, value}
 
 pub digit-value : (n : ℕ) → digitValue (digit n) ≡ n
 unfolding digit digitValue
@@ -99,36 +98,3 @@ digits-value radix (suc count) text long all =
       take-suc text count 0 long,
       digits-value radix count text (omega arith) (λ i h. all i (omega arith)),
     )
-
--- a text that begins with bytes is those bytes and a rest
-pub starts-split : (bytes text : List ℕ) → startsWith bytes text ≡ true → text ≡ bytes ++ drop (length bytes) text
-unfolding startsWith
-starts-split [] text h = refl
-starts-split (b ∷ bytes) [] h = let z : _≡_ {A = ℕ} 0 1 = cc in absurd (omega arith)
-starts-split (b ∷ bytes) (c ∷ text) h =
-    let both = both-true (eqb b c) (startsWith bytes text) h in
-    let same = eqb-true b c (both .0) in
-    let rest = starts-split bytes text (both .1) in
-    cc
-
-pub starts-long : (bytes text : List ℕ) → startsWith bytes text ≡ true → length bytes ≤ length text
-starts-long bytes text h = omega (arith, simp length-append at (ap length (starts-split bytes text h)))
-
-pub starts-append : (bytes rest : List ℕ) → startsWith bytes (bytes ++ rest) ≡ true
-unfolding startsWith
-starts-append [] rest = refl
-starts-append (b ∷ bytes) rest = rw (eq-eqb b b refl) (starts-append bytes rest)
-
-pub starts-join : (bytes more text : List ℕ)
-    → startsWith (bytes ++ more) text ≡ (startsWith bytes text && startsWith more (drop (length bytes) text))
-unfolding startsWith
-starts-join [] more text = refl
-starts-join (b ∷ bytes) more [] = refl
-starts-join (b ∷ bytes) more (c ∷ text) = by (eqb b c) (starts-join bytes more text)
-  where
-    by : (same : Bool)
-        → startsWith (bytes ++ more) text ≡ (startsWith bytes text && startsWith more (drop (length bytes) text))
-        → (same && startsWith (bytes ++ more) text)
-        ≡ ((same && startsWith bytes text) && startsWith more (drop (length bytes) text))
-    by true h = h
-    by false h = refl

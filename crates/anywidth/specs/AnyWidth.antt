@@ -8,8 +8,8 @@ use lib.Bits.{bitAnd}
 use lib.Dec.{eqb, ltb, leb}
 use lib.IntN.{ℤ, pos, negℤ, subℕ, _+ℤ_, _-ℤ_}
 use lib.Signed.{leZ, ltZ}
-use Rattle.model.specs.Choice.{pick}
-use Rattle.model.specs.Status.{bit}
+use Rattle.prelude.specs.Choice.{pick}
+use Rattle.prelude.specs.Choice.{bit}
 
 -- how many numbers n bits can be, and half of them: those from there on have the sign bit
 abbrev pub size : ℕ → ℕ

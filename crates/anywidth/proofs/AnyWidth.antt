@@ -14,14 +14,14 @@ use lib.IntN.{pos, negℤ, subℕ, _+ℤ_, _-ℤ_}
 use lib.Pow.{pow-pos, pow-add}
 use lib.Signed.{leZ, ltZ}
 use borrow.Author.Tests.{lt-ltb, le-ltb, le-leb, lt-leb, ltb-true, ltb-false, leb-true, leb-false}
-use Rattle.model.specs.Choice.{pick}
-use Rattle.model.specs.Status.{bit}
-use Rattle.model.specs.AnyWidth.{AnyWidth, size, half, low, isNegative, sum, difference, signed, isOutside}
-use Rattle.model.specs.AnyWidth.{sumOverflows, differenceOverflows, decremented, shiftedLeft, shiftedRight}
-use Rattle.model.specs.AnyWidth.{isOdd, rotated, valueOf, hasValue}
-use Rattle.model.proofs.Choice.{one-or-none}
-use Rattle.model.proofs.Status.{bit-not, remainder-bit}
-use Rattle.model.proofs.Differences.{leb-same, pos-sub, neg-sub, add-sub, negate-sub, le-sub}
+use Rattle.prelude.specs.Choice.{pick}
+use Rattle.prelude.specs.Choice.{bit}
+use Rattle.anywidth.specs.AnyWidth.{AnyWidth, size, half, low, isNegative, sum, difference, signed, isOutside}
+use Rattle.anywidth.specs.AnyWidth.{sumOverflows, differenceOverflows, decremented, shiftedLeft, shiftedRight}
+use Rattle.anywidth.specs.AnyWidth.{isOdd, rotated, valueOf, hasValue}
+use Rattle.prelude.proofs.Choice.{one-or-none}
+use Rattle.prelude.proofs.Choice.{bit-not, remainder-bit}
+use Rattle.anywidth.proofs.Differences.{leb-same, pos-sub, neg-sub, add-sub, negate-sub, le-sub}
 
 -- ---- over plain numbers
 -- a number below two turns is what one turn leaves, and whether it passes one

@@ -6,11 +6,11 @@ use mathlib.Core.Bool.{Bool, true, false}
 use Prim.Native.Nat.{ℕ, zero, suc, _+_, _≤_, _<_}
 use native.Mathlib.Nat.{eq-or-lt-of-le, le-antisymm, le-of-suc-le-suc}
 use native.Mathlib.Numerals.{add-one}
-use borrow.Author.Tests.{ltb-true, ltb-false}
-use lib.Dec.{T, ltb}
+use borrow.Author.Tests.{ltb-true, ltb-false, eqb-true, eq-eqb}
+use lib.Dec.{T, eqb, ltb}
 use native.Mathlib.Omega.{arith}
-use Rattle.model.specs.Choice.{pick}
-use Rattle.model.specs.Verdict.{firstFrom}
+use Rattle.prelude.specs.Choice.{pick}
+use Rattle.prelude.specs.First.{firstFrom}
 
 pub record First (test : ℕ → Bool) (i n j : ℕ) : Type 0 where
   pub at-most : j ≤ i + n
@@ -113,3 +113,20 @@ module _ (test : ℕ → Bool) (from : ℕ) where
       first-only test from n i (firstFrom test from n)
       (record { at-most = most; at-least = p .0; before = p .1; found = λ inside. absurd (omega arith) }) (first-is
       test from n)
+
+-- a search over n places that ends at n has found nothing, and the other way round
+pub none-found : (test : ℕ → Bool) (n : ℕ) → eqb (firstFrom test 0 n) n ≡ true → (k : ℕ) → k < n → test k ≡ false
+none-found test n h k inside =
+    let e = eqb-true (firstFrom test 0 n) n h in
+    first-is test 0 n .before k (omega arith) (omega arith)
+
+pub found-none : (test : ℕ → Bool) (n : ℕ) → ((k : ℕ) → k < n → test k ≡ false) → eqb (firstFrom test 0 n) n ≡ true
+found-none test n h =
+    eq-eqb (firstFrom test 0 n) n
+    (first-only test 0 n (firstFrom test 0 n) n (first-is test 0 n)
+    (record {
+      at-most = omega arith;
+      at-least = omega arith;
+      before = λ k low high. h k high;
+      found = λ inside. absurd (omega arith);
+    }))

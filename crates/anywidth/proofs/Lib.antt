@@ -1,0 +1,3 @@
+-- The facts of numbers of n bits, and integers as differences.
+pub mod Differences
+pub mod AnyWidth

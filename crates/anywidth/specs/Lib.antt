@@ -1,0 +1,2 @@
+-- Numbers of n bits, for any n.
+pub mod AnyWidth

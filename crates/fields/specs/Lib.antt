@@ -1,0 +1,2 @@
+-- Numbers stored low byte first.
+pub mod Fields

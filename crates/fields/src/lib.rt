@@ -1,0 +1,1 @@
+// Numbers stored low byte first.

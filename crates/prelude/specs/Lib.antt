@@ -1,0 +1,4 @@
+-- General definitions: they speak of no processor and of no paper.
+pub mod Choice
+pub mod First
+pub mod Bytes

@@ -1,0 +1,3 @@
+-- The laws of texts and digits.
+pub mod Text
+pub mod Digits

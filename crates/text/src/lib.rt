@@ -1,0 +1,1 @@
+// Bytes at the front of a text or a page, and numbers as digits.
