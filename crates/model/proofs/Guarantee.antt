@@ -1,6 +1,4 @@
--- Demand 3: 'For every list of runs over an accepted image: every step of its history begins at a marked start, with m
--- and x as marked, its whole instruction within the image and its code carried; a run that is not refused ends only
--- because its steps are done or by a stop 22 to 27. One claim about the whole list.'
+-- Demand 3, as specs/Guarantee.antt has it.
 --
 -- The machine stands at a marked start with its widths, and its open calls form a chain: the mark's kind is that of the
 -- call opened last, its return widths are those marked at that call's address, and so on down from the mark there. What

@@ -67,7 +67,7 @@ formed-marks h text =
     (omega
     arith)))
 
--- 01: 'a list that was read is written as the same text', into any page that is long enough
+-- demand 2: 'a mark list read, and written again to a page long enough, is the same list'
 pub read-then-written : (text marks page : List ℕ) (h : Header) → readList text marks ≡ Read h
     → length text ≤ length page
     → (writeList (marksRead text marks) (h .base) (h .reset) page ≡ Written (length text))

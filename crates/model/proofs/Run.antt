@@ -249,7 +249,7 @@ admitted m fits asked e =
 pub completed-stops : true ≡ false → ⊥
 completed-stops e = let z : _≡_ {A = ℕ} 0 1 = cc in absurd (omega arith)
 
--- ---- 'a stopped step leaves state and RAM'
+-- ---- what a stopped step leaves
 
 module _ (m : Memory) (s : State) where
   changes-complete : (change : CallChange) → isCompleted (answerOf change) ≡ true

@@ -189,7 +189,7 @@ module _ (image marks : List ℕ) (base reset : ℕ) where
         rules-start image marks base (badStart image marks base) (λ s. a .at-starts _ (start-inside marks _ s) s),
       )
 
-  -- demand 2: 'The check accepts exactly when all rules of 01 hold'
+  -- demand 2: 'The check accepts an image with its marks exactly when all rules of document 01 are met'
   pub accepts-exactly : (verdict image marks base reset ≡ Accepted) ↔ Accepts image marks base reset
   accepts-exactly = (accepted-rules, rules-accepted)
 

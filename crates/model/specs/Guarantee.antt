@@ -1,11 +1,13 @@
--- Demand 3, as one claim about a whole list of runs. Each notion is the check's or the machine's own definition.
+-- Demand 3 (00), as one claim about a whole list of runs. Each notion is the check's or the machine's own definition.
 --
--- 'For every list of runs over an accepted image': `Guarantee`, by the check's `verdict`, for any numbers of steps.
--- 'every step of its history': of `joinedHistory`, completed or stopped, is `Safe`.
--- 'begins at a marked start, with m and x as marked': `Marked`.
+-- 'For every list of runs of the machine, each asked for any number of steps and refused ones included, over one image
+-- and base that the check accepted with its marks': `Guarantee`, by the check's `verdict`.
+-- 'every step in the list's history, completed or stopped': of `joinedHistory`, is `Safe`.
+-- 'begins at a marked start, with m and x as marked there': `Marked`.
 -- 'its whole instruction within the image and its code carried': `WholeInside`.
--- 'a run that is not refused ends only because its steps are done or by a stop 22 to 27': `EndsWell`.
--- 'One claim about the whole list': `Guaranteed`.
+-- 'A refused run makes no step': `Idle`. 'every other ends only because the steps asked for are done or by one of
+-- stops 22 to 27': `EndsWell`.
+-- 'a single claim about the whole list' (01): `Guaranteed`.
 -- Assumes nothing.
 use mathlib.Core.Path.{_≡_}
 use Prim.Native.Nat.{ℕ, _≤_, _<_}
@@ -64,7 +66,7 @@ pub record Safe (image marks : List ℕ) (base : ℕ) (e : Event) : Type 0 where
 
 -- ---- a run
 
--- 'ends only because its steps are done or by a stop 22 to 27'
+-- 'ends only because the steps asked for are done or by one of stops 22 to 27'
 pub data EndsWell (h : List Event) (asked : ℕ) : Type 0 where
   done : endOf h ≡ Done → completedSteps h ≡ asked → EndsWell h asked
   stopped : (stop : Stop) → endOf h ≡ AtStop stop → 22 ≤ stopNumber stop → stopNumber stop ≤ 27 → EndsWell h asked
@@ -94,17 +96,17 @@ pub data Accounted (m : Memory) (s : State) (asked : ℕ) : Type 0 where
 
 -- ---- the claim
 
--- 'One claim about the whole list.'
+-- 'a single claim about the whole list and not one for each run'
 pub record Guaranteed (image marks : List ℕ) (base : ℕ) (runs : List Run) : Type 0 where
   pub every-step : Every (Safe image marks base) (joinedHistory image base runs)
   pub every-run : Every (λ r. Accounted (memory (r .ram) image base) (r .state) (r .asked)) runs
 
--- The first run is given a marked start, its widths and no open call.
+-- 'The first run is given a marked start, its widths and no open call'
 pub record Begins (marks : List ℕ) (m : Memory) (s : State) : Type 0 where
   pub marked : Marked marks m s
   pub no-call : s .core .depth ≡ 0
 
--- The demand. RAM and every other register are whatever they are.
+-- The demand, 'whatever RAM and every other register hold at first'.
 abbrev pub Guarantee : Type 0
 Guarantee =
     (image marks : List ℕ) (base reset : ℕ) → verdict image marks base reset ≡ Accepted

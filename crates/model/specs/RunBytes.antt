@@ -1,4 +1,4 @@
--- A run of a state that is given as bytes: INTERFACE, `m7700_run` and `m7700_step`.
+-- A run of a state that is given as bytes: `m7700_run` and `m7700_step` of include/m7700.h.
 -- Assumes nothing.
 use Prim.Native.Nat.{ℕ}
 use mathlib.Core.Bool.{Bool, _&&_}
@@ -14,7 +14,7 @@ use Rattle.model.specs.Memory.{Memory}
 use Rattle.model.specs.Run.{stateFits, runTests, Ran, played}
 use Rattle.model.specs.StateBytes.{stateSize, stateOf, bytesOf}
 
--- number 12: 'A buffer of another length is refused with 12'
+-- number 12 for bytes: so many of them, and the state that they are fits
 abbrev pub bytesFit : List ℕ → Bool
 bytesFit bytes = eqb (length bytes) stateSize && stateFits (stateOf bytes)
 
@@ -28,7 +28,7 @@ pub record RanBytes : Type 0 where
 abbrev pub asBytes : Ran → RanBytes
 asBytes r = record { answer = r .answer; state = bytesOf (r .state); ram = r .ram }
 
--- 'On a refusal .. every buffer is as given.'
+-- 'A refusal leaves every buffer and the state as given'
 abbrev pub ranBytesBy : TestResult → Memory → List ℕ → ℕ → RanBytes
 ranBytesBy Passed m bytes asked = asBytes (played m (stateOf bytes) asked)
 ranBytesBy (Failed why) m bytes asked = record { answer = NotRun why; state = bytes; ram = m .ram }

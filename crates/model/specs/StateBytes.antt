@@ -1,6 +1,6 @@
--- The state as bytes: INTERFACE, 'The state: A, B, X, Y, S, PC, DPR, PS (two bytes each, low first), PG, DT (a byte
+-- The state as bytes, as include/m7700.h has them: A, B, X, Y, S, PC, DPR, PS (two bytes each, low first), PG, DT (a byte
 -- each), the number of open calls (two bytes, low first), then the entries, the first opened first: return address
--- (four bytes, low first), kind (one byte), three bytes reserved'. An entry is one number (Step, `entryOf`).
+-- (four bytes, low first), kind (one byte), three bytes reserved. An entry is one number (Step, `entryOf`).
 -- Assumes nothing.
 use Prim.Native.Nat.{ℕ, zero, suc, _+_, _*_, _/_, _%_, _^_, _<_}
 use mathlib.Core.Path.{_≡_}

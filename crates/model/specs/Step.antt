@@ -44,7 +44,7 @@ use Rattle.model.specs.Effects.{Effect, effectOf, store, pushedAt}
 abbrev pub callLimit : ℕ
 callLimit = 64
 
--- 'each with its 24-bit return address and kind': an open call is one number, the eight bytes of its entry (INTERFACE):
+-- 'each with its 24-bit return address and kind': an open call is one number, the eight bytes of its entry (StateBytes):
 -- four of the address, one of the kind, three that are 0 once a call is opened there
 abbrev pub entryUnit : ℕ
 entryUnit = 4_294_967_296
@@ -205,7 +205,7 @@ pub record Stepped : Type 0 where
 abbrev pub stepped : Answer → State → List ℕ → Stepped
 stepped answer s ram = record { answer = answer; state = s; ram = ram }
 
--- 'a stopped step leaves RAM and state as given'
+-- 'A stop undoes its whole step.'
 abbrev pub stopped : Stop → Memory → State → Stepped
 stopped stop m s = stepped (Stopped stop) s (m .ram)
 
