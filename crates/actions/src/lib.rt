@@ -1,6 +1,6 @@
 // What each action does with its data; operations (manual 4.2) that differ in a register or a value alone share one.
 pub mod tasks;
-pub mod values;
+mod values;
 
 use crate::tasks::Action;
 use crate::tasks::action_of;

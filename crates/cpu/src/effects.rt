@@ -80,14 +80,14 @@ fn push_of(short: bool, v: u64, registers: &[u16; FILE_SIZE]) -> Stores
 }
 
 // How many bytes data has.
-pub fn bytes(short: bool) -> u16
+pub(crate) fn bytes(short: bool) -> u16
     ensures { λ r. ⌜ r ≡ spec.bytes short ⌝ }
 {
     if short { 1 } else { 2 }
 }
 
 // Two registers and the status.
-pub fn puts_both(first: usize, value: u16, second: usize, other: u16, status: u16) -> Effect
+pub(crate) fn puts_both(first: usize, value: u16, second: usize, other: u16, status: u16) -> Effect
     ensures { λ r. ⌜ r ≡ kept first value second other status None false ⌝ }
 {
     Effect {

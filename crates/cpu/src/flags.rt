@@ -27,14 +27,14 @@ pub fn bit_at(mask: u16, status: u16) -> u8
 }
 
 // The status with C put.
-pub fn with_carry(flag: bool, status: u16) -> u16
+pub(crate) fn with_carry(flag: bool, status: u16) -> u16
     ensures { λ r. ⌜ statusOf r ≡ spec.withCarry flag (statusOf status) ⌝ }
 {
     status - status / Status::C % 2 * Status::C + Status::C * bit_of(flag) as u16
 }
 
 // The status with V put.
-pub fn with_overflow(flag: bool, status: u16) -> u16
+pub(crate) fn with_overflow(flag: bool, status: u16) -> u16
     ensures { λ r. ⌜ statusOf r ≡ spec.withOverflow flag (statusOf status) ⌝ }
 {
     status - status / Status::V % 2 * Status::V + Status::V * bit_of(flag) as u16
