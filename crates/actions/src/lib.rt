@@ -1,6 +1,7 @@
 // What each action does with its data; operations (manual 4.2) that differ in a register or a value alone share one.
+// What `viewed` leaves open of an effect is named in cpu/src/effects.rt.
 pub mod tasks;
-pub mod values;
+mod values;
 
 use crate::tasks::Action;
 use crate::tasks::action_of;
@@ -173,7 +174,8 @@ fn by_action(
     }
 }
 
-// What a task does with its data. The place of execution, the widths and the open calls are not its business.
+// What a task does with its data. The place of execution, the widths and the open calls are not its business. Asks for
+// an address of 24 bits and an operand of five bytes, as instructions have them, so that their sum (PER) passes no u64.
 pub fn effect_by(
     task: u32,
     mode: Mode,

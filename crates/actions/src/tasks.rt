@@ -83,7 +83,7 @@ pub const DESTINATION: u32 = 1_024;
 pub const ACCESS: u32 = 8_192;
 
 // The action that a task names; any other number leaves all as it is.
-pub fn action_of(task: u32) -> Action
+pub(crate) fn action_of(task: u32) -> Action
     ensures { λ r. ⌜ r ≡ unpackedTask task .action ⌝ }
 {
     match task % CHOICE {
@@ -112,14 +112,14 @@ pub fn action_of(task: u32) -> Action
 }
 
 // The choice of a task, five bits.
-pub fn choice_of(task: u32) -> usize
+pub(crate) fn choice_of(task: u32) -> usize
     ensures { λ r. ⌜ (r ≡ unpackedTask task .choice) × (r < 32) ⌝ }
 {
     (task / CHOICE % 32) as usize
 }
 
 // The register that a task puts, three bits.
-pub fn destination_of(task: u32) -> usize
+pub(crate) fn destination_of(task: u32) -> usize
     ensures { λ r. ⌜ (r ≡ unpackedTask task .destination) × (r < 8) ⌝ }
 {
     (task / DESTINATION % 8) as usize

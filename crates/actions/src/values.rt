@@ -23,7 +23,7 @@ ghost use Rattle.actions.specs.Works as spec;
 const REGISTERS: usize = 16;
 
 // The data, or a register.
-pub fn word_of(choice: usize, v: u16, registers: &[u16; FILE_SIZE]) -> u16
+pub(crate) fn word_of(choice: usize, v: u16, registers: &[u16; FILE_SIZE]) -> u16
     ensures { λ r. ⌜ r ≡ spec.wordOf v (now (registers .entry)) choice ⌝ }
 {
     if choice < REGISTERS {
@@ -33,7 +33,7 @@ pub fn word_of(choice: usize, v: u16, registers: &[u16; FILE_SIZE]) -> u16
 }
 
 // What is stored or pushed: another value by the choices 1 to 6, else the data or a register.
-pub fn value_of(
+pub(crate) fn value_of(
     choice: usize,
     mode: Mode,
     short: bool,
@@ -57,7 +57,7 @@ pub fn value_of(
 }
 
 // The flags that are changed: those that the data names, C, I or V.
-pub fn mask_of(choice: usize, v: u16) -> u16
+pub(crate) fn mask_of(choice: usize, v: u16) -> u16
     ensures { λ r. ⌜ r ≡ spec.maskOf v choice ⌝ }
 {
     match choice {
@@ -69,7 +69,7 @@ pub fn mask_of(choice: usize, v: u16) -> u16
 }
 
 // A register's number with 1 added or taken away: 65,535 more is 1 less at 16 bits, and at 8.
-pub fn counted(down: bool, v: u16) -> u64
+pub(crate) fn counted(down: bool, v: u16) -> u64
     ensures { λ r. ⌜ r ≡ v + pick down 65_535 1 ⌝ }
 {
     if down {
@@ -79,7 +79,7 @@ pub fn counted(down: bool, v: u16) -> u64
 }
 
 // The status with the flags of a mask as they are wanted.
-pub fn with_flags(wanted: bool, mask: u16, status: u16) -> u16
+pub(crate) fn with_flags(wanted: bool, mask: u16, status: u16) -> u16
     ensures { λ r. ⌜ statusOf r ≡ spec.withFlags wanted mask (statusOf status) ⌝ }
 {
     if wanted {
@@ -89,7 +89,7 @@ pub fn with_flags(wanted: bool, mask: u16, status: u16) -> u16
 }
 
 // Data with the bits of a mask as they are wanted.
-pub fn with_bits(wanted: bool, short: bool, mask: u16, v: u16) -> u16
+pub(crate) fn with_bits(wanted: bool, short: bool, mask: u16, v: u16) -> u16
     ensures { λ r. ⌜ r ≡ spec.withBits wanted (bits short) mask v ⌝ }
 {
     if wanted {
@@ -99,7 +99,7 @@ pub fn with_bits(wanted: bool, short: bool, mask: u16, v: u16) -> u16
 }
 
 // The bits of a mask that are not as they are wanted.
-pub fn other_bits(wanted: bool, short: bool, mask: u16, v: u16) -> u16
+pub(crate) fn other_bits(wanted: bool, short: bool, mask: u16, v: u16) -> u16
     ensures { λ r. ⌜ r ≡ spec.otherBits wanted (bits short) mask v ⌝ }
 {
     if wanted {
@@ -109,7 +109,7 @@ pub fn other_bits(wanted: bool, short: bool, mask: u16, v: u16) -> u16
 }
 
 // Whether a flag is as it is wanted.
-pub fn is_wanted(wanted: bool, flag: bool) -> bool
+pub(crate) fn is_wanted(wanted: bool, flag: bool) -> bool
     ensures { λ r. ⌜ r ≡ spec.isWanted wanted flag ⌝ }
 {
     if wanted {

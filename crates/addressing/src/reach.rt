@@ -160,7 +160,7 @@ fn by_long_y(
 }
 
 // The address of the data by mode.
-pub fn address_of(
+fn address_of(
     ram: &[u8],
     image: &[u8],
     base: u32,

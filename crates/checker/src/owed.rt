@@ -77,7 +77,7 @@ fn target_of_frame(image: &[u8], at: usize, frame: Frame, address: u32) -> u32
 
 // The mark at an address, 0 outside the image. Below the base the difference wraps, so that one comparison is enough:
 // the marks end before the address limit, and no wrapped place is one of theirs.
-pub fn mark_in(marks: &[u8], base: u32, address: u32) -> u8
+pub(crate) fn mark_in(marks: &[u8], base: u32, address: u32) -> u8
     requires { ⌜ base + length (now marks) ≤ addressLimit ⌝ }
     ensures { λ r. ⌜ r ≡ markAt (now (marks .entry)) base address ⌝ }
 {
@@ -125,7 +125,14 @@ fn owed_by_call(marks: &[u8], base: u32, kind: Kind, mark: u8, next: u32, to: u3
 }
 
 // What the instruction of a frame at a place of the image, with a mark there, owes. Each flow reads what it needs.
-pub fn owed_at(image: &[u8], marks: &[u8], base: u32, at: usize, frame: Frame, mark: u8) -> Owed
+pub(crate) fn owed_at(
+    image: &[u8],
+    marks: &[u8],
+    base: u32,
+    at: usize,
+    frame: Frame,
+    mark: u8,
+) -> Owed
     requires { ⌜
         Fitting (length (now image) - at) frame × (base + length (now marks) ≤ addressLimit) × (at < length (now marks))
         ⌝ }

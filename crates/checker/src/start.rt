@@ -204,9 +204,9 @@ fn test_whole(image: &[u8], marks: &[u8], base: u32, at: usize, frame: Frame) ->
 
 // A place of the image: the first rule that is broken there, and how many bytes stand there, one where no instruction
 // is read.
-pub struct Step {
-    pub result: TestResult,
-    pub bytes: u8,
+pub(crate) struct Step {
+    pub(crate) result: TestResult,
+    pub(crate) bytes: u8,
 }
 
 // The step of a frame at a place.
@@ -234,7 +234,7 @@ fn framed_step(image: &[u8], marks: &[u8], base: u32, at: usize, framed: Framed)
 }
 
 // The step at a place.
-pub fn step_at(codes: &CodePages, image: &[u8], marks: &[u8], base: u32, at: usize) -> Step
+pub(crate) fn step_at(codes: &CodePages, image: &[u8], marks: &[u8], base: u32, at: usize) -> Step
     requires { ⌜
         (now codes ≡ numbers) × (base + length (now marks) ≤ addressLimit) × (at < length (now marks))
         ⌝ }

@@ -1117,7 +1117,8 @@ pub fn pages() -> CodePages
     [PLAIN, BEHIND_42, BEHIND_89]
 }
 
-// The number of a code of a page: its row by the upper four bits, its column by the lower four.
+// The number of a code of a page: its row by the upper four bits, its column by the lower four. Asks for one of the
+// three pages, for there is no number on another.
 pub fn number_at(codes: &CodePages, page: usize, code: u8) -> u32
     requires { ⌜ page < 3 ⌝ }
     ensures { λ r. ⌜ r ≡ numberAt (now (codes .entry)) page code ⌝ }

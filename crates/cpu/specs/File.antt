@@ -10,7 +10,7 @@ use Rattle.model.specs.Status.{statusOf}
 abbrev pub fileSize : ℕ
 fileSize = 8
 
--- the registers that a file holds; DT has 8 bits
+-- the registers that a file holds; DT has 8 bits, and what its number has above them is left open
 abbrev pub registersOf : List ℕ → Registers
 registersOf file =
     registers (getD file 0 0) (getD file 1 0) (getD file 2 0) (getD file 3 0) (getD file 4 0) (getD file 5 0)

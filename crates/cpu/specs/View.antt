@@ -29,6 +29,8 @@ kept first value second other status stores taken = record {
 abbrev pub Placed : Kept → Type 0
 Placed e = (e .first < fileSize) × (e .second < fileSize)
 
+-- what an effect does to registers: both are put, then the status. Two effects that differ in which register is named
+-- first, in the value for the status' place or in the upper byte of DT's are the same here.
 abbrev pub viewed : Kept → Registers → Effect
 viewed e r =
     effect (withStatus (statusOf (e .status)) (put (e .second) (e .other) (put (e .first) (e .value) r)))

@@ -22,7 +22,9 @@ ghost use Rattle.cpu.specs.File.{registersOf};
 ghost use Rattle.cpu.specs.View.{kept, viewed, Placed};
 
 // Two registers at most get a value, and then the status gets its own: a register that is not to change is named by the
-// status' place.
+// status' place. Promises by `viewed` (specs/View.antt) settle what the registers then are, the stores and the branch.
+// Left open are which register is named first, the value for the status' place and the upper byte of DT's: who puts an
+// effect into the file (`machine::commit::put`) comes to the same registers.
 pub struct Effect {
     pub first: usize,
     pub value: u16,
@@ -80,14 +82,14 @@ fn push_of(short: bool, v: u64, registers: &[u16; FILE_SIZE]) -> Stores
 }
 
 // How many bytes data has.
-pub fn bytes(short: bool) -> u16
+pub(crate) fn bytes(short: bool) -> u16
     ensures { λ r. ⌜ r ≡ spec.bytes short ⌝ }
 {
     if short { 1 } else { 2 }
 }
 
 // Two registers and the status.
-pub fn puts_both(first: usize, value: u16, second: usize, other: u16, status: u16) -> Effect
+pub(crate) fn puts_both(first: usize, value: u16, second: usize, other: u16, status: u16) -> Effect
     ensures { λ r. ⌜ r ≡ kept first value second other status None false ⌝ }
 {
     Effect {

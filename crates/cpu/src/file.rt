@@ -1,4 +1,7 @@
 // The register file: the registers side by side as numbers, so that a step writes those that change and copies none.
+// Left open is the upper byte of DT's number: DT has 8 bits, and a promise speaks of the registers that a file holds
+// (specs/File.antt, `registersOf`). Nothing hangs on it, for a task gives the same registers whatever it is
+// (operations/specs/Table.antt, `Does`).
 use model::code::Accumulator;
 use model::machine::Registers;
 use model::machine::Status;
@@ -38,7 +41,7 @@ pub fn accumulator_in(named: Accumulator, registers: &[u16; FILE_SIZE]) -> u16
     }
 }
 
-// The file of registers.
+// The file of registers; DT's upper byte is left open.
 pub fn file_of(registers: Registers) -> [u16; FILE_SIZE]
     ensures { λ r. ⌜ (registersOf r ≡ registers) × (length r ≡ fileSize) ⌝ }
 {

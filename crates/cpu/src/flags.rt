@@ -11,7 +11,7 @@ ghost use Rattle.model.specs.Arithmetic as spec;
 ghost use Rattle.model.specs.Status.{isSet, statusOf};
 ghost use Rattle.prelude.specs.Choice.{bit};
 
-// Whether the flag that a mask names is set.
+// Whether the flag that a mask names is set. Asks for a mask other than 0: it is divided by.
 pub fn is_set(mask: u16, status: u16) -> bool
     requires { ⌜ 0 < mask ⌝ }
     ensures { λ r. ⌜ r ≡ isSet mask status ⌝ }
@@ -19,7 +19,7 @@ pub fn is_set(mask: u16, status: u16) -> bool
     status / mask % 2 == 1
 }
 
-// The flag that a mask names, as a number.
+// The flag that a mask names, as a number. Asks the same.
 pub fn bit_at(mask: u16, status: u16) -> u8
     requires { ⌜ 0 < mask ⌝ }
     ensures { λ r. ⌜ (r ≡ bit (isSet mask status)) × (r ≤ 1) ⌝ }
@@ -28,20 +28,20 @@ pub fn bit_at(mask: u16, status: u16) -> u8
 }
 
 // The status with C put.
-pub fn with_carry(flag: bool, status: u16) -> u16
+pub(crate) fn with_carry(flag: bool, status: u16) -> u16
     ensures { λ r. ⌜ statusOf r ≡ spec.withCarry flag (statusOf status) ⌝ }
 {
     status - status / Status::C % 2 * Status::C + Status::C * bit_of(flag) as u16
 }
 
 // The status with V put.
-pub fn with_overflow(flag: bool, status: u16) -> u16
+pub(crate) fn with_overflow(flag: bool, status: u16) -> u16
     ensures { λ r. ⌜ statusOf r ≡ spec.withOverflow flag (statusOf status) ⌝ }
 {
     status - status / Status::V % 2 * Status::V + Status::V * bit_of(flag) as u16
 }
 
-// The status with m and x put, as an instruction's width effect gives them.
+// The status with m and x put, as an instruction's width effect gives them. Asks for 0 or 1: they are added.
 pub fn with_widths(m: u8, x: u8, status: u16) -> u16
     requires { ⌜ (m ≤ 1) × (x ≤ 1) ⌝ }
     ensures { λ r. ⌜ statusOf r ≡ spec.withWidths (eqb m 1) (eqb x 1) (statusOf status) ⌝ }
@@ -78,7 +78,7 @@ pub fn with_flags_cleared(mask: u16, status: u16) -> u16
     CHANGED & mask & status ^ status
 }
 
-// The flag at a place of the status.
+// The flag at a place of the status. Asks for one of the eight: the status is shifted by it.
 pub fn flag_at(place: usize, status: u16) -> bool
     requires { ⌜ place < 8 ⌝ }
     ensures { λ r. ⌜ r ≡ isSet (2 ^ place) status ⌝ }

@@ -23,7 +23,7 @@ pub fn byte_at(bytes: &[u8], at: usize) -> u8
 }
 
 // Number 1: an image of 1 to 16,384 bytes, and as many marks.
-pub fn length_fits(image: usize, marks: usize) -> bool
+fn length_fits(image: usize, marks: usize) -> bool
     ensures { λ r. ⌜ r ≡ lengthFits image marks ⌝ }
 {
     if image == 0 {
@@ -43,7 +43,7 @@ pub fn low(base: u32) -> usize
 }
 
 // Number 2: a 24-bit base, and an image of n bytes within its bank.
-pub fn base_fits(base: u32, n: usize) -> bool
+fn base_fits(base: u32, n: usize) -> bool
     ensures { λ r. ⌜ r ≡ baseFits base n ⌝ }
 {
     if ADDRESS_LIMIT <= base {
@@ -56,7 +56,7 @@ pub fn base_fits(base: u32, n: usize) -> bool
 }
 
 // One of two numbers. Both are at hand, so that no branch is needed.
-pub fn choose(test: bool, yes: u8, no: u8) -> u8
+fn choose(test: bool, yes: u8, no: u8) -> u8
     ensures { λ r. ⌜ r ≡ pick test yes no ⌝ }
 {
     if test { yes } else { no }
@@ -64,7 +64,7 @@ pub fn choose(test: bool, yes: u8, no: u8) -> u8
 
 // 1 for a mark that is not of the form, else 0: a byte without a start is 00, bit 7 is 0, kind 3 is unused, kind 0 has
 // no return widths.
-pub fn misfit(mark: u8) -> u8
+fn misfit(mark: u8) -> u8
     ensures { λ r. ⌜ r ≡ pick (isFormed mark) 0 1 ⌝ }
 {
     let by_kind = choose(
@@ -91,7 +91,7 @@ pub fn is_start(mark: u8) -> bool
 }
 
 // The mark at an address, 0 outside the image.
-pub fn mark_at(marks: &[u8], base: u32, address: u32) -> u8
+fn mark_at(marks: &[u8], base: u32, address: u32) -> u8
     ensures { λ r. ⌜ r ≡ markAt (now (marks .entry)) base address ⌝ }
 {
     if address < base {
@@ -100,8 +100,9 @@ pub fn mark_at(marks: &[u8], base: u32, address: u32) -> u8
     byte_at(marks, (address - base) as usize)
 }
 
-// Number 3: at the reset address stands a start with m=0, x=0 and return kind 0.
-pub fn reset_fits(marks: &[u8], base: u32, reset: u32) -> bool
+// Number 3: at the reset address, of 16 bits, stands mark 01. Of the marks of the form, which is tested before, that
+// alone is 'a start with m=0, x=0, return kind 0': under kind 0 bits 5 and 6 are clear, and bit 7 is 0.
+fn reset_fits(marks: &[u8], base: u32, reset: u32) -> bool
     ensures { λ r. ⌜ r ≡ resetFits (now (marks .entry)) base reset ⌝ }
 {
     if BANK_SIZE <= reset {

@@ -23,7 +23,7 @@ use Rattle.model.specs.Step.{Plan, Stepped, stepped, finish}
 abbrev pub state : Core → List ℕ → State
 state c calls = record { core = c; calls = calls }
 
--- a core out of the place of execution, the number of open calls and the register file
+-- a core out of the place of execution, of which 24 bits count, the number of open calls and the register file
 abbrev pub coreOf : ℕ → ℕ → List ℕ → Core
 coreOf place depth file = record {
   registers = registersOf file;

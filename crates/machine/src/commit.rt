@@ -42,7 +42,7 @@ pub struct Turn {
 }
 
 // A step that stopped.
-pub fn stopped(stop: Stop, place: u32, depth: usize) -> Turn
+pub(crate) fn stopped(stop: Stop, place: u32, depth: usize) -> Turn
     ensures { λ r. ⌜ r ≡ turn (Stopped stop) place depth ⌝ }
 {
     Turn {
@@ -71,7 +71,7 @@ fn settled(i: Fetched, before: u16, after: u16) -> u16
 }
 
 // The registers after an instruction.
-pub fn put(registers: &mut [u16; FILE_SIZE], i: Fetched, effect: Effect)
+pub(crate) fn put(registers: &mut [u16; FILE_SIZE], i: Fetched, effect: Effect)
     requires { ⌜ (length (now registers) ≡ fileSize) × Placed effect ⌝ }
     ensures { λ _. ⌜
         (registersOf (now (registers .exit))
@@ -89,7 +89,7 @@ pub fn put(registers: &mut [u16; FILE_SIZE], i: Fetched, effect: Effect)
 }
 
 // An effect that opens and closes no call, if all its stores are served.
-pub fn finish(
+pub(crate) fn finish(
     image: &[u8],
     base: u32,
     i: Fetched,

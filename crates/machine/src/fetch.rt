@@ -18,20 +18,20 @@ ghost use Rattle.model.specs.Step as spec;
 ghost use Rattle.machine.specs.Fetches.{decodedAs, BoundedIn};
 
 // An instruction, its entry by its number: what a step needs of the entry it takes from there.
-pub struct Fetched {
-    pub number: u32,
-    pub length: u8,
-    pub operand: u64,
+pub(crate) struct Fetched {
+    pub(crate) number: u32,
+    pub(crate) length: u8,
+    pub(crate) operand: u64,
 }
 
-pub enum Fetch {
+pub(crate) enum Fetch {
     Whole(Fetched),
     NotCarried,
     CutOff,
 }
 
 // What stands at a place, at the widths of a status. RAM has no part in it.
-pub fn fetch_at(codes: &CodePages, image: &[u8], base: u32, place: u32, status: u16) -> Fetch
+pub(crate) fn fetch_at(codes: &CodePages, image: &[u8], base: u32, place: u32, status: u16) -> Fetch
     requires { ⌜
         (now codes ≡ numbers) × (base + length (now image) ≤ addressLimit)
         × (length (now image) ≤ imageLimit)

@@ -88,7 +88,7 @@ fn is_decimal(access: Access, registers: &[u16; FILE_SIZE]) -> bool
 }
 
 // An operation: decimal mode, then the reads, then the operation, then its stores.
-pub fn operates(
+pub(crate) fn operates(
     tasks: &TaskTable,
     image: &[u8],
     base: u32,
@@ -145,7 +145,7 @@ pub fn operates(
 }
 
 // A jump.
-pub fn jumps(i: Fetched, place: u32, depth: usize, registers: &mut [u16; FILE_SIZE]) -> Turn
+pub(crate) fn jumps(i: Fetched, place: u32, depth: usize, registers: &mut [u16; FILE_SIZE]) -> Turn
     requires { ⌜ (place < addressLimit) × Bounded i × (length (now registers) ≡ fileSize) ⌝ }
     ensures { λ r. ⌜
         ((m : Memory) (calls : List ℕ) → left r (now (registers .exit)) calls (m .ram)
@@ -166,7 +166,7 @@ pub fn jumps(i: Fetched, place: u32, depth: usize, registers: &mut [u16; FILE_SI
 }
 
 // How many bytes a return address of a kind has.
-pub fn return_bytes(kind: Kind) -> u16
+pub(crate) fn return_bytes(kind: Kind) -> u16
     ensures { λ r. ⌜ r ≡ spec.returnBytes kind ⌝ }
 {
     match kind {
@@ -205,7 +205,7 @@ fn entry_of(address: u32, kind: Kind) -> u64
 }
 
 // A call, unless too many are open or its pushes are not served.
-pub fn calls_to(
+pub(crate) fn calls_to(
     image: &[u8],
     base: u32,
     i: Fetched,

@@ -1,6 +1,6 @@
 // The stepping machine: what a step fetches, what it does by its flow, and the step itself.
 pub mod commit;
-pub mod fetch;
-pub mod flows;
-pub mod returning;
+mod fetch;
+mod flows;
+mod returning;
 pub mod step;

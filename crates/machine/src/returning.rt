@@ -102,7 +102,7 @@ fn returns_to(
 }
 
 // A return.
-pub fn returns(
+pub(crate) fn returns(
     image: &[u8],
     base: u32,
     i: Fetched,

@@ -39,7 +39,8 @@ abbrev pub offsetBy : ℕ → ℕ → ℕ → ℕ
 offsetBy half address offset =
     (address + pick (ltb offset half) offset (addressLimit - 2 * half + offset)) % addressLimit
 
--- an 8-bit offset is the last byte of the operand
+-- an 8-bit offset is the last byte of the instruction. Of n bytes the operand has n - 1 where there is no prefix: every
+-- code with such an offset stands on the plain page.
 abbrev pub lastByte : ℕ → ℕ → ℕ
 lastByte operand n = operand / 256 ^ (n - 2) % 256
 

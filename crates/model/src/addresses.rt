@@ -22,7 +22,7 @@ pub fn low_long(operand: u64) -> u32
     (operand % ADDRESS_LIMIT as u64) as u32
 }
 
-// The address in the bank of another that has these low 16 bits.
+// The address in the bank of another that has these low 16 bits. Asks for no more than 16: a sum would leave the bank.
 pub fn in_bank_of(address: u32, low: u32) -> u32
     requires { ⌜ low < bankSize ⌝ }
     ensures { λ r. ⌜ r ≡ inBankOf address low ⌝ }

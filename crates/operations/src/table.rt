@@ -255,7 +255,8 @@ const TASKS: TaskTable = [
     LEAVE,
 ];
 
-// The tasks, made once by whoever lends them on: a constant array is copied at each use.
+// The tasks, made once by whoever lends them on: a constant array is copied at each use. By which numbers they are kept
+// is left open; each does what its operation does, and no more is asked of it.
 pub fn tasks() -> TaskTable
     ensures { λ r. ⌜ Tasked r ⌝ }
 {
@@ -272,7 +273,7 @@ fn named(both: u32, n: u32) -> u32
     both % 65_536
 }
 
-// The task of an entry.
+// The task of an entry, its number left open likewise. Asks for the table that `tasks` makes, lent.
 pub fn task_at(tasks: &TaskTable, n: u32) -> u32
     requires { ⌜ Tasked (now tasks) ⌝ }
     ensures { λ r. ⌜ Does (unpacked n .accumulator) (unpacked n .operation) r ⌝ }

@@ -25,11 +25,11 @@ ghost use Rattle.operations.specs.Table.{Tasked};
 ghost use Rattle.runs.specs.Courses.{leftBy};
 
 // How a run ended, the steps completed, the calls among them, and the registers after it.
-pub struct Course {
-    pub end: End,
-    pub steps: u32,
-    pub calls: u32,
-    pub core: Core,
+pub(crate) struct Course {
+    pub(crate) end: End,
+    pub(crate) steps: u32,
+    pub(crate) calls: u32,
+    pub(crate) core: Core,
 }
 
 // Whether a step met no stop.
@@ -86,7 +86,7 @@ fn core_of(place: u32, depth: usize, registers: &[u16; FILE_SIZE]) -> Core
 }
 
 // The steps of a core with its open calls.
-pub fn run_in(
+pub(crate) fn run_in(
     codes: &CodePages,
     tasks: &TaskTable,
     image: &[u8],

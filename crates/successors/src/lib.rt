@@ -1,4 +1,5 @@
-// Where control goes from an instruction: the next address and the target, for the check and the machine alike.
+// Where control goes from an instruction: the next address and the target, for the check and the machine alike. An
+// address is asked to have 24 bits, so that no sum passes 32.
 pub mod widths;
 
 use model::addresses::ADDRESS_LIMIT;
@@ -31,7 +32,7 @@ fn offset_by(half: u32, address: u32, offset: u32) -> u32
     (address + (ADDRESS_LIMIT - 2 * half + offset)) % ADDRESS_LIMIT
 }
 
-// The last byte of an operand of an instruction of 2 to 6 bytes.
+// The last byte of an instruction of 2 to 6 bytes that has no prefix, out of its operand.
 fn last_byte(operand: u64, n: u8) -> u32
     requires { ⌜ n ≤ 6 ⌝ }
     ensures { λ r. ⌜ (r ≡ rules.lastByte operand n) × (r < 256) ⌝ }
@@ -43,7 +44,8 @@ fn last_byte(operand: u64, n: u8) -> u32
     ((operand >> bits) % 256) as u32
 }
 
-// Where an instruction of n bytes at an address goes by its target.
+// Where an instruction of n bytes at an address goes by its target. Asks for 6 bytes at most, as instructions have: the
+// operand is shifted by the length.
 pub fn target_of(target: Target, address: u32, n: u8, operand: u64) -> u32
     requires { ⌜ (address < addressLimit) × (n ≤ 6) ⌝ }
     ensures { λ r. ⌜ r ≡ rules.targetOf target address n operand ⌝ }

@@ -46,7 +46,8 @@ impl<'i, 'm> View<'i, 'm> {
         checker::count_starts(self.marks)
     }
 
-    // What stands at an offset, at the widths marked there. The code pages are lent.
+    // What stands at an offset, at the widths marked there. Asks for the code pages that `codepages::pages` makes,
+    // lent: a loop over the starts makes them once.
     pub fn instruction_at(self, codes: &CodePages, at: usize) -> Decoded
         requires { ⌜ now codes ≡ numbers ⌝ }
         ensures { λ r. ⌜ r ≡ instructionAt (now (self .entry .image)) (now (self .entry .marks)) at ⌝ }

@@ -27,7 +27,7 @@ pub fn judge(image: &[u8], marks: &[u8], base: u32, reset: u32) -> Judged
     }
 }
 
-// What stands at an offset, at the widths marked there. The code pages are lent.
+// What stands at an offset, at the widths marked there. Asks for the code pages, as the view does.
 pub fn instruction_at(
     image: &[u8],
     marks: &[u8],
