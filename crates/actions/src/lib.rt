@@ -48,7 +48,7 @@ ghost use Rattle.model.specs.Decode.{operandLimit};
 ghost use Rattle.model.specs.Image.{addressLimit};
 ghost use Rattle.cpu.specs.File.{registersOf, fileSize};
 ghost use Rattle.cpu.specs.Rows as rows;
-ghost use Rattle.cpu.specs.View.{viewed, Placed};
+ghost use Rattle.cpu.specs.View.{Makes};
 ghost use Rattle.actions.specs.Tasks.{unpackedTask};
 ghost use Rattle.actions.specs.Works as spec;
 
@@ -56,11 +56,9 @@ ghost use Rattle.actions.specs.Works as spec;
 fn pulls_data(to: usize, short: bool, v: u16, registers: &[u16; FILE_SIZE]) -> Effect
     requires { ⌜ to < fileSize ⌝ }
     ensures { λ r. ⌜
-        (viewed r (registersOf (now (registers .entry)))
-        ≡ rows.pulling (now (registers .entry)) to short
+        Makes r (now (registers .entry)) (rows.pulling (now (registers .entry)) to short
         (width.merged (bits short) (getD (now (registers .entry)) to 0) v)
         (arithmetic.withResult (bits short) v (rows.status (now (registers .entry)))))
-        × Placed r
         ⌝ }
 {
     let value = merged(short, registers[to], wide(v));
@@ -78,11 +76,9 @@ fn pulls_whole(
 ) -> Effect
     requires { ⌜ to < fileSize ⌝ }
     ensures { λ r. ⌜
-        (viewed r (registersOf (now (registers .entry)))
-        ≡ rows.pulling (now (registers .entry)) to short v
+        Makes r (now (registers .entry)) (rows.pulling (now (registers .entry)) to short v
         (pick flagged (arithmetic.withResult (bits short) v (rows.status (now (registers .entry))))
         (rows.status (now (registers .entry)))))
-        × Placed r
         ⌝ }
 {
     let status = registers[PS];
@@ -96,10 +92,8 @@ fn pulls_whole(
 fn counts(down: bool, to: usize, short: bool, registers: &[u16; FILE_SIZE]) -> Effect
     requires { ⌜ to < fileSize ⌝ }
     ensures { λ r. ⌜
-        (viewed r (registersOf (now (registers .entry)))
-        ≡ rows.loading (now (registers .entry)) to short
+        Makes r (now (registers .entry)) (rows.loading (now (registers .entry)) to short
         (spec.counted (bits short) down (getD (now (registers .entry)) to 0)) (rows.status (now (registers .entry))))
-        × Placed r
         ⌝ }
 {
     let value = counted(down, registers[to]);
@@ -120,9 +114,8 @@ fn by_action(
 ) -> Effect
     requires { ⌜ (to < fileSize) × (next < addressLimit) × (operand < operandLimit) ⌝ }
     ensures { λ r. ⌜
-        (viewed r (registersOf (now (registers .entry)))
-        ≡ spec.byAction mode short operand next given (now (registers .entry)) action choice to)
-        × Placed r
+        Makes r (now (registers .entry)) (spec.byAction mode short operand next given (now (registers .entry)) action
+        choice to)
         ⌝ }
 {
     let v = given.value;
@@ -187,9 +180,8 @@ pub fn effect_by(
 ) -> Effect
     requires { ⌜ (next < addressLimit) × (operand < operandLimit) ⌝ }
     ensures { λ r. ⌜
-        (viewed r (registersOf (now (registers .entry)))
-        ≡ spec.effectBy mode short operand next given (now (registers .entry)) (unpackedTask task))
-        × Placed r
+        Makes r (now (registers .entry)) (spec.effectBy mode short operand next given (now (registers .entry))
+        (unpackedTask task))
         ⌝ }
 {
     let action = action_of(task);

@@ -1,11 +1,13 @@
 -- An effect as the code has it, two registers and the status by their numbers and its stores by value, read as the
 -- definition's.
 -- Assumes nothing.
+use mathlib.Core.Path.{_≡_}
 use Prim.Native.Nat.{ℕ, _<_}
 use mathlib.Core.Bool.{Bool}
+use mathlib.Core.List.{List}
 use Rattle.cpu.specs.declared.arithmetic.Worked.{Worked as KeptWork}
 use Rattle.cpu.specs.declared.effects.Effect.{Effect as Kept}
-use Rattle.cpu.specs.File.{put, fileSize}
+use Rattle.cpu.specs.File.{registersOf, put, fileSize}
 use Rattle.cpu.specs.Rows.{Worked, worked}
 use Rattle.memory.specs.Listed.{listed}
 use Rattle.memory.specs.declared.stores.Stores.{Stores}
@@ -35,6 +37,10 @@ abbrev pub viewed : Kept → Registers → Effect
 viewed e r =
     effect (withStatus (statusOf (e .status)) (put (e .second) (e .other) (put (e .first) (e .value) r)))
     (listed (e .stores)) (e .taken)
+
+-- an effect of the code, from a register file, is one of the definition's, and names places of the file
+abbrev pub Makes : Kept → List ℕ → Effect → Type 0
+Makes e file wanted = (viewed e (registersOf file) ≡ wanted) × Placed e
 
 -- what was worked out, its status by its number
 abbrev pub seen : KeptWork → Worked

@@ -41,15 +41,13 @@ ghost use Rattle.model.specs.Addressing.{bits, residenceOf};
 ghost use Rattle.model.specs.Status.{statusOf};
 ghost use Rattle.cpu.specs.File.{registersOf, fileSize};
 ghost use Rattle.cpu.specs.Rows as rows;
-ghost use Rattle.cpu.specs.View.{viewed, Placed, seen};
+ghost use Rattle.cpu.specs.View.{Makes, seen};
 
 // A register gets data, and N and Z with it.
 pub fn loads(to: usize, short: bool, v: u64, status: u16, registers: &[u16; FILE_SIZE]) -> Effect
     requires { ⌜ to < fileSize ⌝ }
     ensures { λ r. ⌜
-        (viewed r (registersOf (now (registers .entry)))
-        ≡ rows.loading (now (registers .entry)) to short v (statusOf status))
-        × Placed r
+        Makes r (now (registers .entry)) (rows.loading (now (registers .entry)) to short v (statusOf status))
         ⌝ }
 {
     puts(
@@ -156,8 +154,7 @@ pub fn combines(
 ) -> Effect
     requires { ⌜ to < fileSize ⌝ }
     ensures { λ r. ⌜
-        (viewed r (registersOf (now (registers .entry))) ≡ rows.combining (now (registers .entry)) to short which v)
-        × Placed r
+        Makes r (now (registers .entry)) (rows.combining (now (registers .entry)) to short which v)
         ⌝ }
 {
     let a = low(short, wide(registers[to]));
@@ -169,8 +166,7 @@ pub fn combines(
 pub fn compares(from: usize, short: bool, v: u16, registers: &[u16; FILE_SIZE]) -> Effect
     requires { ⌜ from < fileSize ⌝ }
     ensures { λ r. ⌜
-        (viewed r (registersOf (now (registers .entry))) ≡ rows.comparing (now (registers .entry)) from short v)
-        × Placed r
+        Makes r (now (registers .entry)) (rows.comparing (now (registers .entry)) from short v)
         ⌝ }
 {
     let rest = difference(short, low(short, wide(registers[from])), v, true);
@@ -182,7 +178,7 @@ pub fn compares(from: usize, short: bool, v: u16, registers: &[u16; FILE_SIZE]) 
 pub fn rotates(to: usize, short: bool, n: u16, registers: &[u16; FILE_SIZE]) -> Effect
     requires { ⌜ to < fileSize ⌝ }
     ensures { λ r. ⌜
-        (viewed r (registersOf (now (registers .entry))) ≡ rows.rotating (now (registers .entry)) to short n) × Placed r
+        Makes r (now (registers .entry)) (rows.rotating (now (registers .entry)) to short n)
         ⌝ }
 {
     let old = registers[to];
@@ -193,7 +189,7 @@ pub fn rotates(to: usize, short: bool, n: u16, registers: &[u16; FILE_SIZE]) -> 
 // XAB: A and B exchanged, with N and Z of the new A.
 pub fn swaps(short: bool, registers: &[u16; FILE_SIZE]) -> Effect
     ensures { λ r. ⌜
-        (viewed r (registersOf (now (registers .entry))) ≡ rows.swapping (now (registers .entry)) short) × Placed r
+        Makes r (now (registers .entry)) (rows.swapping (now (registers .entry)) short)
         ⌝ }
 {
     let a = registers[A];
@@ -212,9 +208,7 @@ pub fn swaps(short: bool, registers: &[u16; FILE_SIZE]) -> Effect
 pub fn pulls(to: usize, short: bool, v: u16, status: u16, registers: &[u16; FILE_SIZE]) -> Effect
     requires { ⌜ to < fileSize ⌝ }
     ensures { λ r. ⌜
-        (viewed r (registersOf (now (registers .entry)))
-        ≡ rows.pulling (now (registers .entry)) to short v (statusOf status))
-        × Placed r
+        Makes r (now (registers .entry)) (rows.pulling (now (registers .entry)) to short v (statusOf status))
         ⌝ }
 {
     puts_both(to, v, S, pulled_at(registers[S], bytes(short)), status)
@@ -231,10 +225,8 @@ pub fn modifies(
 ) -> Effect
     requires { ⌜ to < fileSize ⌝ }
     ensures { λ r. ⌜
-        (viewed r (registersOf (now (registers .entry)))
-        ≡ rows.modifying (now (registers .entry)) to short (residenceOf mode) (given .address)
-        (rows.modified which (bits short) (given .value) (rows.status (now (registers .entry)))))
-        × Placed r
+        Makes r (now (registers .entry)) (rows.modifying (now (registers .entry)) to short (residenceOf mode)
+        (given .address) (rows.modified which (bits short) (given .value) (rows.status (now (registers .entry)))))
         ⌝ }
 {
     let done = modified(which, short, wide(given.value), registers[PS]);

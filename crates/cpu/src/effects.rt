@@ -19,7 +19,7 @@ ghost use Rattle.model.specs.Addressing as addressing;
 ghost use Rattle.model.specs.Effects as spec;
 ghost use Rattle.model.specs.Image.{bankSize};
 ghost use Rattle.cpu.specs.File.{registersOf};
-ghost use Rattle.cpu.specs.View.{kept, viewed, Placed};
+ghost use Rattle.cpu.specs.View.{kept, Makes};
 
 // Two registers at most get a value, and then the status gets its own: a register that is not to change is named by the
 // status' place. Promises by `viewed` (specs/View.antt) settle what the registers then are, the stores and the branch.
@@ -152,8 +152,7 @@ pub fn stores_to(short: bool, address: u32, v: u64, status: u16) -> Effect
 // Data onto the stack, and S below it.
 pub fn pushes(short: bool, v: u64, registers: &[u16; FILE_SIZE]) -> Effect
     ensures { λ r. ⌜
-        (viewed r (registersOf (now (registers .entry))) ≡ spec.pushes short v (registersOf (now (registers .entry))))
-        × Placed r
+        Makes r (now (registers .entry)) (spec.pushes short v (registersOf (now (registers .entry))))
         ⌝ }
 {
     Effect {
