@@ -13,20 +13,16 @@
  * Before it releases an image, a loader in C reads the image's mark list,
  * checks the image against the marks, and may run it step by step. Each of
  * these functions gives a struct of its own type. Its member `refusal` is 0,
- * or the number that refuses the call; then every buffer is as given, and
- * every other member is 0, but for the offset of a check.
+ * or the number that refuses the call; then the other members are 0, but for
+ * the offset of a check, and every buffer is as given.
  *
  * Two conditions on pointers are left to the caller, since C can't express
- * them:
+ * them. Nothing else is asked:
  *
  *   - A pointer is valid for its length: so many bytes may be read there, and
  *     written where the function writes. At length 0 any pointer will do.
  *   - A buffer that a function writes overlaps no other. Image and marks are
  *     only read, so for the check they may overlap.
- *
- * Nothing else is asked: every length, every number and every byte of every
- * buffer is answered. A function reads and writes the buffers that it is
- * lent, nothing else, and keeps no pointer.
  */
 #ifndef M7700_H
 #define M7700_H
@@ -85,36 +81,38 @@ extern "C" {
  * REFUSALS
  *
  * The numbers that refuse a call, each with its word and when it is given.
- * Which of them a function tests, and in which order, stands with it; the
- * first that fails decides. */
-#define M7700_REFUSED_LENGTH 1  /* length: image empty or over the limit,
-                                   or marks of another length */
-#define M7700_REFUSED_BASE 2    /* base: above FFFFFF, or the image
-                                   crosses the end of a bank */
+ * Which of them a function tests, and in which order, stands with it. */
+#define M7700_REFUSED_LENGTH 1  /* length: image empty or over
+                                   M7700_IMAGE_BYTES; marks of another
+                                   length */
+#define M7700_REFUSED_BASE 2    /* base: above FFFFFF, or image crosses a
+                                   bank end */
 #define M7700_REFUSED_RESET 3   /* reset: no start with m=0, x=0, kind 0
                                    at the reset address */
 #define M7700_REFUSED_MARK 4    /* mark: a mark not of the form above */
-#define M7700_REFUSED_CODE 5    /* code: code at a start not carried */
+#define M7700_REFUSED_CODE 5    /* code: code at a start is not
+                                   carried */
 #define M7700_REFUSED_CUT_OFF 6 /* cut off: instruction, or code behind a
                                    prefix, runs past the image */
 #define M7700_REFUSED_OVERLAP 7 /* overlap: start inside an
                                    instruction */
 #define M7700_REFUSED_FLOW 8    /* flow: successor, call target or
-                                   address after a call is no marked
-                                   start */
+                                   address after a call is no start */
 #define M7700_REFUSED_WIDTHS 9  /* widths: one of those breaks its rule
                                    on widths, kind or return */
 #define M7700_REFUSED_RETURN 10 /* return: RTS or RTL not under its kind
                                    or not at its return widths */
-#define M7700_REFUSED_RAM 11    /* RAM: empty, over the limit, or with
+#define M7700_REFUSED_RAM 11    /* RAM: empty, over M7700_RAM_BYTES, or
                                    more bytes than the base's number */
-#define M7700_REFUSED_STATE 12  /* state: buffer of another length, PS
-                                   bits 11 to 15 set, open calls over the
-                                   limit, or one with a kind other than 1
-                                   or 2 or an address above FFFFFF */
-#define M7700_REFUSED_STEPS 13  /* steps: over the limit */
+#define M7700_REFUSED_STATE 12  /* state: a buffer of another length, PS
+                                   bits 11 to 15 set, over M7700_CALLS
+                                   open calls, or among them a kind other
+                                   than 1 or 2 or an address above
+                                   FFFFFF */
+#define M7700_REFUSED_STEPS 13  /* steps: over M7700_STEPS */
 #define M7700_REFUSED_LIST 14   /* list: text is not a mark list */
-#define M7700_REFUSED_PAGE 15   /* page: shorter than the list */
+#define M7700_REFUSED_PAGE 15   /* page: output buffer shorter than the
+                                   list */
 
 /* Not carried are BRK, RTI, PLP, PSH, PUL, MVN, MVP, MPY, DIV, every JMP or JSR
  * through memory, and every unassigned code or prefix pair.
@@ -129,9 +127,13 @@ static inline const char *m7700_refusal_word(uint32_t number);
  * (0 to FFFF; above, it is refused with 3).
  *
  * The image is accepted if `refusal` is 0. The tests go in the order 1, 2, 4,
- * 3, then each start in turn from the lowest for 5, 6, 7, 10, 8, 9. The offset
- * is that of the lowest bad mark for 4, of the start for 5 to 10, and 0 for 1,
- * 2 and 3. The function writes nothing. */
+ * 3, then each start in turn from the lowest for 5, 6, 7, 10, 8, 9; the first
+ * that fails decides. The offset is that of the lowest bad mark for 4, of the
+ * start for 5 to 10, and 0 for 1, 2 and 3.
+ *
+ * Every length, base and reset and every byte of image and marks is answered.
+ * The function reads only image and marks, writes nothing, and keeps no
+ * pointer. */
 typedef struct {
     uint32_t refusal;
     uint32_t offset;
@@ -163,17 +165,24 @@ m7700_check_image(const uint8_t *image, size_t image_len,
  *
  * READING A LIST
  *
- * Reads a list into the marks of an image: `marks_len` is the image's length.
- * The tests go in the order
+ * Reads a list into marks of the image's length, `marks_len`. The tests go in
+ * the order
  *
- *     14  the text is not a list, by its own length
- *      1  that length is 0, over the limit, or not marks_len
- *      2  base and length cross the end of a bank
- *      3  no start with m=0, x=0, kind 0 at the reset address
+ *     14  the text is not a list, by its own length, whatever
+ *         marks_len is
+ *      1  the list's length is 0 or over M7700_IMAGE_BYTES, or
+ *         marks_len is another
+ *      2  the list's base and length cross a bank end
+ *      3  the list has no start with m=0, x=0, kind 0 at its reset
+ *         address
  *
- * If the list was read, every mark is written, 0 where no instruction starts.
- * A check of the image with these marks, base and reset can still refuse it,
- * by 5 to 10 alone: the list settles 1, 2, 3 and 4, and nothing of the code. */
+ * and the first that fails decides. If the list was read, every mark is
+ * written: 0 where no instruction starts. A check of the image with these
+ * marks, base and reset can still refuse it, by 5 to 10 alone: the list
+ * settles 1, 2, 3 and 4, and nothing of the code.
+ *
+ * Every text and every length is answered. The function reads only the text,
+ * writes only the marks, and keeps no pointer. */
 typedef struct {
     uint32_t refusal;
     uint32_t base;
@@ -188,15 +197,19 @@ m7700_read_mark_list(const uint8_t *text, size_t text_len,
  *
  * Writes the list of marks at the front of a page. The tests go in the order
  *
- *      1  no marks, or over the limit
- *      2  base above FFFFFF, or the marks cross the end of a bank
+ *      1  no marks, or over M7700_IMAGE_BYTES
+ *      2  base above FFFFFF, or base and marks_len cross a bank end
  *      4  a mark not of the form above
  *      3  no mark 01 at the reset address, or reset above FFFF
  *     15  the page is shorter than the list
  *
- * `length` is the list's; the bytes of the page behind it are as given. What
- * was written, read into marks of the same length, gives the same marks, base
- * and reset; and a list that was read is written as the same bytes. */
+ * and the first that fails decides. If the list was written, `length` is its
+ * length in bytes, and the bytes of the page behind it are as given. What was
+ * written, read into marks of the same length, gives the same marks, base and
+ * reset; and a list that was read is written as the same bytes.
+ *
+ * Every base, reset and length and every mark is answered. The function reads
+ * only the marks, writes only the page, and keeps no pointer. */
 typedef struct {
     uint32_t refusal;
     size_t length;
@@ -256,8 +269,9 @@ m7700_write_mark_list(const uint8_t *marks, size_t marks_len,
  * RUN
  *
  * Runs an image for 0 to M7700_STEPS steps, or until one stops. The tests go
- * in the order 1 (image empty or over the limit), 2, 11, 12, 13. A run that is
- * not refused ends with its steps done, or by a stop: */
+ * in the order 1 (image empty or over M7700_IMAGE_BYTES), 2, 11, 12, 13, and
+ * the first that fails decides. If the run is not refused, `end` says how it
+ * ended, its steps done or by a stop: */
 #define M7700_DONE 0
 #define M7700_STOP_OUTSIDE 20     /* outside: instruction byte not in the
                                      image */
@@ -267,7 +281,8 @@ m7700_write_mark_list(const uint8_t *marks, size_t marks_len,
                                      mapped */
 #define M7700_STOP_ASTRAY 24      /* astray: RTS or RTL with no open
                                      call, with one of the other kind, or
-                                     with one of another address */
+                                     the pulled address is not the open
+                                     call's */
 #define M7700_STOP_DEEP 25        /* deep: call with M7700_CALLS open */
 #define M7700_STOP_IMAGE_STORE 26 /* image store: store into the image */
 #define M7700_STOP_DECIMAL 27     /* decimal: ADC or SBC with D=1 */
@@ -289,7 +304,11 @@ static inline const char *m7700_stop_word(uint32_t number);
  * other registers and RAM hold. Then this run, and each further one from the
  * state and RAM that the last one left, ends only with its steps done or by
  * 22 to 27, never by 20 or 21, unless it is refused: each of its steps begins
- * at a marked start with the marked widths. */
+ * at a marked start with the marked widths.
+ *
+ * Every length, base and number of steps and every byte of image, state and
+ * RAM is answered. The function reads only image, state and RAM, writes only
+ * state and RAM, and keeps no pointer. */
 typedef struct {
     uint32_t refusal;
     uint32_t end;
