@@ -1,8 +1,10 @@
-/* loader IMAGE MARKS BASE RESET
- * loader write-list MARKS BASE RESET LENGTH LIST
- * loader read-list LIST LENGTH MARKS
- * loader run IMAGE MARKS BASE RESET START S RAM STEPS [OPTION]..
- * loader trace IMAGE MARKS BASE RESET START S RAM STEPS [OPTION]..
+/* driver IMAGE MARKS BASE RESET
+ * driver write-list MARKS BASE RESET LENGTH LIST
+ * driver read-list LIST LENGTH MARKS
+ * driver run IMAGE MARKS BASE RESET START S RAM STEPS [OPTION]..
+ * driver trace IMAGE MARKS BASE RESET START S RAM STEPS [OPTION]..
+ *
+ * Calls each function of the library with whatever the tests ask for.
  *
  * The first form reads an image and its mark bytes from two files, checks them,
  * and prints one line. The second writes the list of a file's marks into a page
@@ -50,40 +52,6 @@ struct plan {
     uint32_t ram_from, ram_count, state_from, state_count;
 };
 
-static const char *const words[] = {
-    [M7700_DONE] = "done",
-    [M7700_LENGTH] = "length",
-    [M7700_BASE] = "base",
-    [M7700_RESET] = "reset",
-    [M7700_MARK] = "mark",
-    [M7700_CODE] = "code",
-    [M7700_CUT_OFF] = "cut off",
-    [M7700_OVERLAP] = "overlap",
-    [M7700_FLOW] = "flow",
-    [M7700_WIDTHS] = "widths",
-    [M7700_RETURN] = "return",
-    [M7700_RAM] = "RAM",
-    [M7700_STATE] = "state",
-    [M7700_STEPS] = "steps",
-    [M7700_LIST] = "list",
-    [M7700_PAGE] = "page",
-    [M7700_OUTSIDE] = "outside",
-    [M7700_UNCARRIED] = "uncarried",
-    [M7700_HALT] = "halt",
-    [M7700_UNMAPPED] = "unmapped",
-    [M7700_ASTRAY] = "astray",
-    [M7700_DEEP] = "deep",
-    [M7700_IMAGE_STORE] = "image store",
-    [M7700_DECIMAL] = "decimal",
-};
-
-static const char *word(uint32_t number)
-{
-    int known = number < sizeof words / sizeof words[0] && words[number] != NULL;
-
-    return known ? words[number] : "unknown";
-}
-
 /* Reads a file's first LIMIT bytes; 0 if it can't. */
 static int read_file(const char *name, struct bytes *into)
 {
@@ -91,13 +59,13 @@ static int read_file(const char *name, struct bytes *into)
     int failed;
 
     if (file == NULL) {
-        fprintf(stderr, "loader: %s: %s\n", name, strerror(errno));
+        fprintf(stderr, "driver: %s: %s\n", name, strerror(errno));
         return 0;
     }
     into->length = fread(into->at, 1, LIMIT, file);
     failed = ferror(file);
     if (failed)
-        fprintf(stderr, "loader: %s: %s\n", name, strerror(errno));
+        fprintf(stderr, "driver: %s: %s\n", name, strerror(errno));
     fclose(file);
     return !failed;
 }
@@ -109,12 +77,12 @@ static int read_hex(const char *text, uint32_t *into)
     size_t length;
 
     if (text == NULL) {
-        fprintf(stderr, "loader: a number is missing\n");
+        fprintf(stderr, "driver: a number is missing\n");
         return 0;
     }
     length = strlen(text);
     if (length == 0 || length > 8 || strspn(text, "0123456789abcdefABCDEF") != length) {
-        fprintf(stderr, "loader: '%s' is not a number of 1 to 8 hexadecimal digits\n", text);
+        fprintf(stderr, "driver: '%s' is not a number of 1 to 8 hexadecimal digits\n", text);
         return 0;
     }
     for (*into = 0; *text != '\0'; text++) {
@@ -130,7 +98,7 @@ static int read_up_to(uint32_t limit, const char *text, uint32_t *into)
     if (!read_hex(text, into))
         return 0;
     if (*into > limit)
-        fprintf(stderr, "loader: %s is over %X\n", text, (unsigned)limit);
+        fprintf(stderr, "driver: %s is over %X\n", text, (unsigned)limit);
     return *into <= limit;
 }
 
@@ -143,7 +111,7 @@ static int write_file(const char *name, const struct bytes *from)
     if (file != NULL && fclose(file) != 0)
         failed = 1;
     if (failed)
-        fprintf(stderr, "loader: %s: %s\n", name, strerror(errno));
+        fprintf(stderr, "driver: %s: %s\n", name, strerror(errno));
     return !failed;
 }
 
@@ -161,52 +129,52 @@ static int lend(const char *length, struct bytes *buffer)
 
 static int refused(uint32_t number)
 {
-    printf("refused: %u %s\n", (unsigned)number, word(number));
+    printf("refused: %u %s\n", (unsigned)number, m7700_refusal_word(number));
     return REFUSED;
 }
 
 static int write_list(char **arguments)
 {
     uint32_t base, reset;
-    uint64_t result;
+    m7700_list_written written;
 
     if (!read_file(arguments[0], &marks) || !read_hex(arguments[1], &base) ||
         !read_hex(arguments[2], &reset) || !lend(arguments[3], &list))
         return UNREAD;
-    result = m7700_write_list(marks.at, marks.length, base, reset, list.at, list.length);
+    written = m7700_write_mark_list(marks.at, marks.length, base, reset, list.at, list.length);
     if (!write_file(arguments[4], &list))
         return UNREAD;
-    if (M7700_LIST_NUMBER(result) != 0)
-        return refused(M7700_LIST_NUMBER(result));
-    printf("written: %u bytes\n", (unsigned)M7700_LIST_LENGTH(result));
+    if (written.refusal != 0)
+        return refused(written.refusal);
+    printf("written: %zu bytes\n", written.length);
     return ACCEPTED;
 }
 
 static int read_list(char **arguments)
 {
-    uint64_t result;
+    m7700_list_read read;
 
     if (!read_file(arguments[0], &list) || !lend(arguments[1], &marks))
         return UNREAD;
-    result = m7700_read_list(list.at, list.length, marks.at, marks.length);
+    read = m7700_read_mark_list(list.at, list.length, marks.at, marks.length);
     if (!write_file(arguments[2], &marks))
         return UNREAD;
-    if (M7700_LIST_NUMBER(result) != 0)
-        return refused(M7700_LIST_NUMBER(result));
-    printf("read: base %06X, reset %04X\n", (unsigned)M7700_LIST_BASE(result),
-           (unsigned)M7700_LIST_RESET(result));
+    if (read.refusal != 0)
+        return refused(read.refusal);
+    printf("read: base %06X, reset %04X\n", (unsigned)read.base, (unsigned)read.reset);
     return ACCEPTED;
 }
 
 /* Checks the image against its marks; prints why it is refused. */
 static int is_accepted(uint32_t base, uint32_t reset)
 {
-    uint32_t result = m7700_check(image.at, image.length, marks.at, marks.length, base, reset);
+    m7700_verdict verdict = m7700_check_image(image.at, image.length, marks.at, marks.length, base,
+                                              reset);
 
-    if (result != M7700_ACCEPTED)
-        printf("refused: %u %s, offset %u\n", (unsigned)M7700_NUMBER(result),
-               word(M7700_NUMBER(result)), (unsigned)M7700_OFFSET(result));
-    return result == M7700_ACCEPTED;
+    if (verdict.refusal != 0)
+        printf("refused: %u %s, offset %u\n", (unsigned)verdict.refusal,
+               m7700_refusal_word(verdict.refusal), (unsigned)verdict.offset);
+    return verdict.refusal == 0;
 }
 
 static int check(char **arguments)
@@ -239,9 +207,9 @@ static void make_state(uint32_t start, uint32_t s)
 {
     state.length = M7700_STATE_BYTES;
     memset(state.at, 0, M7700_STATE_BYTES);
-    put_word(M7700_STATE_S, s);
-    put_word(M7700_STATE_PC, start);
-    state.at[M7700_STATE_PG] = (uint8_t)(start >> 16);
+    put_word(M7700_AT_S, s);
+    put_word(M7700_AT_PC, start);
+    state.at[M7700_AT_PG] = (uint8_t)(start >> 16);
 }
 
 /* Puts a byte into the state; 0 if it can't. */
@@ -290,7 +258,7 @@ static int take_option(char **option, struct plan *plan)
         return read_range(&ram, values, &plan->ram_from, &plan->ram_count) ? 3 : 0;
     if (strcmp(option[0], "--state") == 0)
         return read_range(&state, values, &plan->state_from, &plan->state_count) ? 3 : 0;
-    fprintf(stderr, "loader: no option '%s'\n", option[0]);
+    fprintf(stderr, "driver: no option '%s'\n", option[0]);
     return 0;
 }
 
@@ -316,18 +284,18 @@ static int read_plan(char **arguments, struct plan *plan)
 }
 
 /* Prints what a run answered and the registers that it left. */
-static void print_run(uint64_t result)
+static void print_run(m7700_run_result result)
 {
-    uint32_t refusal = M7700_RUN_REFUSAL(result);
-    uint32_t number = refusal != 0 ? refusal : M7700_RUN_END(result);
-
-    printf("%s: %u %s, steps %u, calls %u", refusal != 0 ? "refused" : "ended", (unsigned)number,
-           word(number), (unsigned)M7700_RUN_STEPS(result), (unsigned)M7700_RUN_CALLS(result));
-    printf(", A=%04X B=%04X X=%04X Y=%04X", get_word(M7700_STATE_A), get_word(M7700_STATE_B),
-           get_word(M7700_STATE_X), get_word(M7700_STATE_Y));
-    printf(" S=%04X PC=%04X PG=%02X DT=%02X", get_word(M7700_STATE_S), get_word(M7700_STATE_PC),
-           (unsigned)state.at[M7700_STATE_PG], (unsigned)state.at[M7700_STATE_DT]);
-    printf(" DPR=%04X PS=%04X\n", get_word(M7700_STATE_DPR), get_word(M7700_STATE_PS));
+    if (result.refusal != 0)
+        printf("refused: %u %s", (unsigned)result.refusal, m7700_refusal_word(result.refusal));
+    else
+        printf("ended: %u %s", (unsigned)result.end, m7700_stop_word(result.end));
+    printf(", steps %u, calls %u", (unsigned)result.steps, (unsigned)result.calls);
+    printf(", A=%04X B=%04X X=%04X Y=%04X", get_word(M7700_AT_A), get_word(M7700_AT_B),
+           get_word(M7700_AT_X), get_word(M7700_AT_Y));
+    printf(" S=%04X PC=%04X PG=%02X DT=%02X", get_word(M7700_AT_S), get_word(M7700_AT_PC),
+           (unsigned)state.at[M7700_AT_PG], (unsigned)state.at[M7700_AT_DT]);
+    printf(" DPR=%04X PS=%04X\n", get_word(M7700_AT_DPR), get_word(M7700_AT_PS));
 }
 
 /* Prints so many bytes of a buffer, if there are any to print. */
@@ -344,34 +312,34 @@ static void print_bytes(const char *name, const struct bytes *from, uint32_t at,
 }
 
 /* All steps in one run. */
-static uint64_t run(const struct plan *plan)
+static m7700_run_result run(const struct plan *plan)
 {
-    uint64_t result = m7700_run(image.at, image.length, plan->base, state.at, state.length,
-                                ram.at, ram.length, plan->steps);
+    m7700_run_result result = m7700_run_image(image.at, image.length, plan->base, state.at,
+                                              state.length, ram.at, ram.length, plan->steps);
 
     print_run(result);
     return result;
 }
 
 /* One step after the other, until one is refused or stops. */
-static uint64_t trace(const struct plan *plan)
+static m7700_run_result trace(const struct plan *plan)
 {
-    uint64_t result = 0;
+    m7700_run_result result = {0, M7700_DONE, 0, 0};
     uint32_t left = plan->steps;
 
-    while (left-- > 0 && M7700_RUN_REFUSAL(result) == 0 && M7700_RUN_END(result) == M7700_DONE) {
-        result = m7700_step(image.at, image.length, plan->base, state.at, state.length,
-                            ram.at, ram.length);
+    while (left-- > 0 && result.refusal == 0 && result.end == M7700_DONE) {
+        result = m7700_step_image(image.at, image.length, plan->base, state.at, state.length,
+                                  ram.at, ram.length);
         print_run(result);
     }
     return result;
 }
 
 /* Checks an image and lets the machine go. */
-static int execute(char **arguments, uint64_t (*machine)(const struct plan *))
+static int execute(char **arguments, m7700_run_result (*machine)(const struct plan *))
 {
     struct plan plan = {0};
-    uint64_t result;
+    m7700_run_result result;
 
     if (!read_plan(arguments, &plan))
         return UNREAD;
@@ -380,7 +348,7 @@ static int execute(char **arguments, uint64_t (*machine)(const struct plan *))
     result = machine(&plan);
     print_bytes("RAM", &ram, plan.ram_from, plan.ram_count);
     print_bytes("state", &state, plan.state_from, plan.state_count);
-    return M7700_RUN_REFUSAL(result) != 0 ? REFUSED : ACCEPTED;
+    return result.refusal != 0 ? REFUSED : ACCEPTED;
 }
 
 int main(int argc, char **argv)
@@ -395,10 +363,10 @@ int main(int argc, char **argv)
         return execute(argv + 2, trace);
     if (argc == 5)
         return check(argv + 1);
-    fprintf(stderr, "usage: loader IMAGE MARKS BASE RESET\n"
-                    "       loader write-list MARKS BASE RESET LENGTH LIST\n"
-                    "       loader read-list LIST LENGTH MARKS\n"
-                    "       loader run IMAGE MARKS BASE RESET START S RAM STEPS [OPTION]..\n"
-                    "       loader trace IMAGE MARKS BASE RESET START S RAM STEPS [OPTION]..\n");
+    fprintf(stderr, "usage: driver IMAGE MARKS BASE RESET\n"
+                    "       driver write-list MARKS BASE RESET LENGTH LIST\n"
+                    "       driver read-list LIST LENGTH MARKS\n"
+                    "       driver run IMAGE MARKS BASE RESET START S RAM STEPS [OPTION]..\n"
+                    "       driver trace IMAGE MARKS BASE RESET START S RAM STEPS [OPTION]..\n");
     return UNREAD;
 }
