@@ -3,7 +3,7 @@
 -- and `demand-3` of proofs/Demands.antt.
 --
 -- A call is what it is given, its result and what it leaves, with its function's contract (Calls.antt): `holds` is
--- what a buffer holds when it is given, `..-left` what it holds after the call. The numbers that the macros of
+-- what a buffer holds when it is given, `..-left` what it holds after the call. The numbers that the functions of
 -- m7700.h take out of a result are `checkNumbers`, `readNumbers`, `writtenNumbers` and, of a run, `numbers`
 -- (packing/specs/Packed.antt). Every other notion is document 01's, in model/specs: `Accepts` (Rules), what a number
 -- means, `Breaks` (Meaning), which texts are mark lists, `IsMarkList` (ListForm), the answers `verdict`, `readList`,

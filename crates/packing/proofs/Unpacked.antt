@@ -1,4 +1,4 @@
--- The numbers that the macros of include/m7700.h take out of a result are those of the answer that was packed: each
+-- The numbers that the functions of include/m7700.h take out of a result are those of the answer that was packed: each
 -- number is below the bound of its bits.
 -- Assumes nothing.
 use mathlib.Core.Path.{_≡_, refl}

@@ -1,4 +1,4 @@
--- The answers of the C interface as numbers: how an answer is packed into a result, and the numbers that the macros of
+-- The answers of the C interface as numbers: how an answer is packed into a result, and the numbers that the functions of
 -- include/m7700.h take out of a result. That these are the numbers of the answer: proofs/Unpacked.antt.
 -- Assumes nothing.
 use Prim.Native.Nat.{ℕ, _+_, _*_, _/_, _%_, _^_, _≤_, _<_}
@@ -33,7 +33,7 @@ abbrev pub verdictNumbers : Verdict → CheckNumbers
 verdictNumbers Accepted = record { number = 0; offset = 0 }
 verdictNumbers (Refused why offset) = record { number = refusalNumber why; offset = offset }
 
--- M7700_NUMBER, M7700_OFFSET
+-- as `m7700_check_image` takes them
 abbrev pub checkNumbers : ℕ → CheckNumbers
 checkNumbers result = record { number = result / 2 ^ 16; offset = result % 2 ^ 16 }
 
@@ -57,7 +57,7 @@ abbrev pub listReadNumbers : ListRead → ReadNumbers
 listReadNumbers (NotRead why) = record { number = refusalNumber why; base = 0; reset = 0 }
 listReadNumbers (Read h) = record { number = 0; base = h .base; reset = h .reset }
 
--- M7700_LIST_NUMBER, M7700_LIST_BASE, M7700_LIST_RESET
+-- as `m7700_read_mark_list` takes them
 abbrev pub readNumbers : ℕ → ReadNumbers
 readNumbers result = record {
   number = result % 2 ^ 8;
@@ -83,7 +83,7 @@ abbrev pub listWrittenNumbers : ListWritten → WrittenNumbers
 listWrittenNumbers (NotWritten why) = record { number = refusalNumber why; length = 0 }
 listWrittenNumbers (Written n) = record { number = 0; length = n }
 
--- M7700_LIST_NUMBER, M7700_LIST_LENGTH
+-- as `m7700_write_mark_list` takes them
 abbrev pub writtenNumbers : ℕ → WrittenNumbers
 writtenNumbers result = record { number = result % 2 ^ 8; length = result / 2 ^ 8 }
 
@@ -108,7 +108,7 @@ abbrev pub answerNumbers : RunAnswer → RunNumbers
 answerNumbers (NotRun why) = record { refusal = refusalNumber why; end = 0; steps = 0; calls = 0 }
 answerNumbers (Ended end steps calls) = record { refusal = 0; end = endNumber end; steps = steps; calls = calls }
 
--- M7700_RUN_REFUSAL, M7700_RUN_END, M7700_RUN_STEPS, M7700_RUN_CALLS
+-- as `m7700_unpacked_run` takes them
 abbrev pub runNumbers : ℕ → RunNumbers
 runNumbers result = record {
   refusal = result % 2 ^ 8;
