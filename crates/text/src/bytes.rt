@@ -2,11 +2,18 @@
 ghost use mathlib.Core.Path.{_≡_};
 ghost use mathlib.Core.List.{_∷_, _++_};
 ghost use Prim.Native.Nat.{_≤_, _<_};
-ghost use lib.ListN.{length, drop};
+ghost use lib.ListN.{length, getD, drop};
 ghost use Rattle.text.specs.Text.{startsWith};
+
+// The byte at a place, 0 past the end.
+pub fn byte_at(bytes: &[u8], at: usize) -> u8
+    ensures { λ r. ⌜ r ≡ getD (now (bytes .entry)) at 0 ⌝ }
+{
+    if at < bytes.len() { bytes[at] } else { 0 }
+}
 
 // A text begins with these bytes.
-pub(crate) fn starts_with(text: &[u8], bytes: &[u8]) -> bool
+pub fn starts_with(text: &[u8], bytes: &[u8]) -> bool
     ensures { λ r. ⌜ r ≡ startsWith (now (bytes .entry)) (now (text .entry)) ⌝ }
 {
     if text.len() < bytes.len() {
@@ -30,8 +37,8 @@ pub(crate) fn put_byte(page: &mut [u8], byte: u8)
     page[0] = byte;
 }
 
-// Writes bytes at the front of a page.
-pub(crate) fn put_bytes(page: &mut [u8], bytes: &[u8])
+// Writes bytes at the front of a page. It asks for room, so that no byte is left out.
+pub fn put_bytes(page: &mut [u8], bytes: &[u8])
     requires { ⌜ length (now bytes) ≤ length (now page) ⌝ }
     ensures { λ _. ⌜ now (page .exit) ≡ now (bytes .entry) ++ drop (length (now (bytes .entry))) (now (page .entry)) ⌝ }
 {

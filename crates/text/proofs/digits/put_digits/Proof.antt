@@ -6,11 +6,11 @@ use Prim.Native.Nat.{_≤_}
 use native.Mathlib.Nat.{mod-lt}
 use native.Mathlib.Omega.{arith}
 use lib.ListN.{length, drop, length-set}
 use Rattle.text.specs.Digits as spec
-use Rattle.marklist.proofs.Texts.{put-digit, none-left}
+use Rattle.text.proofs.Turns.{put-digit, none-left}
 use borrow.Author.Needs.{needs}
-use Rattle.marklist.proofs.digits.put_digits.Statement.{statement}
-use Rattle.marklist.proofs.digits.put_digits.Tie as tie
+use Rattle.text.proofs.digits.put_digits.Statement.{statement}
+use Rattle.text.proofs.digits.put_digits.Tie as tie
 
 abbrev Inv-loop : tie.InvT-loop
 Inv-loop page₀ radix count n rest₀ i₀ page rest i = (i ≤ length page) × (length page ≡ length page₀)

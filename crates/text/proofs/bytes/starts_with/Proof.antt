@@ -5,11 +5,11 @@ use Prim.Native.Nat.{_-_, _≤_}
 use native.Mathlib.Omega.{arith}
 use borrow.Author.Tests.{eq-eqb, ne-eqb}
 use lib.ListN.{length, drop, getD}
 use Rattle.text.specs.Text.{startsWith}
-use Rattle.marklist.proofs.Texts.{starts-short, starts-next, starts-all}
+use Rattle.text.proofs.Turns.{starts-short, starts-next, starts-all}
 use borrow.Author.Needs.{needs}
-use Rattle.marklist.proofs.text.starts_with.Statement.{statement}
-use Rattle.marklist.proofs.text.starts_with.Tie as tie
+use Rattle.text.proofs.bytes.starts_with.Statement.{statement}
+use Rattle.text.proofs.bytes.starts_with.Tie as tie
 
 abbrev Inv-loop : tie.InvT-loop
 Inv-loop text bytes i₀ i = (i ≤ length bytes) × (startsWith bytes text ≡ startsWith (drop i bytes) (drop i text))

@@ -5,10 +5,10 @@ use mathlib.Core.List.{_++_}
 use Prim.Native.Nat.{_-_, _≤_}
 use native.Mathlib.Omega.{arith}
 use lib.ListN.{length, take, drop, getD, set, length-set}
-use Rattle.marklist.proofs.Texts.{put-next, put-all}
+use Rattle.text.proofs.Turns.{put-next, put-all}
 use borrow.Author.Needs.{needs}
-use Rattle.marklist.proofs.text.put_bytes.Statement.{statement}
-use Rattle.marklist.proofs.text.put_bytes.Tie as tie
+use Rattle.text.proofs.bytes.put_bytes.Statement.{statement}
+use Rattle.text.proofs.bytes.put_bytes.Tie as tie
 
 abbrev Inv-loop : tie.InvT-loop
 Inv-loop page₀ bytes i₀ page i =

@@ -3,15 +3,16 @@
 use mathlib.Core.Path.{_≡_, refl, sym, _∙_}
 use native.Mathlib.Nat.{mod-lt}
 use native.Mathlib.Omega.{arith}
 use Rattle.text.specs.Digits as spec
-use Rattle.marklist.proofs.Texts.{other-digit, same-digit, none-other}
+use Rattle.text.specs.Text.{startsWith}
+use Rattle.text.proofs.Turns.{other-digit, same-digit, none-other}
 use borrow.Author.Needs.{needs}
-use Rattle.marklist.proofs.digits.shows_digits.Statement.{statement}
-use Rattle.marklist.proofs.digits.shows_digits.Tie as tie
+use Rattle.text.proofs.digits.shows_digits.Statement.{statement}
+use Rattle.text.proofs.digits.shows_digits.Tie as tie
 
 abbrev Inv-loop : tie.InvT-loop
 Inv-loop text radix count n rest₀ i₀ rest i =
-    spec.startsWith (spec.digits radix count n) text ≡ spec.startsWith (spec.digits radix i rest) text
+    startsWith (spec.digits radix count n) text ≡ startsWith (spec.digits radix i rest) text
 
 abbrev μ-loop : tie.MeasureT-loop
 μ-loop text radix count n rest₀ i₀ rest i = i

@@ -4,10 +4,10 @@ use Prim.Native.Nat.{_-_, _≤_}
 use native.Mathlib.Omega.{arith}
 use lib.ListN.{drop}
 use lib.Seq.{getD-drop}
-use Rattle.marklist.proofs.Texts.{Shown, none-shown, room-for-one, one-more-shown, all-shown}
+use Rattle.text.proofs.Turns.{Shown, none-shown, room-for-one, one-more-shown, all-shown}
 use borrow.Author.Needs.{needs}
-use Rattle.marklist.proofs.digits.number.Statement.{statement}
-use Rattle.marklist.proofs.digits.number.Tie as tie
+use Rattle.text.proofs.digits.number.Statement.{statement}
+use Rattle.text.proofs.digits.number.Tie as tie
 
 abbrev Inv-loop : tie.InvT-loop
 Inv-loop text at radix count value₀ i₀ value i = (i ≤ count) × Shown radix (drop at text) i value

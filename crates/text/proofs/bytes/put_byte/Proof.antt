@@ -1,9 +1,9 @@
 -- One store.
 -- Assumes nothing.
-use Rattle.marklist.proofs.Texts.{put-first}
+use Rattle.text.proofs.Turns.{put-first}
 use borrow.Author.Needs.{needs}
-use Rattle.marklist.proofs.text.put_byte.Statement.{statement}
-use Rattle.marklist.proofs.text.put_byte.Tie as tie
+use Rattle.text.proofs.bytes.put_byte.Statement.{statement}
+use Rattle.text.proofs.bytes.put_byte.Tie as tie
 
 returns : tie.Need-returns
 returns c = put-first (c .args .page .now) (c .args .byte) (c .pre)

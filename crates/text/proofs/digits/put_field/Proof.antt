@@ -2,13 +2,13 @@
 -- Assumes nothing.
 use mathlib.Core.List.{[], _∷_}
 use mathlib.Core.Path.{refl}
 use Rattle.text.specs.Digits.{digits}
-use Rattle.text.proofs.Digits.{length-digits}
+use Rattle.text.proofs.DigitLaws.{length-digits}
 use native.Mathlib.Omega.{arith}
-use Rattle.marklist.proofs.Pages.{Front, front-next}
+use Rattle.text.proofs.Pages.{Front, front-next}
 use borrow.Author.Needs.{needs}
-use Rattle.marklist.proofs.header.put_field.Statement.{statement}
-use Rattle.marklist.proofs.header.put_field.Tie as tie
+use Rattle.text.proofs.digits.put_field.Statement.{statement}
+use Rattle.text.proofs.digits.put_field.Tie as tie
 
 returns : tie.Need-returns
 returns c =

@@ -1,11 +1,11 @@
 -- A page that is filled from its front on: so many bytes are written, and behind them it is as given. What a part of
 -- it that was lent got in front comes behind what was written before.
 -- Assumes nothing.
-use mathlib.Core.Path.{_≡_, sym, ap, _∙_}
-use mathlib.Core.List.{List, [], _++_, append-assoc, append-nil}
+use mathlib.Core.Path.{_≡_, refl, sym, ap, _∙_}
+use mathlib.Core.List.{List, [], _∷_, _++_, append-assoc, append-nil}
 use Prim.Native.Nat.{ℕ, _+_, _-_, _≤_}
 use native.Mathlib.Omega.{arith}
-use lib.ListN.{length, take, drop, length-append, length-drop, drop-of-length-le}
+use lib.ListN.{length, take, drop, set, length-append, length-drop, drop-of-length-le}
 use lib.Seq.{drop-drop, take-at, drop-at, take-all}
 use borrow.Rule.Slice.PartMut.{putMid}
 
@@ -58,3 +58,12 @@ part-room {given} {n} {written} {page} k f room =
 pub front-at : {given : List ℕ} {n : ℕ} {written page : List ℕ} (m : ℕ) → n ≡ m → Front given n written page
     → Front given m written page
 front-at m e f = rw e at f
+
+-- two bytes put in front
+pub two-front : (page : List ℕ) (a b : ℕ) → 2 ≤ length page → Front page 2 (a ∷ b ∷ []) (set (set page 0 a) 1 b)
+two-front page a b room = record { same = put page room; long = refl; room = room }
+  where
+    put : (page : List ℕ) → 2 ≤ length page → set (set page 0 a) 1 b ≡ a ∷ b ∷ drop 2 page
+    put [] some = absurd (omega arith)
+    put (p ∷ []) some = absurd (omega arith)
+    put (p ∷ q ∷ page) some = refl

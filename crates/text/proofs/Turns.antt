@@ -1,21 +1,22 @@
--- One turn of each loop over bytes: a digit read, compared or written, a byte compared or written.
+-- One turn of each loop over bytes: a digit read, compared, counted or written, a byte compared or written.
 -- Assumes nothing.
 use mathlib.Core.Path.{_≡_, refl, sym, _∙_}
 use mathlib.Core.Bool.{Bool, true, false, _&&_}
 use mathlib.Core.List.{List, [], _∷_, _++_}
 use Prim.Native.Nat.{ℕ, zero, suc, _+_, _-_, _*_, _/_, _%_, _^_, _≤_, _<_}
 use native.Mathlib.Nat.{add-zero, pow-suc, pow-zero, pow-le-pow-right, mul-le-mul-right}
-use native.Mathlib.Numerals.{add-one}
+use native.Mathlib.Numerals.{add-one, unary-clauses}
 use native.Mathlib.Omega.{arith}
-use borrow.Author.Tests.{ne-eqb, eq-eqb}
-use lib.Dec.{eqb}
+use borrow.Author.Tests.{ne-eqb, eq-eqb, lt-ltb, le-ltb}
+use lib.Dec.{eqb, ltb}
 use lib.ListN.{length, getD, take, drop, set, length-set}
 use lib.Seq.{drop-cons, take-suc, take-length, drop-length, drop-set-lt, getD-set-same, getD-drop, set-at}
 use lib.Seq.{length-take-le, append-snoc}
-use Rattle.text.specs.Digits.{digit, digits, digitValue, value}
+use Rattle.prelude.specs.Choice.{pick}
+use Rattle.text.specs.Digits.{digit, digits, digitValue, value, digitCount}
 use Rattle.text.specs.Text.{startsWith}
-use Rattle.text.proofs.Digits.{digit-high, length-digits, last-digit}
+use Rattle.text.proofs.DigitLaws.{digit-high, length-digits, last-digit}
 use Rattle.text.proofs.Text.{starts-long, starts-join}
 
 and-true : (b : Bool) → (b && true) ≡ b
 and-true true = refl
@@ -170,3 +171,39 @@ pub all-shown : (radix i count v : ℕ) (text : List ℕ) → i ≤ count → co
 all-shown radix i count v text most least s =
     let end : i ≡ count = omega arith in
     rw end at (s .0)
+
+-- ---- digits counted from the last on
+
+-- i digits are counted, and those of the rest come to them
+pub record Counted (radix most n i rest : ℕ) : Type 0 where
+  pub few : i ≤ most
+  pub same : digitCount radix most n ≡ i + digitCount radix (most - i) rest
+
+pub none-counted : (radix most n : ℕ) → Counted radix most n 0 n
+none-counted radix most n = record { few = omega arith; same = simp unary-clauses (omega arith) }
+
+-- with one more, for either answer to whether the rest has one digit
+one-counted : (radix most n i rest : ℕ) (b : Bool) → i < most → ltb rest radix ≡ b → Counted radix most n i rest
+    → digitCount radix most n ≡ i + pick b 1 (suc (digitCount radix (most - (i + 1)) (rest / radix)))
+unfolding digitCount
+one-counted radix most n i rest b inside e c =
+    let left : most - i ≡ suc (most - (i + 1)) = omega arith in
+    rw (left, e) at (c .same)
+
+pub last-counted : (radix most n i rest : ℕ) → i < most → rest < radix → Counted radix most n i rest
+    → i + 1 ≡ digitCount radix most n
+last-counted radix most n i rest inside small c =
+    sym (one-counted radix most n i rest true inside (lt-ltb rest radix small) c)
+
+pub more-counted : (radix most n i rest : ℕ) → i < most → radix ≤ rest → Counted radix most n i rest
+    → Counted radix most n (i + 1) (rest / radix)
+more-counted radix most n i rest inside large c = record {
+  few = omega arith;
+  same = one-counted radix most n i rest false inside (le-ltb rest radix large) c ∙ omega arith;
+}
+
+pub all-counted : (radix most n i rest : ℕ) → most ≤ i → Counted radix most n i rest → i ≡ digitCount radix most n
+unfolding digitCount
+all-counted radix most n i rest end c =
+    let left : most - i ≡ 0 = omega arith in
+    omega (arith, rw left at (c .same))
