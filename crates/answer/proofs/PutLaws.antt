@@ -10,8 +10,8 @@ use borrow.Rule.Slice.PartMut.{putMid}
 use Rattle.text.specs.Digits.{digits}
 use Rattle.model.specs.MarkList.{tab, lineEnd, decimalDigits}
 use Rattle.model.proofs.MarkList.{decimal-most}
-use Rattle.marklist.proofs.Pages.{Front, front-next, front-inside}
-use Rattle.marklist.proofs.HeaderLaws.{length-field, two-put}
+use Rattle.text.proofs.DigitLaws.{length-field}
+use Rattle.text.proofs.Pages.{Front, front-next, front-inside, two-front}
 use Rattle.answer.specs.AnswerLine.{Put, numberField, letterField, refusedLine, unreadLine, lineLimit}
 
 pub put-front : {bytes : List ℕ} {limit n : ℕ} {given page : List ℕ} → Put bytes limit n given page
@@ -42,12 +42,9 @@ number-put n close count given page e same = record {
 abbrev pub begun : List ℕ → ℕ → ℕ → List ℕ
 begun given a b = set (set given 0 a) 1 b
 
-pub two-front : (given : List ℕ) (a b : ℕ) → 2 ≤ length given → Front given 2 (a ∷ b ∷ []) (begun given a b)
-two-front given a b room = record { same = two-put given a b room; long = refl; room = room }
-
 pub unread-put : (given : List ℕ) → 2 ≤ length given → Put unreadLine 2 2 given (begun given 0x4C lineEnd)
 unread-put given room =
-    record { size = refl; most = omega arith; same = two-put given 0x4C lineEnd room }
+    record { size = refl; most = omega arith; same = two-front given 0x4C lineEnd room .same }
 
 pub letter-put : (letter n close k : ℕ) (given part : List ℕ) → 8 ≤ length given
     → Put (numberField n close) 6 k (take (length (begun given letter tab) - 2) (drop 2 (begun given letter tab)))

@@ -1,20 +1,23 @@
 // The line that shows an answer.
 use crate::answers::Answer;
-use marklist::header::decimal_digits;
-use marklist::header::put_field;
 use marklist::lines::LINE_END;
 use marklist::lines::TAB;
 use model::refusals::refusal_number;
+use text::digits::digit_count;
+use text::digits::put_field;
 ghost use Prim.Native.Nat.{_≤_};
 ghost use lib.ListN.{length};
 ghost use Rattle.answer.specs.AnswerLine as spec;
+
+// No number of a line has more digits.
+const NUMBER_DIGITS: usize = 5;
 
 // Writes a number and the byte that closes it at the front of a page, and returns their length.
 fn put_number(page: &mut [u8], n: u32, close: u8) -> usize
     requires { ⌜ 6 ≤ length (now page) ⌝ }
     ensures { λ r. ⌜ spec.Put (spec.numberField n close) 6 r (now (page .entry)) (now (page .exit)) ⌝ }
 {
-    let count = decimal_digits(n);
+    let count = digit_count(10, NUMBER_DIGITS, n);
     put_field(page, 10, count, n, close);
     count + 1
 }

@@ -26,9 +26,9 @@ use Rattle.model.specs.Refusals.{firstRefusal}
 use Rattle.prelude.specs.First.{firstFrom}
 use Rattle.model.specs.Verdict.{isClear, wantsStart, allStarts, wantsMark, allMarks}
 use Rattle.model.specs.Verdict.{decodedResult, startResult, badMark, badStart, startsVerdict, verdict}
-use Rattle.text.specs.Digits.{digit, digits, digitValue, value}
+use Rattle.text.specs.Digits.{digit, digits, digitValue, value, digitCount}
 use Rattle.text.specs.Text.{startsWith}
-use Rattle.model.specs.MarkList.{decimalDigits, headerText, kindLetter, fields, lengthDigitsShown, headerShown}
+use Rattle.model.specs.MarkList.{headerText, kindLetter, fields, lengthDigitsShown, headerShown}
 use Rattle.model.specs.MarkList.{isHeader, bitShown, kindShown, fieldsMark, isLine, markShown, lineSize, marksShown}
 use Rattle.model.specs.MarkList.{linesLeft, linesText, marksOf, leftOf, isList, readAs, readList, marksBy, marksRead}
 use Rattle.prelude.specs.Choice.{bit}
@@ -55,7 +55,7 @@ computed : Unit {0}
 unfolding plain pages entryAt judged decodeOn decode isFormed lengthFits baseFits markAt resetFits
     targetOf mAfter xAfter markOfRoutine markOnReturn markAfter owedBy owedAt returnsBy returnFits firstFrom isClear
     wantsStart allStarts wantsMark allMarks decodedResult startResult badMark badStart firstRefusal
-    startsVerdict verdict digit digits digitValue value startsWith decimalDigits headerText kindLetter fields
+    startsVerdict verdict digit digits digitValue value digitCount startsWith headerText kindLetter fields
     lengthDigitsShown headerShown isHeader bitShown kindShown fieldsMark isLine markShown lineSize marksShown linesLeft
     linesText marksOf leftOf isList readAs readList marksBy marksRead byteAt servedAt operandBy dataOf effectOf
     bytesFrom operates calls returnsTo planBy step history ramFits callsFit stateFits

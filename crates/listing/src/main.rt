@@ -11,6 +11,7 @@ use model::code::Accumulator;
 use model::code::Entry;
 use model::code::Mode;
 use model::code::Operation;
+use text::digits::digit;
 ghost use mathlib.Core.Path.{_≡_};
 ghost use Prim.Native.Nat.{_<_, _≤_};
 ghost use Rattle.codepages.specs.Packing.{numbers};
@@ -19,13 +20,10 @@ fn say(text: &[u8]) {
     io::write_all(STDOUT_FILENO, text);
 }
 
-// A digit below 16, in capitals.
-fn say_digit(n: u8) {
-    if n < 10 {
-        say(&[b'0' + n]);
-    } else if n < 16 {
-        say(&[b'A' + (n - 10)]);
-    }
+fn say_digit(n: u8)
+    requires { ⌜ n < 36 ⌝ }
+{
+    say(&[digit(n)]);
 }
 
 fn say_page(page: usize) {

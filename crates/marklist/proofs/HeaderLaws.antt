@@ -1,6 +1,6 @@
 -- The first line, written field behind field, and the sums that its places need.
 -- Assumes nothing.
-use mathlib.Core.Path.{_≡_, refl, sym, ap, _∙_}
+use mathlib.Core.Path.{_≡_, sym, ap, _∙_}
 use mathlib.Core.List.{List, [], _∷_, _++_, append-assoc}
 use Prim.Native.Nat.{ℕ, _+_, _-_, _*_, _^_, _≤_}
 use native.Mathlib.Nat.{pow-le-pow-right}
@@ -12,9 +12,9 @@ use Rattle.model.specs.declared.lists.Header.{Header}
 use Rattle.text.specs.Digits.{digits}
 use Rattle.model.specs.MarkList.{tab, lineEnd, decimalDigits, headerText, lengthDigits, lengthDigitsShown, tabAt}
 use Rattle.prelude.proofs.First.{first-is}
-use Rattle.text.proofs.Digits.{length-digits}
+use Rattle.text.proofs.DigitLaws.{length-field}
+use Rattle.text.proofs.Pages.{Front, front-next, front-at, two-front}
 use Rattle.model.proofs.MarkList.{decimal-most, length-header}
-use Rattle.marklist.proofs.Pages.{Front, front-next, front-at}
 
 -- ---- a first line that is read
 
@@ -44,15 +44,6 @@ module _ (h : Header) (n : ℕ) (line rest : List ℕ) (e : n ≡ length (header
 
 -- ---- a first line that is written
 
-pub length-field : (radix count n close : ℕ) → length (digits radix count n ++ (close ∷ [])) ≡ count + 1
-length-field radix count n close =
-    length-append (digits radix count n) (close ∷ []) ∙ ap (_+ 1) (length-digits radix count n)
-
-pub two-put : (page : List ℕ) (a b : ℕ) → 2 ≤ length page → set (set page 0 a) 1 b ≡ a ∷ b ∷ drop 2 page
-two-put [] a b some = absurd (omega arith)
-two-put (p ∷ []) a b some = absurd (omega arith)
-two-put (p ∷ q ∷ page) a b some = refl
-
 -- the page after each field, from what the part that was lent got
 abbrev lettered : List ℕ → List ℕ
 lettered page = set (set page 0 0x49) 1 tab
@@ -71,15 +62,7 @@ module _ (h : Header) (page : List ℕ) (k : ℕ) (e : k ≡ decimalDigits (h .l
   header-room = omega (arith, length-header h, e)
 
   pub letter-put : Front page 2 (0x49 ∷ tab ∷ []) (lettered page)
-  letter-put =
-      record {
-        same = two-put page 0x49 tab (omega (arith, header-room));
-        long = refl;
-        room = omega (
-          arith,
-          header-room,
-        );
-      }
+  letter-put = two-front page 0x49 tab (omega (arith, header-room))
 
   module _ (a : List ℕ) (got-a : Got 16 6 (h .base) tab 2 (lettered page) a) where
     pub base-put : Front page 9 ((0x49 ∷ tab ∷ []) ++ (digits 16 6 (h .base) ++ (tab ∷ [])))

@@ -1,6 +1,4 @@
 -- The laws that the proofs of this crate share.
-pub mod Texts
-pub mod Pages
 pub mod HeaderLaws
 pub mod LineLaws
 pub mod Walks

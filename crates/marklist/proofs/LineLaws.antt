@@ -14,9 +14,9 @@ use Rattle.text.specs.Digits.{digits}
 use Rattle.text.specs.Text.{startsWith}
 use Rattle.model.specs.Image.{bankSize, isStart, isFormed}
 use Rattle.model.specs.MarkList.{fields, line, lineOf, fieldsMark, isLine, markShown, lineSize}
-use Rattle.text.proofs.Digits.{length-digits}
-use Rattle.marklist.proofs.Texts.{and-false}
-use Rattle.marklist.proofs.Pages.{Front, front-next}
+use Rattle.text.proofs.DigitLaws.{length-digits}
+use Rattle.text.proofs.Turns.{and-false}
+use Rattle.text.proofs.Pages.{Front, front-next}
 
 -- ---- a line that is written
 

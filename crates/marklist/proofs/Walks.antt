@@ -11,7 +11,7 @@ use lib.Seq.{drop-cons, drop-drop, take-at, take-suc-set, take-all, append-snoc,
 use borrow.Rule.Slice.PartMut.{putMid}
 use Rattle.model.specs.MarkList.{lineOf, lines, markShown, lineSize, marksShown, linesLeft}
 use Rattle.model.proofs.MarkList.{length-line-of, size-most, shown-line}
-use Rattle.marklist.proofs.Pages.{Front, front-next}
+use Rattle.text.proofs.Pages.{Front, front-next}
 
 -- a line that a text shows is within it
 pub shown-inside : (address : ℕ) (text : List ℕ) → lineSize (markShown address text) ≤ length text

@@ -18,7 +18,7 @@ use Rattle.model.specs.Refusals.{firstRefusal}
 use Rattle.model.specs.Verdict.{marksTests}
 use Rattle.model.specs.MarkList.{headerText, lines, listText, writeTests, writeList, pageBy, pageWritten}
 use Rattle.model.proofs.TestResults.{passes, fails, holds, goes-on}
-use Rattle.marklist.proofs.Pages.{Front, front-next}
+use Rattle.text.proofs.Pages.{Front, front-next}
 
 module _ (marks : List ℕ) (base reset : ℕ) (page : List ℕ) where
   pub refused : {why : Refusal} → Failed why ≡ firstRefusal (writeTests marks base reset page)

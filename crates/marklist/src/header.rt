@@ -1,17 +1,16 @@
 // The first line of a list: base, length and reset.
-use crate::digits::number;
-use crate::digits::put_digits;
 use crate::lines::LINE_END;
 use crate::lines::TAB;
-use crate::text::put_byte;
-use crate::text::starts_with;
-use image::byte_at;
 use model::lists::Header;
+use text::bytes::byte_at;
+use text::bytes::starts_with;
+use text::digits::digit_count;
+use text::digits::number;
+use text::digits::put_field;
 ghost use mathlib.Core.Path.{_≡_};
-ghost use mathlib.Core.List.{[], _∷_, _++_};
-ghost use Prim.Native.Nat.{_+_, _≤_, _<_};
+ghost use mathlib.Core.List.{_++_};
+ghost use Prim.Native.Nat.{_≤_};
 ghost use lib.ListN.{length, drop};
-ghost use Rattle.text.specs.Digits.{digits};
 ghost use Rattle.model.specs.MarkList as spec;
 
 const BASE_DIGITS: usize = 6;
@@ -29,37 +28,11 @@ const LENGTH_PLACE: usize = 9;
 
 const HEADER_REST: usize = 15;
 
-// How many digits a length has, without a leading zero.
-pub fn decimal_digits(n: u32) -> usize
-    ensures { λ r. ⌜ r ≡ spec.decimalDigits n ⌝ }
-{
-    if n < 10 {
-        return 1;
-    }
-    if n < 100 {
-        return 2;
-    }
-    if n < 1_000 {
-        return 3;
-    }
-    if n < 10_000 { 4 } else { LENGTH_DIGITS }
-}
-
 // How many bytes a first line has.
 pub(crate) fn header_size(h: Header) -> usize
     ensures { λ r. ⌜ r ≡ length (spec.headerText h) ⌝ }
 {
-    HEADER_REST + decimal_digits(h.length)
-}
-
-// Writes a field at the front of a page: a number's digits, and the byte that closes it.
-pub fn put_field(page: &mut [u8], radix: u32, count: usize, n: u32, close: u8)
-    requires { ⌜ (0 < radix) × (radix ≤ 16) × (count + 1 ≤ length (now page)) ⌝ }
-    ensures { λ _. ⌜ now (page .exit)
-        ≡ (digits radix count n ++ (close ∷ [])) ++ drop (count + 1) (now (page .entry)) ⌝ }
-{
-    put_digits(page, radix, count, n);
-    put_byte(&mut page[count..], close);
+    HEADER_REST + digit_count(10, LENGTH_DIGITS, h.length)
 }
 
 // Writes a first line at the front of a page.
@@ -67,7 +40,7 @@ pub(crate) fn put_header(page: &mut [u8], h: Header)
     requires { ⌜ length (spec.headerText h) ≤ length (now page) ⌝ }
     ensures { λ _. ⌜ now (page .exit) ≡ spec.headerText h ++ drop (length (spec.headerText h)) (now (page .entry)) ⌝ }
 {
-    let count = decimal_digits(h.length);
+    let count = digit_count(10, LENGTH_DIGITS, h.length);
     let reset_place = LENGTH_PLACE + count + 1;
     page[0] = b'I';
     page[1] = TAB;

@@ -1,13 +1,13 @@
 // The line of a start: its address and the fields of its mark.
-use crate::digits::digit;
-use crate::digits::put_digits;
-use crate::digits::shows_digits;
-use crate::text::put_bytes;
-use crate::text::starts_with;
-use image::byte_at;
 use image::is_formed;
 use image::is_start;
 use model::addresses::BANK_SIZE;
+use text::bytes::byte_at;
+use text::bytes::put_bytes;
+use text::bytes::starts_with;
+use text::digits::digit;
+use text::digits::put_digits;
+use text::digits::shows_digits;
 ghost use mathlib.Core.Path.{_≡_};
 ghost use mathlib.Core.List.{_++_};
 ghost use Prim.Native.Nat.{_≤_, _<_};
@@ -34,7 +34,7 @@ fn kind_letter(kind: u8) -> u8
 }
 
 // The fields of a mark, with the tab before each and the line's end.
-fn fields(mark: u8) -> [u8; 11]
+pub fn fields(mark: u8) -> [u8; 11]
     ensures { λ r. ⌜ r ≡ spec.fields mark ⌝ }
 {
     let m = digit(mark / 2 % 2);
@@ -58,14 +58,15 @@ fn fields(mark: u8) -> [u8; 11]
 }
 
 // How many bytes the line of a mark has.
-pub(crate) fn line_size(mark: u8) -> usize
+pub fn line_size(mark: u8) -> usize
     ensures { λ r. ⌜ r ≡ spec.lineSize mark ⌝ }
 {
     if is_start(mark) { LINE_SIZE } else { 0 }
 }
 
-// Writes the line of a mark at the front of a page, nothing for no start, and returns its length.
-pub(crate) fn put_line(page: &mut [u8], address: u32, mark: u8) -> usize
+// Writes the line of a mark at the front of a page, nothing for no start, and returns its length. It asks for room, so
+// that no byte is left out.
+pub fn put_line(page: &mut [u8], address: u32, mark: u8) -> usize
     requires { ⌜ spec.lineSize mark ≤ length (now page) ⌝ }
     ensures { λ r. ⌜ (r ≡ spec.lineSize mark)
         × (now (page .exit) ≡ spec.lineOf address mark ++ drop r (now (page .entry))) ⌝ }
@@ -108,7 +109,8 @@ fn fields_mark(text: &[u8]) -> u8
 }
 
 // The mark that a text shows for an address: that of the line it begins with, 0 where that is no line of this address.
-pub(crate) fn mark_shown(text: &[u8], address: u32) -> u8
+// The address of a line is the number of its first four digits.
+pub fn mark_shown(text: &[u8], address: u32) -> u8
     ensures { λ r. ⌜ r ≡ spec.markShown address (now (text .entry)) ⌝ }
 {
     if BANK_SIZE <= address {

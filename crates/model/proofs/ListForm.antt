@@ -24,7 +24,7 @@ use Rattle.model.specs.MarkList.{markShown, lineSize, linesLeft, linesTe
 use Rattle.model.specs.MarkList.{readList}
 use Rattle.model.specs.ListForm.{StartLines, IsMarkList}
 use Rattle.model.specs.ListForm.StartLines.{none, start}
-use Rattle.text.proofs.Digits.{digits-low}
+use Rattle.text.proofs.DigitLaws.{digits-low}
 use Rattle.text.proofs.Text.{starts-split, starts-append}
 use Rattle.prelude.proofs.Choice.{both-true}
 use Rattle.model.proofs.MarkList.{length-line, shown-start, line-at, own-line, other-line, no-line}

@@ -6,13 +6,12 @@ use mathlib.Core.Path.{_≡_, refl, sym, ap, _∙_}
 use mathlib.Core.Bool.{Bool, true, false, not, _&&_, _||_}
 use mathlib.Core.List.{List, [], _∷_, _++_, append-assoc}
 use mathlib.Core.Logic.{_⊎_, inl, inr}
-use Prim.Native.Nat.{ℕ, zero, suc, _+_, _*_, _/_, _%_, _^_, _≤_, _<_}
-use native.Mathlib.Nat.{eq-or-lt-of-le, le-of-suc-le-suc}
+use Prim.Native.Nat.{ℕ, zero, suc, _+_, _*_, _%_, _^_, _≤_, _<_}
 use native.Mathlib.Omega.{arith}
 use borrow.Author.Tests.{ltb-true, lt-ltb, eqb-true, eq-eqb, ne-eqb}
 use lib.Dec.{T, eqb, ltb, eqb→eq}
 use lib.ListN.{length, getD, drop, length-append, List·getD-append}
-use lib.Seq.{drop-drop, drop-append-add, drop-at, getD-at}
+use lib.Seq.{drop-drop, drop-at, getD-at}
 use Rattle.model.specs.declared.lists.Header.{Header}
 use Rattle.prelude.specs.Choice.{pick}
 use Rattle.text.specs.Digits.{digit, digits, value}
@@ -25,7 +24,7 @@ use Rattle.model.specs.MarkList.{kindShown, fieldsMark, isLine, markShow
 use Rattle.prelude.proofs.Table.{upTo, below-all}
 use Rattle.prelude.proofs.Choice.{both-true}
 use Rattle.prelude.proofs.First.{first-is, first-only}
-use Rattle.text.proofs.Digits.{digit-high, length-digits, value-digits}
+use Rattle.text.proofs.DigitLaws.{length-digits, digits-high, behind-digits, value-digits, count-most, count-enough}
 use Rattle.text.proofs.Text.{starts-split, starts-append}
 use Rattle.text.proofs.Text.{starts-long, starts-join}
 
@@ -177,7 +176,7 @@ fields-again mark rest started formed =
     small (inr s) = s .1
 
 -- an address that a text begins with is the number of its first four digits
-line-address : (address : ℕ) (text : List ℕ) → isLine address text ≡ true → value 16 4 text ≡ address
+pub line-address : (address : ℕ) (text : List ℕ) → isLine address text ≡ true → value 16 4 text ≡ address
 unfolding line
 line-address address text h =
     let l = line-at address text h in
@@ -273,54 +272,15 @@ lines-again address (mark ∷ marks) inside formed =
 
 -- ---- the first line
 
--- the length's digits are as many as the number needs
+-- the length's digits are at most five
 pub decimal-most : (n : ℕ) → decimalDigits n ≤ lengthDigits
-unfolding decimalDigits
-decimal-most n = by (ltb n 10) (ltb n 100) (ltb n 1_000) (ltb n 10_000)
-  where
-    by : (a b c d : Bool) → pick a 1 (pick b 2 (pick c 3 (pick d 4 lengthDigits))) ≤ lengthDigits
-    by true b c d = omega arith
-    by false true c d = omega arith
-    by false false true d = omega arith
-    by false false false true = omega arith
-    by false false false false = omega arith
-
-decimal-enough : (n : ℕ) → n < lengthLimit → n < 10 ^ decimalDigits n
-unfolding decimalDigits
-decimal-enough n small = by (ltb n 10) (ltb n 100) (ltb n 1_000) (ltb n 10_000) refl refl refl refl
-  where
-    by : (a b c d : Bool) → ltb n 10 ≡ a → ltb n 100 ≡ b → ltb n 1_000 ≡ c → ltb n 10_000 ≡ d
-        → n < 10 ^ pick a 1 (pick b 2 (pick c 3 (pick d 4 lengthDigits)))
-    by true b c d ea eb ec ed = ltb-true n 10 ea
-    by false true c d ea eb ec ed = ltb-true n 100 eb
-    by false false true d ea eb ec ed = ltb-true n 1_000 ec
-    by false false false true ea eb ec ed = ltb-true n 10_000 ed
-    by false false false false ea eb ec ed = small
+decimal-most n = count-most 10 lengthDigits n
 
 pub length-header : (h : Header) → length (headerText h) ≡ 15 + decimalDigits (h .length)
 unfolding headerText
 length-header h = simp (length-append, length-digits) (omega arith)
 
--- no digit is a tab
-digits-high : (radix count n i : ℕ) → i < count → 0x30 ≤ getD (digits radix count n) i 0
-unfolding digits
-digits-high radix zero n i inside = absurd (omega arith)
-digits-high radix (suc count) n i inside = by (eq-or-lt-of-le (le-of-suc-le-suc inside))
-    (λ below. digits-high radix count (n / radix) i below)
-  where
-    front : List ℕ
-    front = digits radix count (n / radix)
-
-    by : (i ≡ count) ⊎ (i < count) → (i < count → 0x30 ≤ getD front i 0)
-        → 0x30 ≤ getD (front ++ (digit (n % radix) ∷ [])) i 0
-    by (inl e) earlier =
-        rw (e, getD-at front (digit (n % radix)) [] 0 count (length-digits radix count (n / radix))) (digit-high (n %
-        radix))
-    by (inr below) earlier =
-        rw (List·getD-append front (digit (n % radix) ∷ []) 0 i (omega (arith, length-digits radix count (n / radix))))
-        (earlier below)
-
--- the tab behind the length's digits is the first
+-- the tab behind the length's digits is the first, since no digit is one
 first-tab : (count n : ℕ) (rest : List ℕ) → count ≤ lengthDigits
     → firstFrom (tabAt (digits 10 count n ++ (tab ∷ rest))) 0 lengthDigits ≡ count
 first-tab count n rest few =
@@ -339,11 +299,6 @@ first-tab count n rest few =
       found = λ _. eq-eqb (getD text count 0) tab here;
     })
 
--- behind digits
-behind-digits : (radix count n k : ℕ) (rest : List ℕ) → drop (count + k) (digits radix count n ++ rest) ≡ drop k rest
-behind-digits radix count n k rest =
-    rw (length-digits radix count n) at (drop-append-add (digits radix count n) rest k)
-
 -- a first line shows its fields, whatever follows
 pub header-again : (h : Header) (rest : List ℕ) → h .base < 16 ^ 6 → h .length < lengthLimit → h .reset < 16 ^ 4
     → headerShown (headerText h ++ rest) ≡ h
@@ -356,7 +311,7 @@ header-again h rest based long reset =
       at-reset,
       value-digits 16 6 (h .base) after-base (omega arith) based,
       value-digits 10 k (h .length)
-          after-length (omega arith) (decimal-enough (h .length) long),
+          after-length (omega arith) (count-enough 10 lengthDigits (h .length) (omega arith) long),
       value-digits 16 4 (h .reset) (lineEnd ∷ rest) (omega arith) reset,
     )
   where

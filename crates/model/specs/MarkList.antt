@@ -13,7 +13,7 @@ use Rattle.model.specs.declared.lists.ListRead.the-variants.{NotRead, Re
 use Rattle.model.specs.declared.lists.ListWritten.{ListWritten}
 use Rattle.model.specs.declared.lists.ListWritten.the-variants.{NotWritten, Written}
 use Rattle.prelude.specs.Choice.{pick}
-use Rattle.text.specs.Digits.{digit, digits, value}
+use Rattle.text.specs.Digits.{digit, digits, value, digitCount}
 use Rattle.text.specs.Text.{startsWith}
 use Rattle.model.specs.Image.{bankSize, isStart, markM, markX, markKind, returnM, returnX, markOf, isFormed}
 use Rattle.model.specs.Image.{resetFits}
@@ -35,8 +35,8 @@ lengthDigits = 5
 abbrev pub lengthLimit : ℕ
 lengthLimit = 100_000
 
-unfoldable pub decimalDigits : ℕ → ℕ
-decimalDigits n = pick (ltb n 10) 1 (pick (ltb n 100) 2 (pick (ltb n 1_000) 3 (pick (ltb n 10_000) 4 lengthDigits)))
+abbrev pub decimalDigits : ℕ → ℕ
+decimalDigits n = digitCount 10 lengthDigits n
 
 -- 'First line: I, base (six hex digits), image length (decimal, no leading zero), reset (four hex digits).'
 unfoldable pub headerText : Header → List ℕ

@@ -1,3 +1,5 @@
--- The laws of texts and digits.
+-- The laws of texts, digits and pages, and of one turn of each loop over them.
 pub mod Text
-pub mod Digits
+pub mod DigitLaws
+pub mod Pages
+pub mod Turns

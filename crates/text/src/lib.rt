@@ -1,1 +1,3 @@
 // Bytes at the front of a text or a page, and numbers as digits.
+pub mod bytes;
+pub mod digits;

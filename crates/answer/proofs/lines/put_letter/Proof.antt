@@ -1,7 +1,7 @@
 -- Two bytes are in front, the number behind them.
 -- Assumes nothing.
-use Rattle.answer.proofs.PutLaws.{two-front, letter-put, put-front}
-use Rattle.marklist.proofs.Pages.{front-inside, front-length, part-room}
+use Rattle.answer.proofs.PutLaws.{letter-put, put-front}
+use Rattle.text.proofs.Pages.{front-inside, front-length, part-room, two-front}
 use Rattle.model.specs.MarkList.{tab}
 use lib.ListN.{length-set}
 use native.Mathlib.Omega.{arith}

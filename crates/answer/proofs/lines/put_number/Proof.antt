@@ -12,9 +12,9 @@ use Rattle.answer.proofs.lines.put_number.Tie as tie
 put-field-requires : tie.Need-put-field-requires
 put-field-requires c κs =
     let start = c .before .before .before in
-    let room : c .before .decimal-digits .result + 1 ≤ length (start .args .page .now) = omega (
+    let room : c .before .digit-count .result + 1 ≤ length (start .args .page .now) = omega (
       arith,
-      c .before .decimal-digits .ensures,
+      c .before .digit-count .ensures,
       decimal-most (start .args .n),
       start .pre,
     ) in (omega arith, omega arith, room)
@@ -23,7 +23,7 @@ add-result : tie.Need-add-result
 add-result c =
     omega (
       arith,
-      c .before .before .before .before .decimal-digits .ensures,
+      c .before .before .before .before .digit-count .ensures,
       decimal-most
           (c .before .before .before .before .before .before .args .n),
     )
@@ -31,9 +31,9 @@ add-result c =
 returns : tie.Need-returns
 returns c =
     let start = c .before .before .before .before .before .before in
-    number-put (start .args .n) (start .args .close) (c .before .before .before .before .decimal-digits .result)
+    number-put (start .args .n) (start .args .close) (c .before .before .before .before .digit-count .result)
     (start .args .page .now) (c .before .before .put-field .last .0)
-    (c .before .before .before .before .decimal-digits .ensures) (c .before .before .put-field .ensures)
+    (c .before .before .before .before .digit-count .ensures) (c .before .before .put-field .ensures)
 
 pub put-number-spec : {M : Type 1} → statement M
 put-number-spec =

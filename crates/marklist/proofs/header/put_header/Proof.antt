@@ -3,7 +3,7 @@
 use native.Mathlib.Omega.{arith}
 use lib.ListN.{length, length-set}
 use Rattle.model.proofs.MarkList.{decimal-most}
-use Rattle.marklist.proofs.Pages.{front-length, front-inside, part-room}
+use Rattle.text.proofs.Pages.{front-length, front-inside, part-room}
 use Prim.Native.Nat.{_+_, _≤_}
 use Rattle.marklist.proofs.HeaderLaws.{header-room, letter-put, base-put, length-put, reset-put, header-put}
 use borrow.Author.Needs.{needs}
@@ -11,18 +11,18 @@ use Rattle.marklist.proofs.header.put_header.Statement.{statement}
 use Rattle.marklist.proofs.header.put_header.Tie as tie
 
 add-reset-place : tie.Need-add-reset-place
-add-reset-place c = omega (arith, c .decimal-digits .ensures, decimal-most (c .before .before .args .h .length))
+add-reset-place c = omega (arith, c .digit-count .ensures, decimal-most (c .before .before .args .h .length))
 
 add-reset-place-2 : tie.Need-add-reset-place-2
-add-reset-place-2 c = omega (arith, c .decimal-digits .ensures, decimal-most (c .before .before .args .h .length))
+add-reset-place-2 c = omega (arith, c .digit-count .ensures, decimal-most (c .before .before .args .h .length))
 
-module _ (c : tie.After-decimal-digits) where
+module _ (c : tie.After-digit-count) where
   abbrev start : tie.Start
   start = c .before .before
 
-  room : 15 + c .decimal-digits .result ≤ length (start .args .page .now)
+  room : 15 + c .digit-count .result ≤ length (start .args .page .now)
   room =
-      header-room (start .args .h) (start .args .page .now) (c .decimal-digits .result) (c .decimal-digits .ensures)
+      header-room (start .args .h) (start .args .page .now) (c .digit-count .result) (c .digit-count .ensures)
       (start .pre)
 
 slice-write-page : tie.Need-slice-write-page
@@ -34,7 +34,7 @@ slice-write-page-2 c = simp length-set (omega (arith, room c))
 sub-put-field : tie.Need-sub-put-field
 sub-put-field c =
     let args = start c .args in
-    front-inside (letter-put (args .h) (args .page .now) (c .decimal-digits .result) (c .decimal-digits .ensures)
+    front-inside (letter-put (args .h) (args .page .now) (c .digit-count .result) (c .digit-count .ensures)
     (start c .pre))
 
 put-field-requires : tie.Need-put-field-requires
@@ -42,7 +42,7 @@ put-field-requires c κs =
     let digits = c .before in
     let args = start digits .args in
     let front =
-    letter-put (args .h) (args .page .now) (digits .decimal-digits .result) (digits .decimal-digits .ensures)
+    letter-put (args .h) (args .page .now) (digits .digit-count .result) (digits .digit-count .ensures)
     (start digits .pre) in
     (omega arith, omega arith, part-room 7 front (omega (arith, room digits)))
 
@@ -51,8 +51,8 @@ sub-put-field-2 c =
     let first = c .before .before in
     let digits = first .before .before in
     let args = start digits .args in
-    front-inside (base-put (args .h) (args .page .now) (digits .decimal-digits .result)
-    (digits .decimal-digits .ensures) (start digits .pre) (first .put-field .last .0) (first .put-field .ensures))
+    front-inside (base-put (args .h) (args .page .now) (digits .digit-count .result)
+    (digits .digit-count .ensures) (start digits .pre) (first .put-field .last .0) (first .put-field .ensures))
 
 put-field-requires-2 : tie.Need-put-field-requires-2
 put-field-requires-2 c κs =
@@ -60,9 +60,9 @@ put-field-requires-2 c κs =
     let digits = first .before .before in
     let args = start digits .args in
     let front =
-    base-put (args .h) (args .page .now) (digits .decimal-digits .result) (digits .decimal-digits .ensures)
+    base-put (args .h) (args .page .now) (digits .digit-count .result) (digits .digit-count .ensures)
     (start digits .pre) (first .put-field .last .0) (first .put-field .ensures) in
-    (omega arith, omega arith, part-room (digits .decimal-digits .result + 1) front (omega (arith, room digits)))
+    (omega arith, omega arith, part-room (digits .digit-count .result + 1) front (omega (arith, room digits)))
 
 sub-put-field-3 : tie.Need-sub-put-field-3
 sub-put-field-3 c =
@@ -70,8 +70,8 @@ sub-put-field-3 c =
     let first = second .before .before .before .before in
     let digits = first .before .before in
     let args = start digits .args in
-    front-inside (length-put (args .h) (args .page .now) (digits .decimal-digits .result)
-    (digits .decimal-digits .ensures) (start digits .pre) (first .put-field .last .0) (first .put-field .ensures)
+    front-inside (length-put (args .h) (args .page .now) (digits .digit-count .result)
+    (digits .digit-count .ensures) (start digits .pre) (first .put-field .last .0) (first .put-field .ensures)
     (second .put-field2 .last .0) (second .put-field2 .ensures))
 
 put-field-requires-3 : tie.Need-put-field-requires-3
@@ -81,7 +81,7 @@ put-field-requires-3 c κs =
     let digits = first .before .before in
     let args = start digits .args in
     let front =
-    length-put (args .h) (args .page .now) (digits .decimal-digits .result) (digits .decimal-digits .ensures)
+    length-put (args .h) (args .page .now) (digits .digit-count .result) (digits .digit-count .ensures)
     (start digits .pre) (first .put-field .last .0) (first .put-field .ensures) (second .put-field2 .last .0)
     (second .put-field2 .ensures) in
     (omega arith, omega arith, part-room 5 front (omega (arith, room digits)))
@@ -93,8 +93,8 @@ same-length c =
     let first = second .before .before .before .before in
     let digits = first .before .before in
     let args = start digits .args in
-    front-length (reset-put (args .h) (args .page .now) (digits .decimal-digits .result)
-    (digits .decimal-digits .ensures) (start digits .pre) (first .put-field .last .0) (first .put-field .ensures)
+    front-length (reset-put (args .h) (args .page .now) (digits .digit-count .result)
+    (digits .digit-count .ensures) (start digits .pre) (first .put-field .last .0) (first .put-field .ensures)
     (second .put-field2 .last .0) (second .put-field2 .ensures) (third .put-field3 .last .0)
     (third .put-field3 .ensures))
 
@@ -105,7 +105,7 @@ returns c =
     let first = second .before .before .before .before in
     let digits = first .before .before in
     let args = start digits .args in
-    header-put (args .h) (args .page .now) (digits .decimal-digits .result) (digits .decimal-digits .ensures)
+    header-put (args .h) (args .page .now) (digits .digit-count .result) (digits .digit-count .ensures)
     (start digits .pre) (first .put-field .last .0) (first .put-field .ensures) (second .put-field2 .last .0)
     (second .put-field2 .ensures) (third .put-field3 .last .0) (third .put-field3 .ensures)
 

@@ -12,9 +12,9 @@ use Rattle.text.specs.Digits.{digits}
 use Rattle.text.specs.Text.{startsWith}
 use Rattle.model.specs.Image.{isFormed}
 use Rattle.model.specs.MarkList.{fields, markShown}
-use Rattle.text.proofs.Digits.{length-digits}
+use Rattle.text.proofs.DigitLaws.{length-digits}
 use Rattle.text.proofs.Text.{starts-long}
-use Rattle.marklist.proofs.Pages.{part-whole}
+use Rattle.text.proofs.Pages.{part-whole}
 use Rattle.marklist.proofs.LineLaws.{too-high, other-address, by-fields}
 use borrow.Author.Needs.{needs}
 use Rattle.marklist.proofs.lines.mark_shown.Statement.{statement}

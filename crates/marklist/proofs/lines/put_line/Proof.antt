@@ -8,7 +8,7 @@ use lib.ListN.{length}
 use borrow.Author.Tests.{not-true, not-false}
 use Rattle.model.specs.Image.{isStart}
 use Rattle.model.specs.MarkList as spec
-use Rattle.marklist.proofs.Pages.{front-inside, part-room}
+use Rattle.text.proofs.Pages.{front-inside, part-room}
 use Rattle.marklist.proofs.LineLaws.{start-size, line-room, address-put, line-put}
 use borrow.Author.Needs.{needs}
 use Rattle.marklist.proofs.lines.put_line.Statement.{statement}

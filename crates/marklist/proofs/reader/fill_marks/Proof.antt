@@ -3,7 +3,7 @@
 use Prim.Native.Nat.{_-_}
 use native.Mathlib.Omega.{arith}
 use lib.ListN.{length}
-use Rattle.marklist.proofs.Pages.{part-whole}
+use Rattle.text.proofs.Pages.{part-whole}
 use Rattle.marklist.proofs.Walks.{Filled, none-filled, one-more-filled, all-filled}
 use borrow.Author.Needs.{needs}
 use Rattle.marklist.proofs.reader.fill_marks.Statement.{statement}

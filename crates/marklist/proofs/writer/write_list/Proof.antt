@@ -13,7 +13,7 @@ use Rattle.model.specs.Verdict.{marksTests}
 use Rattle.model.proofs.Image.{right-length}
 use Rattle.model.proofs.MarkList.{lines-most}
 use Rattle.model.proofs.TestResults.{shown, ends}
-use Rattle.marklist.proofs.Pages.{part-room}
+use Rattle.text.proofs.Pages.{part-room}
 use Rattle.marklist.proofs.HeaderLaws.{small-header}
 use Rattle.marklist.proofs.Writing.{refused, short-page, is-written, first-line, list-size, header-front}
 use Rattle.marklist.proofs.Writing.{list-put}
