@@ -1,4 +1,4 @@
--- The test and its definition take the same branch.
+-- 1 or 0 by `is_start`, as the definition picks.
 -- Assumes nothing.
 use borrow.Author.Needs.{needs}
 use Rattle.checker.proofs.one_start.Statement.{statement}

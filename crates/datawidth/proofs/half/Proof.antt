@@ -1,4 +1,4 @@
--- By the width.
+-- 2 to the power of 7 or of 15, one less than the bits of the width.
 -- Assumes nothing.
 use native.Mathlib.Omega.{arith}
 use mathlib.Core.Path.{refl}

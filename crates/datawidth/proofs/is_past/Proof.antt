@@ -1,4 +1,4 @@
--- By the size.
+-- Past the width means from its size on.
 -- Assumes nothing.
 use mathlib.Core.Path.{refl}
 use borrow.Author.Needs.{needs}

@@ -1,4 +1,4 @@
--- By the width.
+-- The remainder by the width's size, and so below it.
 -- Assumes nothing.
 use native.Mathlib.Omega.{arith}
 use mathlib.Core.Path.{refl}

@@ -1,4 +1,4 @@
--- By the width.
+-- At 8 bits the definition's sum; at 16 a register, of 16 bits, has nothing above the data.
 -- Assumes nothing.
 use native.Mathlib.Omega.{arith}
 use mathlib.Core.Path.{refl}

@@ -1,4 +1,4 @@
--- By the width.
+-- The count's remainder by 8 or by 16, below 16 either way.
 -- Assumes nothing.
 use native.Mathlib.Omega.{arith}
 use mathlib.Core.Path.{refl}

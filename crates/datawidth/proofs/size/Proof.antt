@@ -1,4 +1,4 @@
--- By the width.
+-- 2 to the power of 8 or of 16, whichever the width is.
 -- Assumes nothing.
 use native.Mathlib.Omega.{arith}
 use mathlib.Core.Path.{refl}

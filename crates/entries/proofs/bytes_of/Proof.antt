@@ -1,4 +1,4 @@
--- The field is three bits of the number.
+-- The number of bytes is three bits, from bit 24 on, and so below 8.
 -- Assumes nothing.
 use Rattle.codepages.specs.Packing.{unpacked}
 use borrow.Author.Needs.{needs}

@@ -1,4 +1,4 @@
--- Each key's value stands at its place of the list, and any other number is 0 or past the list.
+-- Keys 1 to 7 are the flows in the list's order, those of calls and returns by kind; any other number goes on.
 -- Assumes nothing.
 use mathlib.Core.Path.{refl}
 use borrow.Author.Needs.{needs}

@@ -1,4 +1,4 @@
--- The field is what its list has at that part of the number.
+-- The flow's number is three bits, from bit 15 on.
 -- Assumes nothing.
 use Rattle.codepages.specs.Packing.{unpacked}
 use borrow.Author.Needs.{needs}

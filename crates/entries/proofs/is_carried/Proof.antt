@@ -1,4 +1,4 @@
--- The field is one bit of the number.
+-- Whether the machine carries it out is bit 14.
 -- Assumes nothing.
 use Rattle.codepages.specs.Packing.{unpacked}
 use borrow.Author.Needs.{needs}

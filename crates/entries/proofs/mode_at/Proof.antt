@@ -1,4 +1,4 @@
--- Each key's value stands at its place of the list, and any other number is 0 or past the list.
+-- Keys 1 to 27 are the modes in the list's order; any other number is the first, Implied.
 -- Assumes nothing.
 use mathlib.Core.Path.{refl}
 use borrow.Author.Needs.{needs}

@@ -1,4 +1,4 @@
--- Each key's value stands at its place of the list, and any other number is 0 or past the list.
+-- Keys 1 and 2 are the lengths that m and x add to; any other number is a fixed length.
 -- Assumes nothing.
 use mathlib.Core.Path.{refl}
 use borrow.Author.Needs.{needs}

@@ -1,4 +1,4 @@
--- The field is what its list has at that part of the number.
+-- The data width's number is what is left from bit 29 on.
 -- Assumes nothing.
 use Rattle.codepages.specs.Packing.{unpacked}
 use borrow.Author.Needs.{needs}

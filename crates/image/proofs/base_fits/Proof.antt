@@ -1,4 +1,4 @@
--- Each exit has passed the tests of the definition in its order.
+-- A base past 24 bits fails the first test, and an image longer than a bank the second, wherever it begins.
 -- Assumes nothing.
 use Rattle.model.specs.Image.{baseFits}
 use Prim.Native.Nat.{_+_, _%_}

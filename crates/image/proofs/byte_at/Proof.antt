@@ -1,4 +1,4 @@
--- Each exit has passed the tests of the definition in its order.
+-- Past the end, where the code gives 0, the list gives its default.
 -- Assumes nothing.
 use lib.ListN.{List·getD-eq-default}
 use mathlib.Core.Path.{sym}

@@ -1,4 +1,4 @@
--- Each exit has passed the tests of the definition in its order.
+-- A length of 0 fails the first test, one past the limit the second; else the number of marks decides.
 -- Assumes nothing.
 use Rattle.model.specs.Image.{lengthFits}
 use native.Mathlib.Omega.{arith}

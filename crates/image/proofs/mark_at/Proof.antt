@@ -1,4 +1,4 @@
--- Each exit has passed the tests of the definition in its order.
+-- Below the base there is no mark; from the base on, it is the byte at the distance.
 -- Assumes nothing.
 use Rattle.model.specs.Image.{markAt}
 use borrow.Author.Tests.{le-leb, lt-leb}

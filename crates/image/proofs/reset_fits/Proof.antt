@@ -1,4 +1,4 @@
--- Each exit has passed the tests of the definition in its order.
+-- A reset address past 16 bits fails; else the mark at that address of the base's bank is compared with 01.
 -- Assumes nothing.
 use Rattle.model.specs.Image.{bankSize, resetFits}
 use native.Mathlib.Omega.{arith}

@@ -1,4 +1,4 @@
--- The tests are those of the definition, in its order.
+-- Length, then base: the first that fails gives its refusal, and where both hold there is none.
 -- Assumes nothing.
 use Rattle.model.proofs.TestResults.{passes, fails, holds}
 use borrow.Author.Needs.{needs}

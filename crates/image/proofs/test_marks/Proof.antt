@@ -1,4 +1,4 @@
--- Where 1 or 2 refuses, that stays; else the tests go on in the definition's order.
+-- Where 1 or 2 refuses, that stays; else the marks' form is tested, and behind it the reset.
 -- Assumes nothing.
 use Rattle.model.specs.Verdict.{imageTests}
 use Rattle.model.proofs.TestResults.{passes, fails, holds, ends, goes-on}

@@ -1,4 +1,4 @@
--- The test and its definition take the same branch.
+-- Below the half range the offset is added; from there on it lies below 0, and whole turns keep the sum above.
 -- Assumes nothing.
 use borrow.Author.Tests.{lt-ltb, le-ltb}
 use borrow.Author.Needs.{needs}

@@ -1,4 +1,4 @@
--- Each key's value stands at its place of the list, and any other number is 0 or past the list.
+-- From 8,192 on a task has the key of what it asks for; a number that is no key asks for the operand.
 -- Assumes nothing.
 use Prim.Native.Nat.{ℕ, _/_}
 use mathlib.Core.Path.{_≡_, refl}

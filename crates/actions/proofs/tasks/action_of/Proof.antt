@@ -1,4 +1,4 @@
--- Each key's value stands at its place of the list, and any other number is 0 or past the list.
+-- An action's key is its place in the list of actions; a number that is no key is 0 or past it, and leaves.
 -- Assumes nothing.
 use Prim.Native.Nat.{ℕ, _%_}
 use mathlib.Core.Path.{_≡_, refl}

@@ -1,4 +1,4 @@
--- The field is five bits of the number.
+-- The choice is five bits of the task, from bit 5 on.
 -- Assumes nothing.
 use Rattle.actions.specs.Tasks.{unpackedTask}
 use borrow.Author.Needs.{needs}

@@ -1,4 +1,4 @@
--- The field is three bits of the number.
+-- The register is three bits of the task, from bit 10 on.
 -- Assumes nothing.
 use Rattle.actions.specs.Tasks.{unpackedTask}
 use borrow.Author.Needs.{needs}

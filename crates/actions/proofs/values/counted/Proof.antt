@@ -1,4 +1,4 @@
--- Up or down.
+-- One step down is 65,535 up, as the definition has it too.
 -- Assumes nothing.
 use mathlib.Core.Path.{refl}
 use borrow.Author.Needs.{needs}

@@ -1,4 +1,4 @@
--- As they are wanted.
+-- Wanted set, the mask's bits that the data lacks; wanted clear, those that it has.
 -- Assumes nothing.
 use borrow.Author.Needs.{needs}
 use Rattle.actions.proofs.values.other_bits.Statement.{statement}

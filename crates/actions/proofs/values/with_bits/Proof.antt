@@ -1,4 +1,4 @@
--- As they are wanted.
+-- Wanted set, an or with the mask; wanted clear, the data without it.
 -- Assumes nothing.
 use borrow.Author.Needs.{needs}
 use Rattle.actions.proofs.values.with_bits.Statement.{statement}

@@ -1,4 +1,4 @@
--- As they are wanted.
+-- SEP's change where the flags are wanted set, CLP's where they are wanted clear.
 -- Assumes nothing.
 use borrow.Author.Needs.{needs}
 use Rattle.actions.proofs.values.with_flags.Statement.{statement}

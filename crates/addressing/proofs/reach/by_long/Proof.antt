@@ -1,4 +1,4 @@
--- The pointer's bytes are read in the action's order.
+-- The three bytes that are read are the address; where they can't be read there is none.
 -- Assumes nothing.
 use Rattle.addressing.proofs.Pointers.{long-itself, long-nowhere}
 use borrow.Author.Needs.{needs}

@@ -1,4 +1,4 @@
--- The pointer's bytes are read in the action's order.
+-- Y is added to three bytes that are read: a number below 2 to the 24, so that the sum is whole.
 -- Assumes nothing.
 use Rattle.model.specs.Addressing.{indexY}
 use mathlib.Core.Path.{subst}

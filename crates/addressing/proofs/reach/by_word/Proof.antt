@@ -1,4 +1,4 @@
--- The pointer's bytes are read in the action's order.
+-- The word that is read is put into the data bank; one that can't be read gives no address.
 -- Assumes nothing.
 use Rattle.model.specs.Addressing.{inDataBank}
 use Rattle.cpu.specs.File.{registersOf}

@@ -1,4 +1,4 @@
--- The pointer's bytes are read in the action's order.
+-- To the word that is read, put into the data bank, Y is added behind it: no other read is made.
 -- Assumes nothing.
 use Rattle.model.specs.Addressing.{inDataBank, indexY}
 use Prim.Native.Nat.{_+_}

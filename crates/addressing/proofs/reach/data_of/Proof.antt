@@ -1,4 +1,4 @@
--- By what the operation asks.
+-- The operation asks for its mode's data, for what it pulls, or for a word of the direct page.
 -- Assumes nothing.
 use Rattle.model.specs.Addressing.{dataOf, pulled, direct}
 use Rattle.cpu.specs.File.{registersOf}

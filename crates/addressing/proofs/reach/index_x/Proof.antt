@@ -1,4 +1,4 @@
--- The part of the register that a width holds.
+-- X's own bits of the width that the flag x gives.
 -- Assumes nothing.
 use Rattle.addressing.proofs.Pointers.{indexed}
 use borrow.Author.Needs.{needs}

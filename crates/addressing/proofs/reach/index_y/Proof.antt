@@ -1,4 +1,4 @@
--- The part of the register that a width holds.
+-- The flag x gives Y's width too, and the index is Y's part of it.
 -- Assumes nothing.
 use Rattle.addressing.proofs.Pointers.{indexed}
 use borrow.Author.Needs.{needs}

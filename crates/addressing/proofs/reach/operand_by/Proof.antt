@@ -1,4 +1,4 @@
--- By where the data lies.
+-- Memory is asked by its own function; the instruction and the accumulator give what the width holds.
 -- Assumes nothing.
 use mathlib.Core.Path.{refl}
 use borrow.Author.Needs.{needs}

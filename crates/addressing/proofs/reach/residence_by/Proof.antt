@@ -1,4 +1,4 @@
--- By whether the address alone is asked.
+-- An address alone is looked for in memory; else the mode says where.
 -- Assumes nothing.
 use mathlib.Core.Path.{refl}
 use borrow.Author.Needs.{needs}

@@ -1,4 +1,4 @@
--- By what was read.
+-- What was read is data without an address; what could not be read is none.
 -- Assumes nothing.
 use mathlib.Core.Path.{refl}
 use borrow.Author.Needs.{needs}

@@ -1,4 +1,4 @@
--- In each arm what is owed is known; the second want is tested only where the first passed.
+-- In each arm what is owed is known; the second mark is compared only where the first agrees.
 -- Assumes nothing.
 use Rattle.model.specs.Verdict.{allMarks}
 use borrow.Author.Needs.{needs}

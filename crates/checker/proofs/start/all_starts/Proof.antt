@@ -1,4 +1,4 @@
--- In each arm what is owed is known; the second want is tested only where the first passed.
+-- In each arm what is owed is known; the second start is looked for only where the first was found.
 -- Assumes nothing.
 use Rattle.model.specs.Verdict.{allStarts}
 use borrow.Author.Needs.{needs}

@@ -1,4 +1,4 @@
--- In each arm the frame is known.
+-- A frame that fits is tested; a code that is not carried and one that is cut off are refused by their numbers.
 -- Assumes nothing.
 use Rattle.model.specs.Verdict.{decodedResult}
 use borrow.Author.Needs.{needs}

@@ -1,4 +1,4 @@
--- The tests are those of the definition, in its order.
+-- The kind, then m, then x: the first that differs ends the test, and the definition's.
 -- Assumes nothing.
 use Rattle.model.specs.Rules.{returnsBy}
 use borrow.Author.Tests.{eq-eqb, ne-eqb}

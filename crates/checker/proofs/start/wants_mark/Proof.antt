@@ -1,4 +1,4 @@
--- The test is put to the mark at the want's address.
+-- The mark at the want's address is compared with the want's.
 -- Assumes nothing.
 use Rattle.model.specs.Verdict.{wantsMark}
 use borrow.Author.Needs.{needs}

@@ -1,4 +1,4 @@
--- The test is put to the mark at the want's address.
+-- `is_start` of the mark at the want's address.
 -- Assumes nothing.
 use Rattle.model.specs.Verdict.{wantsStart}
 use borrow.Author.Needs.{needs}

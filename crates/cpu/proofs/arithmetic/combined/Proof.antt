@@ -1,4 +1,4 @@
--- Each key chooses its one, and any other number the first.
+-- Keys 1 to 4 are SBC, AND, ORA and EOR at their places of the list; any other number is the first, ADC.
 -- Assumes nothing.
 use mathlib.Core.Path.{refl, _∙_}
 use Rattle.prelude.proofs.Match.{no-key}

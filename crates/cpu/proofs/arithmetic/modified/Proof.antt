@@ -1,4 +1,4 @@
--- Each key chooses its one, and any other number the first.
+-- Keys 1 to 5 are LSR to DEC at their places of the list, any other number is the first, ASL; no bit in is 0.
 -- Assumes nothing.
 use mathlib.Core.Path.{_≡_, refl, sym, ap, _∙_}
 use mathlib.Core.Bool.{false}

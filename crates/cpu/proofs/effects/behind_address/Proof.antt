@@ -1,4 +1,4 @@
--- The definition's steps, one call each.
+-- The operand over the size of its address, which is no 0, and of that what the width holds.
 -- Assumes nothing.
 use Rattle.cpu.proofs.Sizes.{some-address}
 use mathlib.Core.Path.{refl}

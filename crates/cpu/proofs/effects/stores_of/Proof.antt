@@ -1,4 +1,4 @@
--- The definition's steps, one call each.
+-- One byte at 8 bits; at 16 the low byte, and the high one at the next address.
 -- Assumes nothing.
 use mathlib.Core.Path.{refl}
 use borrow.Author.Needs.{needs}

@@ -1,4 +1,4 @@
--- In each arm the name is known.
+-- B where B is named; A where A or none is.
 -- Assumes nothing.
 use mathlib.Core.Path.{refl}
 use borrow.Author.Needs.{needs}

@@ -1,4 +1,4 @@
--- The flag's bit is taken away and put anew.
+-- C is bit 0: it is taken away and put anew.
 -- Assumes nothing.
 use borrow.Author.Needs.{needs}
 use Rattle.cpu.proofs.Numbers.{carry-changed}

@@ -1,4 +1,4 @@
--- Flag by flag.
+-- Flag by flag: an exclusive or with those of the mask that are set clears them.
 -- Assumes nothing.
 use Rattle.cpu.proofs.Masks.{flags-cleared}
 use Rattle.cpu.proofs.flags.with_flags_cleared.Statement.{statement}

@@ -1,4 +1,4 @@
--- Flag by flag.
+-- Flag by flag: an or with the mask sets those that it names, but m and x.
 -- Assumes nothing.
 use Rattle.cpu.proofs.Masks.{flags-set}
 use Rattle.cpu.proofs.flags.with_flags_set.Statement.{statement}

@@ -1,4 +1,4 @@
--- The flag's bit is taken away and put anew.
+-- V is bit 6: it is taken away and put anew.
 -- Assumes nothing.
 use borrow.Author.Needs.{needs}
 use Rattle.cpu.proofs.Numbers.{overflow-changed}

@@ -1,4 +1,4 @@
--- By flow.
+-- Each flow has its own function, and a halt stops at once.
 -- Assumes nothing.
 use Rattle.machine.proofs.Stepping.{by-operation, by-jump, by-call, by-return, by-halt}
 use Rattle.model.specs.Memory.{Memory, memory}

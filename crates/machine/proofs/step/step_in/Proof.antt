@@ -1,4 +1,4 @@
--- What is fetched decides.
+-- A whole instruction is performed; anything else that is fetched is a stop.
 -- Assumes nothing.
 use Rattle.machine.proofs.Stepping.{step-whole, step-uncarried, step-outside}
 use Rattle.machine.proofs.Turning.{place-kept}

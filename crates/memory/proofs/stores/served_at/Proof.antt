@@ -1,4 +1,4 @@
--- An exit for each part of memory, by the laws of the definition.
+-- RAM serves a store; the image refuses it as a store into the image, and any other place as unmapped.
 -- Assumes nothing.
 use mathlib.Core.Path.{sym}
 use Rattle.model.proofs.Memory.{served-in-ram, served-under-image, served-in-image, served-past-image}

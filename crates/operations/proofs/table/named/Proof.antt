@@ -1,4 +1,4 @@
--- By the accumulator.
+-- The upper half of the number is what B's task has more than A's.
 -- Assumes nothing.
 use native.Mathlib.Omega.{arith}
 use borrow.Author.Needs.{needs}

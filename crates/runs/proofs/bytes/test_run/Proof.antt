@@ -1,4 +1,4 @@
--- Where 1 or 2 refuses, that stays; else the tests go on in the definition's order.
+-- Where 1 or 2 refuses, that stays; else RAM, the state and the number of steps decide, in that order.
 -- Assumes nothing.
 use mathlib.Core.Path.{_≡_, refl, sym}
 use mathlib.Core.Bool.{true, false}

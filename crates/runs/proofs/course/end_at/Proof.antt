@@ -1,4 +1,4 @@
--- By the answer.
+-- Only a stop ends a run before its steps are done.
 -- Assumes nothing.
 use mathlib.Core.Path.{refl}
 use borrow.Author.Needs.{needs}

@@ -1,4 +1,4 @@
--- By the answer.
+-- A call adds 1, a completed step and a stop add nothing.
 -- Assumes nothing.
 use native.Mathlib.Omega.{arith}
 use mathlib.Core.Path.{refl}

@@ -1,4 +1,4 @@
--- By what the instruction does to the widths.
+-- SEM and CLM say m outright; SEP and CLP go by its bit of their operand.
 -- Assumes nothing.
 use mathlib.Core.Path.{refl}
 use Rattle.model.specs.Rules.{mAfter}

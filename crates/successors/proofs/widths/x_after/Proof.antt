@@ -1,4 +1,4 @@
--- By what the instruction does to the widths.
+-- SEM and CLM leave x as it is; SEP and CLP go by its bit of their operand.
 -- Assumes nothing.
 use mathlib.Core.Path.{refl}
 use Rattle.model.specs.Rules.{xAfter}
