@@ -5,7 +5,7 @@ use entries::effect_of;
 use entries::flow_of;
 use entries::keeps_widths;
 use entries::target_form_of;
-use image::byte_at;
+use fields::byte_at;
 use model::code::Flow;
 use model::code::Kind;
 use model::code::WidthEffect;

@@ -5,10 +5,10 @@ use codepages::CodePages;
 use decoder::Frame;
 use decoder::Framed;
 use decoder::frame_at;
-use decoder::low_bytes;
-use decoder::six_bytes;
 use entries::flow_of;
-use image::byte_at;
+use fields::byte_at;
+use fields::low_bytes;
+use fields::six_bytes;
 use image::is_start;
 use model::code::Flow;
 use model::code::Kind;
@@ -27,7 +27,8 @@ ghost use Rattle.model.specs.Image.{addressLimit};
 ghost use Rattle.model.specs.Refusals.{firstRefusal};
 ghost use Rattle.model.specs.Rules as rules;
 ghost use Rattle.model.specs.Verdict as verdict;
-ghost use Rattle.model.specs.Decode as decode;
+ghost use Rattle.fields.specs.Fields.{number};
+ghost use Rattle.prelude.specs.First.{firstFrom};
 ghost use Rattle.decoder.specs.Frame.{Fitting, FittingIn, instructionOf, decodedOf};
 ghost use Rattle.checker.specs.Steps.{decodedStep, stepAt};
 ghost use Rattle.checker.specs.Owes.{returnTests, owedTests, MarksOfStarts};
@@ -110,7 +111,7 @@ fn return_fits(flow: Flow, mark: u8) -> bool
 // The lowest start of n places from a place on, or the place past them.
 fn first_start(marks: &[u8], from: usize, n: usize) -> usize
     requires { ⌜ from + n < 4_294_967_296 ⌝ }
-    ensures { λ r. ⌜ r ≡ verdict.firstFrom (verdict.startAt (now (marks .entry))) from n ⌝ }
+    ensures { λ r. ⌜ r ≡ firstFrom (verdict.startAt (now (marks .entry))) from n ⌝ }
 {
     let end = from + n;
     let mut i = from;
@@ -135,7 +136,7 @@ fn zeros_behind(marks: &[u8], at: usize, n: u8) -> bool
     requires { ⌜ (at < addressLimit) × (n ≤ 6) ⌝ }
     ensures { λ r. ⌜
         r ≡ (leb (at + 6) (length (now (marks .entry)))
-        && ltb (decode.number (take n (drop at (now (marks .entry))))) 256)
+        && ltb (number (take n (drop at (now (marks .entry))))) 256)
         ⌝ }
 {
     if marks.len() < at + 6 {

@@ -1,8 +1,8 @@
 // The flags of the status register's number, and the number with some of them changed.
-use datawidth::bit_of;
 use datawidth::half;
 use datawidth::low;
 use model::machine::Status;
+use model::machine::bit_of;
 ghost use mathlib.Core.Path.{_≡_};
 ghost use Prim.Native.Nat.{_^_, _≤_, _<_};
 ghost use lib.Dec.{eqb};

@@ -1,9 +1,9 @@
 // Data of 8 or 16 bits: `short` says which.
+use model::machine::bit_of;
 ghost use mathlib.Core.Path.{_≡_};
 ghost use Prim.Native.Nat.{_*_, _%_, _^_, _<_, _≤_};
 ghost use Rattle.model.specs.Addressing.{bits};
 ghost use Rattle.anywidth.specs.AnyWidth as spec;
-ghost use Rattle.prelude.specs.Choice.{bit};
 
 // Data where a larger number is wanted.
 pub fn wide(v: u16) -> u64
@@ -54,13 +54,6 @@ pub fn merged(short: bool, old: u16, v: u64) -> u16
         return old / 256 * 256 + (v % 256) as u16;
     }
     (v % 65_536) as u16
-}
-
-// A flag as a number.
-pub fn bit_of(flag: bool) -> u64
-    ensures { λ r. ⌜ (r ≡ bit flag) × (r ≤ 1) ⌝ }
-{
-    if flag { 1 } else { 0 }
 }
 
 // Data and other data and C, added.

@@ -1,5 +1,4 @@
 -- The laws that the proofs of the functions share.
 pub mod Frames
 pub mod Lengths
-pub mod Reading
-pub mod Words
+pub mod Operands

@@ -1,9 +1,13 @@
-// The decoder: what stands at a place of an image, at given widths.
+// The decoder: what stands at a place of an image, at given widths. The code pages are lent, since a constant is copied
+// at each use; so their readers ask that those lent are the definition's.
 use codepages::CodePages;
 use codepages::number_at;
 use entries::bytes_of;
 use entries::is_carried;
 use entries::unpack;
+use fields::low_bytes;
+use fields::number;
+use fields::six_bytes;
 use model::code::Decoded;
 use model::code::Entry;
 use model::code::Instruction;
@@ -43,53 +47,6 @@ pub enum Looked {
     Short,
 }
 
-// A byte, where a larger number is wanted.
-fn wide(b: u8) -> u64
-    ensures { λ r. ⌜ r ≡ b ⌝ }
-{
-    b as u64
-}
-
-// Up to five bytes as one number, the low byte first.
-fn number(bytes: &[u8]) -> u64
-    requires { ⌜ length (now bytes) ≤ 5 ⌝ }
-    ensures { λ r. ⌜ r ≡ spec.number (now (bytes .entry)) ⌝ }
-{
-    let mut value: u64 = 0;
-    let mut i = bytes.len();
-    while 0 < i {
-        i -= 1;
-        value = value * 256 + wide(bytes[i]);
-    }
-    value
-}
-
-// Two bytes from a place on as one number, the low byte first.
-fn pair(bytes: &[u8], at: usize) -> u64
-    requires { ⌜ at + 2 ≤ length (now bytes) ⌝ }
-    ensures { λ r. ⌜ (r ≡ spec.number (take 2 (drop at (now (bytes .entry))))) × (r < 65_536) ⌝ }
-{
-    wide(bytes[at]) + 256 * wide(bytes[at + 1])
-}
-
-// Six bytes from a place on as one number. Written out, so that a processor loads them together.
-pub fn six_bytes(bytes: &[u8], at: usize) -> u64
-    requires { ⌜ at + 6 ≤ length (now bytes) ⌝ }
-    ensures { λ r. ⌜ r ≡ spec.number (take 6 (drop at (now (bytes .entry)))) ⌝ }
-{
-    let low = pair(bytes, at) + 65_536 * pair(bytes, at + 2);
-    low + 4_294_967_296 * pair(bytes, at + 4)
-}
-
-// The n low bytes of a number.
-pub fn low_bytes(value: u64, n: u8) -> u64
-    requires { ⌜ n ≤ 6 ⌝ }
-    ensures { λ r. ⌜ r ≡ value % 256 ^ n ⌝ }
-{
-    let bits = 8 * n as u32;
-    value - (value >> bits << bits)
-}
-
 // The entry of a code of a page.
 pub fn entry_at(codes: &CodePages, page: usize, code: u8) -> Entry
     requires { ⌜ (now codes ≡ numbers) × (page < 3) ⌝ }
@@ -116,7 +73,7 @@ fn more_bytes(rule: LengthRule, m: u8, x: u8) -> u8
     }
 }
 
-// The length of a code at the widths m and x.
+// The length of a code at the widths m and x. Asks for one that a code can have, so that the sum is a byte.
 pub fn length_at(entry: Entry, m: u8, x: u8) -> u8
     requires { ⌜ entry .bytes ≤ 6 ⌝ }
     ensures { λ r. ⌜ r ≡ lengthAt entry m x ⌝ }
@@ -210,7 +167,8 @@ pub fn frame_at(codes: &CodePages, image: &[u8], at: usize, m: u8, x: u8) -> Fra
     }
 }
 
-// The operand of a frame at a place of an image: the bytes behind the code as one number.
+// The operand of a frame at a place of an image: the bytes behind the code as one number. Asks that the frame fits, as
+// one that is read there does, so that no byte is tested.
 pub fn operand_at(image: &[u8], at: usize, frame: Frame) -> u64
     requires { ⌜ Fitting (length (now image) - at) frame ⌝ }
     ensures { λ r. ⌜
@@ -251,7 +209,7 @@ pub fn decode_at(codes: &CodePages, image: &[u8], at: usize, m: u8, x: u8) -> De
     }
 }
 
-// What the bytes begin with, at the widths m and x.
+// What the bytes begin with, at the widths m and x: the decoder as a whole, for users of the library.
 pub fn decode(codes: &CodePages, bytes: &[u8], m: u8, x: u8) -> Decoded
     requires { ⌜ now codes ≡ numbers ⌝ }
     ensures { λ r. ⌜ r ≡ spec.decode (now (bytes .entry)) m x ⌝ }

@@ -1,14 +1,16 @@
 -- A number is kept by its low bytes, and bytes by their number; fields of one size are kept one behind the other.
 -- Assumes nothing.
-use mathlib.Core.Path.{_≡_, refl, sym, ap}
+use mathlib.Core.Path.{_≡_, refl, sym, ap, _∙_}
 use mathlib.Core.List.{List, [], _∷_}
 use Prim.Native.Nat.{ℕ, zero, suc, _+_, _*_, _/_, _%_, _^_, _≤_, _<_}
-use native.Mathlib.Nat.{div-add-mod, div-lt-iff-lt-mul, mul-suc, mul-zero, pow-suc, pow-zero}
+use native.Mathlib.Nat.{add-mul-mod-self-left, div-add-mod, div-lt-iff-lt-mul, le-of-suc-le-suc, mod-eq-of-lt, mod-lt}
+use native.Mathlib.Nat.{mod-one, mul-assoc, mul-comm, mul-suc, mul-zero, one-le-pow, pow-le-pow-right, pow-suc, pow-zero}
+use native.Mathlib.Nat.{zero-mod}
 use native.Mathlib.Omega.{arith}
-use lib.ListN.{length, getD, take, drop, length-append, length-drop}
+use lib.ListN.{length, getD, take, drop, length-append, length-drop, length-take}
 use lib.Seq.{drop-drop, drop-at, take-add, take-at}
 use Rattle.prelude.specs.Bytes.{AllBytes}
-use Rattle.prelude.proofs.Bytes.{bytes-drop}
+use Rattle.prelude.proofs.Bytes.{bytes-drop, bytes-take}
 use Rattle.fields.specs.Fields.{number, lowBytes, joined, parted, fieldAt}
 
 -- ---- a number and its low bytes
@@ -44,6 +46,33 @@ number-bound [] small = omega arith
 number-bound (b ∷ bs) small =
     let rest = number-bound bs (λ k. small (suc k)) in
     rw pow-suc (omega (arith, small 0))
+
+-- one byte more in front
+step : (b v p : ℕ) → b < 256 → 0 < p → (b + 256 * v) % (p * 256) ≡ b + 256 * (v % p)
+step b v p h some =
+    let parts : p * (v / p) + v % p ≡ v = div-add-mod v p in
+    let turned : p * 256 * (v / p) ≡ 256 * (p * (v / p)) = rw (mul-comm p 256) (mul-assoc 256 p (v / p)) in
+    let whole : b + 256 * v ≡ b + 256 * (v % p) + p * 256 * (v / p) = omega arith in
+    let below : v % p < p = mod-lt v some in
+    let inside : b + 256 * (v % p) < p * 256 = omega arith in
+    rw whole (add-mul-mod-self-left (b + 256 * (v % p)) (p * 256) (v / p) ∙ mod-eq-of-lt inside)
+
+-- the low bytes of a number of bytes are the number of the first of them
+pub number-first : (l : List ℕ) (k n : ℕ) → AllBytes l → n ≤ k → number (take k l) % 256 ^ n ≡ number (take n l)
+number-first l k zero small h = mod-one (number (take k l))
+number-first l zero (suc n) small h = absurd (omega arith)
+number-first [] (suc k) (suc n) small h = zero-mod (256 ^ suc n)
+number-first (b ∷ bs) (suc k) (suc n) small h =
+    let rest = number-first bs k n (λ j. small (suc j)) (le-of-suc-le-suc h) in
+    rw (pow-suc, step b (number (take k bs)) (256 ^ n) (small 0) (one-le-pow n 256 (omega arith)), rest)
+
+-- a field is below the power of 256 that has as many digits as its size
+pub field-bound : (at size : ℕ) (bytes : List ℕ) → AllBytes bytes → fieldAt at size bytes < 256 ^ size
+field-bound at size bytes small =
+    let part = take size (drop at bytes) in
+    let short : length part ≤ size = rw (length-take size (drop at bytes)) (omega arith) in
+    let up : 256 ^ length part ≤ 256 ^ size = pow-le-pow-right (omega arith) short in
+    omega (arith, number-bound part (bytes-take size (drop at bytes) (bytes-drop at bytes small)))
 
 -- ---- fields of one size
 
@@ -92,3 +121,12 @@ parted-from size n at bytes = rw drop-drop
 pub parted-none : (size : ℕ) (bytes : List ℕ) → parted size 0 bytes ≡ []
 unfolding parted
 parted-none size bytes = refl
+
+-- each of the fields stands at its place
+pub parted-at : (size n k : ℕ) (bytes : List ℕ) → k < n → getD (parted size n bytes) k 0 ≡ fieldAt (size * k) size bytes
+unfolding parted
+parted-at size zero k bytes inside = absurd (omega arith)
+parted-at size (suc n) zero bytes inside = rw (mul-zero size) refl
+parted-at size (suc n) (suc k) bytes inside =
+    let on : size * suc k ≡ size + size * k = rw (mul-suc size k) (omega arith) in
+    rw (on, ← drop-drop (size * k) size bytes) (parted-at size n k (drop size bytes) (omega arith))

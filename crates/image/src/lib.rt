@@ -1,4 +1,5 @@
 // What the check, the machine and the lists all ask of an image and its marks.
+use fields::byte_at;
 use model::addresses::ADDRESS_LIMIT;
 use model::addresses::BANK_SIZE;
 use model::addresses::in_bank_of;
@@ -6,7 +7,6 @@ use model::refusals::Refusal;
 use model::refusals::TestResult;
 ghost use mathlib.Core.Path.{_≡_};
 ghost use Prim.Native.Nat.{_%_};
-ghost use lib.ListN.{getD};
 ghost use Rattle.prelude.specs.Choice.{pick};
 ghost use Rattle.model.specs.Image.{bankSize, isStart, isFormed, lengthFits, baseFits, markAt, resetFits};
 ghost use Rattle.model.specs.Refusals.{firstRefusal};
@@ -14,13 +14,6 @@ ghost use Rattle.model.specs.Verdict.{badMark, allFormed, imageTests, marksTest
 
 // The limit of model/specs/Image.antt.
 pub const IMAGE_LIMIT: usize = 16_384;
-
-// The byte at a place, 0 past the end.
-pub fn byte_at(bytes: &[u8], at: usize) -> u8
-    ensures { λ r. ⌜ r ≡ getD (now (bytes .entry)) at 0 ⌝ }
-{
-    if at < bytes.len() { bytes[at] } else { 0 }
-}
 
 // Number 1: an image of 1 to 16,384 bytes, and as many marks.
 fn length_fits(image: usize, marks: usize) -> bool

@@ -1,11 +1,10 @@
 // Bytes of memory, and numbers made of them.
-use model::addresses::BANK_SIZE;
+use fields::long_of;
+use fields::word_of;
 use model::machine::ByteRead;
 ghost use mathlib.Core.Path.{_≡_};
-ghost use Prim.Native.Nat.{_+_, _*_, _<_};
 ghost use Rattle.model.specs.Memory.{byteAt, memory, come, wordFrom, longFrom, dataFrom};
 ghost use Rattle.memory.specs.Reads.{wordRead, longRead, IsLong};
-ghost use Rattle.model.specs.Image.{addressLimit};
 
 // Data of one or two bytes.
 pub enum WordRead {
@@ -20,7 +19,7 @@ pub enum LongRead {
 }
 
 // The byte at an address.
-pub fn byte_at(ram: &[u8], image: &[u8], base: u32, address: u64) -> ByteRead
+fn byte_at(ram: &[u8], image: &[u8], base: u32, address: u64) -> ByteRead
     ensures { λ r. ⌜ r ≡ byteAt (memory (now (ram .entry)) (now (image .entry)) base) address ⌝ }
 {
     if address < ram.len() as u64 {
@@ -35,27 +34,6 @@ pub fn byte_at(ram: &[u8], image: &[u8], base: u32, address: u64) -> ByteRead
         return ByteRead::Byte(image[at]);
     }
     ByteRead::Unmapped
-}
-
-// A byte as data.
-fn word_of_byte(byte: u8) -> u16
-    ensures { λ r. ⌜ r ≡ byte ⌝ }
-{
-    byte as u16
-}
-
-// A word of its two bytes.
-fn word_of(low: u8, high: u8) -> u16
-    ensures { λ r. ⌜ r ≡ low + 256 * high ⌝ }
-{
-    low as u16 + 256 * high as u16
-}
-
-// A number of its three bytes, two of them a word.
-fn long_of(low: u16, bank: u8) -> u32
-    ensures { λ r. ⌜ (r ≡ low + 65_536 * bank) × (r < addressLimit) ⌝ }
-{
-    low as u32 + BANK_SIZE * bank as u32
 }
 
 // The word whose bytes lie at two addresses.
@@ -92,7 +70,7 @@ pub fn long_from(ram: &[u8], image: &[u8], base: u32, at: u64, then: u64, last: 
     let ByteRead::Byte(bank) = third else {
         return LongRead::Unmapped;
     };
-    LongRead::Long(long_of(word_of(low, high), bank))
+    LongRead::Long(long_of(low, high, bank))
 }
 
 // Data of one byte, or of two bytes, at their addresses.
@@ -106,7 +84,7 @@ pub fn data_from(ram: &[u8], image: &[u8], base: u32, short: bool, at: u64, then
     }
     let read = byte_at(ram, image, base, at);
     match read {
-        ByteRead::Byte(byte) => WordRead::Word(word_of_byte(byte)),
+        ByteRead::Byte(byte) => WordRead::Word(byte as u16),
         ByteRead::Unmapped => WordRead::Unmapped,
     }
 }

@@ -19,8 +19,8 @@ pub struct Status {
     pub level: u8,
 }
 
-// A flag as a bit.
-fn bit_of(flag: bool) -> u16
+// A flag as a number.
+pub fn bit_of(flag: bool) -> u64
     ensures { λ r. ⌜ (r ≡ bit flag) × (r ≤ 1) ⌝ }
 {
     if flag { 1 } else { 0 }
@@ -66,14 +66,14 @@ impl Status {
     pub fn number(self) -> u16
         ensures { λ r. ⌜ r ≡ numberOf self ⌝ }
     {
-        Status::C * bit_of(self.carry)
-            + Status::Z * bit_of(self.zero)
-            + Status::I * bit_of(self.disable)
-            + Status::D * bit_of(self.decimal)
-            + Status::X * bit_of(self.x)
-            + Status::M * bit_of(self.m)
-            + Status::V * bit_of(self.overflow)
-            + Status::N * bit_of(self.negative)
+        Status::C * bit_of(self.carry) as u16
+            + Status::Z * bit_of(self.zero) as u16
+            + Status::I * bit_of(self.disable) as u16
+            + Status::D * bit_of(self.decimal) as u16
+            + Status::X * bit_of(self.x) as u16
+            + Status::M * bit_of(self.m) as u16
+            + Status::V * bit_of(self.overflow) as u16
+            + Status::N * bit_of(self.negative) as u16
             + Status::LEVEL * self.level as u16
     }
 }

@@ -1,4 +1,4 @@
 -- The laws that the proofs of the functions share.
-pub mod Turns
+pub mod Entries
 pub mod Fitting
 pub mod Whole

@@ -14,7 +14,7 @@ use Rattle.model.specs.Step.{callLimit}
 use Rattle.model.specs.StateBytes.{headSize, entrySize, stateSize, headOf, bytesOf}
 use Rattle.fields.specs.Fields.{lowBytes, joined}
 use Rattle.fields.proofs.Fields.{length-joined}
-use Rattle.statebytes.proofs.Turns.{sets-append}
+use Rattle.fields.proofs.Writing.{sets-append}
 
 pub words-head : (c : Core) (status middle : ℕ) → status ≡ numberOf (c .registers .status)
     → middle ≡ c .pg + 256 * c .registers .dt → c .pg < 256

@@ -1,8 +1,7 @@
 // The state of the machine as bytes, and whether a run takes it and its RAM.
-pub mod fields;
-
-use crate::fields::field_at;
-use crate::fields::put_fields;
+use fields::field_at;
+use fields::put_fields;
+use fields::word_of;
 use model::addresses::ADDRESS_LIMIT;
 use model::machine::CALL_LIMIT;
 use model::machine::Core;
@@ -30,7 +29,6 @@ const RAM_LIMIT: usize = 4_096;
 
 // A word of a state's bytes.
 fn word_at(bytes: &[u8], at: usize) -> u16
-    requires { ⌜ at < 65_536 ⌝ }
     ensures { λ r. ⌜ r ≡ fieldAt at 2 (now (bytes .entry)) ⌝ }
 {
     field_at(bytes, at, 2) as u16
@@ -38,7 +36,6 @@ fn word_at(bytes: &[u8], at: usize) -> u16
 
 // A single byte of them.
 fn single_at(bytes: &[u8], at: usize) -> u8
-    requires { ⌜ at < 65_536 ⌝ }
     ensures { λ r. ⌜ r ≡ fieldAt at 1 (now (bytes .entry)) ⌝ }
 {
     field_at(bytes, at, 1) as u8
@@ -79,13 +76,6 @@ pub fn calls_of(bytes: &[u8]) -> [u64; CALL_LIMIT]
     calls
 }
 
-// Two bytes as a word.
-fn word_of(low: u8, high: u8) -> u64
-    ensures { λ r. ⌜ r ≡ low + 256 * high ⌝ }
-{
-    low as u64 + 256 * high as u64
-}
-
 // All but the entries, as words; PG and DT are one.
 fn words_of(core: Core) -> [u64; 10]
     ensures { λ r. ⌜ joined 2 r ≡ headOf core ⌝ }
@@ -101,12 +91,12 @@ fn words_of(core: Core) -> [u64; 10]
         core.pc as u64,
         r.dpr as u64,
         status.number() as u64,
-        word_of(core.pg, r.dt),
+        word_of(core.pg, r.dt) as u64,
         core.depth as u64,
     ]
 }
 
-// Writes a state.
+// Writes a state. Asks for as many bytes as it has, so that none is tested.
 pub fn put_state(bytes: &mut [u8], core: Core, calls: &[u64; CALL_LIMIT])
     requires { ⌜ length (now bytes) ≡ stateSize ⌝ }
     ensures { λ _. ⌜ now (bytes .exit) ≡ bytesOf (record { core = core; calls = now (calls .entry) }) ⌝ }

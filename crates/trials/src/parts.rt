@@ -1,5 +1,6 @@
 // The parts of a record, one behind another (sim/README.md, 'Vector files'). Each function that takes one takes it at a
 // place of the file and moves the place behind it, or to nowhere if the file or the buffer for it does not hold it.
+use fields::number;
 ghost use mathlib.Core.Path.{_≡_};
 ghost use lib.ListN.{length};
 
@@ -37,21 +38,6 @@ pub(crate) fn take<'a>(file: &'a [u8], at: &mut usize, size: usize) -> &'a [u8] 
     let end = first + size;
     *at = end;
     &file[first..end]
-}
-
-fn wide(byte: u8) -> u64 {
-    byte as u64
-}
-
-// A number of so many bytes, the low byte first.
-fn number(bytes: &[u8]) -> u64 {
-    let mut n: u64 = 0;
-    let mut i = bytes.len();
-    while 0 < i {
-        i -= 1;
-        n = n << 8 | wide(bytes[i]);
-    }
-    n
 }
 
 pub(crate) fn take_u64(file: &[u8], at: &mut usize) -> u64 {

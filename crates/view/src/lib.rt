@@ -3,7 +3,7 @@ pub mod plain;
 
 use codepages::CodePages;
 use decoder::decode_at;
-use image::byte_at;
+use fields::byte_at;
 use model::code::Decoded;
 use model::rules::Verdict;
 ghost use mathlib.Core.Path.{_≡_};

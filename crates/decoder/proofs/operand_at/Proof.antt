@@ -1,6 +1,6 @@
 -- The operand is the low bytes of six, or, near the end of the image, the number of a part.
 -- Assumes nothing.
-use Rattle.decoder.proofs.Words.{operand-of-six, operand-of-part, operand-small}
+use Rattle.decoder.proofs.Operands.{operand-of-six, operand-of-part, operand-small}
 use Rattle.prelude.specs.Bytes.{AllBytes}
 use native.Mathlib.Omega.{arith}
 use borrow.Author.Needs.{needs}
@@ -31,7 +31,7 @@ returns-2 c =
     let pre = known .before .pre in
     let value =
     operand-of-part (args .image .now) (args .at) (args .frame .prefix) (args .frame .length) (c .number .result)
-    (pre .1) (c .number .ensures) in
+    (pre .1) (pre .2) (c .number .ensures) in
     let few =
     operand-small (args .image .now) (args .at) (args .frame .prefix) (args .frame .length) (c .number .result)
     (bytes-small known) (pre .2) in

@@ -6,7 +6,7 @@ use native.Mathlib.Omega.{arith}
 use borrow.Author.Needs.{needs}
 use Rattle.model.specs.Step.{callLimit}
 use Rattle.model.specs.StateBytes.{stateOf}
-use Rattle.statebytes.proofs.Turns.{Filled, one-more-filled, all-filled}
+use Rattle.statebytes.proofs.Entries.{Filled, one-more-filled, all-filled}
 use Rattle.statebytes.proofs.calls_of.Statement.{statement}
 use Rattle.statebytes.proofs.calls_of.Tie as tie
 

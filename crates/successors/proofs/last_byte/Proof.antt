@@ -1,6 +1,6 @@
 -- A shift by eight bits for each byte divides by a power of 256; a length below three leaves the whole operand.
 -- Assumes nothing.
-use Rattle.decoder.proofs.Words.{eight-bits}
+use Rattle.fields.proofs.Words.{eight-bits}
 use native.Mathlib.Omega.{arith}
 use native.Mathlib.Nat.{div-one}
 use Prim.Native.Nat.{_-_}

@@ -1,6 +1,6 @@
 -- The low bytes of six marks are the number of the first of them.
 -- Assumes nothing.
-use Rattle.decoder.proofs.Words.{low-number}
+use Rattle.fields.proofs.Fields.{number-first}
 use Rattle.prelude.proofs.Bytes.{bytes-drop}
 use borrow.Author.Tests.{lt-leb, le-leb}
 use lib.ListN.{length, drop}
@@ -20,7 +20,7 @@ returns-2 c =
           .marks .now)) (c .before .before .if1 .left),
       c .low-bytes .ensures,
       c .before .six-bytes .ensures,
-      low-number
+      number-first
           (drop (c .before .before .before .before .args .at) (c .before .before .before .before .args .marks
           .now)) 6 (c
           .before .before .before .before .args .n) (bytes-drop (c .before .before .before .before .args .at) (c .before

@@ -12,12 +12,11 @@ returns c =
 
 returns-2 : tie.Need-returns-2
 returns-2 c =
-    let one = c .before .before .before .before .before in
+    let one = c .before .before .before .before in
     rw (
       not-false (one .before .before .before .args .short) (one .if1 .left),
-      ← c .before .before .before .before .byte-at .ensures,
-      c .before .before .read .given .1,
-      c .word-of-byte .ensures,
+      ← c .before .before .before .byte-at .ensures,
+      c .before .read .given .1,
     ) refl
 
 returns-3 : tie.Need-returns-3
@@ -33,5 +32,5 @@ pub data-from-spec : {M : Type 1} → statement M
 data-from-spec =
     tie.close
     (tie.spec
-    (λ c κs. search needs) returns (λ c κs. search needs) (λ c. search needs) (λ c κs. search needs)
+    (λ c κs. search needs) returns (λ c κs. search needs) (λ c. search needs) (λ c. search needs)
     (λ c. search needs) returns-2 returns-3)

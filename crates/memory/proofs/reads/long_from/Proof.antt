@@ -33,7 +33,7 @@ returns-3 c =
 
 returns-4 : tie.Need-returns-4
 returns-4 c =
-    let third = c .before .before .before in
+    let third = c .before .before in
     let second = third .before .before .before .before in
     let first = second .before .before .before .before in
     rw (
@@ -43,7 +43,6 @@ returns-4 c =
       second .second .given .1,
       ← third .before .before .byte-at3 .ensures,
       third .third .given .1,
-      ← c .before .word-of .ensures,
       ← c .long-of .ensures .0,
     ) (refl, c .long-of .ensures .1)
 
@@ -53,4 +52,4 @@ long-from-spec =
     (tie.spec
     (λ c κs. search needs) (λ c. search needs) (λ c. search needs) returns (λ c κs. search needs)
     (λ c. search needs) (λ c. search needs) returns-2 (λ c κs. search needs) (λ c. search needs) (λ c. search needs)
-    returns-3 (λ c κs. search needs) (λ c κs. search needs) returns-4)
+    returns-3 (λ c κs. search needs) returns-4)

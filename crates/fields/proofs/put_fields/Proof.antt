@@ -4,9 +4,9 @@ use Prim.Native.Nat.{_-_}
 use native.Mathlib.Omega.{arith}
 use borrow.Author.Needs.{needs}
 use lib.ListN.{length}
-use Rattle.statebytes.proofs.Turns.{AllLeft, every-left, field-room, field-less, no-field-left}
-use Rattle.statebytes.proofs.fields.put_fields.Statement.{statement}
-use Rattle.statebytes.proofs.fields.put_fields.Tie as tie
+use Rattle.fields.proofs.Writing.{AllLeft, every-left, field-room, field-less, no-field-left}
+use Rattle.fields.proofs.put_fields.Statement.{statement}
+use Rattle.fields.proofs.put_fields.Tie as tie
 
 abbrev Inv-loop : tie.InvT-loop
 Inv-loop bytes₀ from size values at₀ i₀ bytes at i = AllLeft bytes₀ from size values bytes at i

@@ -3,9 +3,9 @@
 use Prim.Native.Nat.{_-_}
 use native.Mathlib.Omega.{arith}
 use borrow.Author.Needs.{needs}
-use Rattle.statebytes.proofs.Turns.{Left, all-left, one-less, none-left}
-use Rattle.statebytes.proofs.fields.put_field.Statement.{statement}
-use Rattle.statebytes.proofs.fields.put_field.Tie as tie
+use Rattle.fields.proofs.Writing.{Left, all-left, one-less, none-left}
+use Rattle.fields.proofs.put_field.Statement.{statement}
+use Rattle.fields.proofs.put_field.Tie as tie
 
 abbrev Inv-loop : tie.InvT-loop
 Inv-loop bytes₀ at size given value₀ i₀ bytes value i = Left bytes₀ at size given bytes value i

@@ -1,10 +1,10 @@
 -- Three pairs make the number of six bytes, which 48 bits hold.
 -- Assumes nothing.
-use Rattle.decoder.proofs.Words.{six-at}
+use Rattle.fields.proofs.Words.{six-at}
 use native.Mathlib.Omega.{arith}
 use borrow.Author.Needs.{needs}
-use Rattle.decoder.proofs.six_bytes.Statement.{statement}
-use Rattle.decoder.proofs.six_bytes.Tie as tie
+use Rattle.fields.proofs.six_bytes.Statement.{statement}
+use Rattle.fields.proofs.six_bytes.Tie as tie
 
 mul-low : tie.Need-mul-low
 mul-low c = omega (arith, c .pair2 .ensures .1)

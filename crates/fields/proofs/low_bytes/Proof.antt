@@ -1,11 +1,11 @@
 -- What stands above the low bytes is taken away; nothing leaves 64 bits.
 -- Assumes nothing.
 use Prim.Native.Nat.{_*_}
-use Rattle.decoder.proofs.Words.{low-bits-most, low-bits}
+use Rattle.fields.proofs.Words.{low-bits-most, low-bits}
 use native.Mathlib.Omega.{arith}
 use borrow.Author.Needs.{needs}
-use Rattle.decoder.proofs.low_bytes.Statement.{statement}
-use Rattle.decoder.proofs.low_bytes.Tie as tie
+use Rattle.fields.proofs.low_bytes.Statement.{statement}
+use Rattle.fields.proofs.low_bytes.Tie as tie
 
 sub-result : tie.Need-sub-result
 sub-result c = low-bits-most (c .args .value) (8 * c .args .n) (omega arith)
