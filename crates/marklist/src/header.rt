@@ -1,8 +1,8 @@
 // The first line of a list: base, length and reset.
 use crate::lines::LINE_END;
 use crate::lines::TAB;
+use fields::byte_at;
 use model::lists::Header;
-use text::bytes::byte_at;
 use text::bytes::starts_with;
 use text::digits::digit_count;
 use text::digits::number;

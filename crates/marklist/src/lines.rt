@@ -1,8 +1,8 @@
 // The line of a start: its address and the fields of its mark.
+use fields::byte_at;
 use image::is_formed;
 use image::is_start;
 use model::addresses::BANK_SIZE;
-use text::bytes::byte_at;
 use text::bytes::put_bytes;
 use text::bytes::starts_with;
 use text::digits::digit;

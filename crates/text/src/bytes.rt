@@ -2,15 +2,8 @@
 ghost use mathlib.Core.Path.{_≡_};
 ghost use mathlib.Core.List.{_∷_, _++_};
 ghost use Prim.Native.Nat.{_≤_, _<_};
-ghost use lib.ListN.{length, getD, drop};
+ghost use lib.ListN.{length, drop};
 ghost use Rattle.text.specs.Text.{startsWith};
-
-// The byte at a place, 0 past the end.
-pub fn byte_at(bytes: &[u8], at: usize) -> u8
-    ensures { λ r. ⌜ r ≡ getD (now (bytes .entry)) at 0 ⌝ }
-{
-    if at < bytes.len() { bytes[at] } else { 0 }
-}
 
 // A text begins with these bytes.
 pub fn starts_with(text: &[u8], bytes: &[u8]) -> bool

@@ -1,6 +1,6 @@
 // Numbers as digits in any radix. Where a function asks for a radix of 1 to 36, it is that there are 36 digits.
-use crate::bytes::byte_at;
 use crate::bytes::put_byte;
+use fields::byte_at;
 ghost use mathlib.Core.Path.{_≡_};
 ghost use mathlib.Core.List.{[], _∷_, _++_};
 ghost use Prim.Native.Nat.{_+_, _*_, _^_, _≤_, _<_};
