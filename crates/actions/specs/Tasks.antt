@@ -3,7 +3,7 @@
 use Prim.Native.Nat.{ℕ, _/_, _%_}
 use mathlib.Core.List.{List, [], _∷_}
 use lib.ListN.{getD}
-use Rattle.model.specs.declared.machine.Access.{Access}
+use Rattle.types.specs.declared.machine.Access.{Access}
 use Rattle.actions.specs.declared.tasks.Action.{Action}
 
 -- What is done; with which value, flag or mask or in which way, where the action has a choice; the register's place in

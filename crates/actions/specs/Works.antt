@@ -7,16 +7,16 @@ use mathlib.Core.List.{List, [], _∷_}
 use lib.Bits.{bitAnd, bitOr}
 use lib.Dec.{eqb, ltb}
 use lib.ListN.{getD}
-use Rattle.model.specs.declared.code.Mode.{Mode}
-use Rattle.model.specs.declared.machine.Data.{Data}
-use Rattle.model.specs.declared.machine.Status.{Status}
+use Rattle.types.specs.declared.code.Mode.{Mode}
+use Rattle.types.specs.declared.machine.Data.{Data}
+use Rattle.types.specs.declared.machine.Status.{Status}
 use Rattle.anywidth.specs.AnyWidth.{merged, decremented, clearedBy}
 use Rattle.model.specs.Addressing.{bits, residenceOf}
 use Rattle.model.specs.Arithmetic.{withResult, withFlagsSet, withFlagsCleared}
 use Rattle.prelude.specs.Choice.{pick}
 use Rattle.model.specs.Effects.{Effect, pushes, behindAddress}
-use Rattle.model.specs.Image.{bankSize}
-use Rattle.model.specs.Status.{numberOf, isSet}
+use Rattle.types.specs.Addresses.{bankSize}
+use Rattle.types.specs.Status.{numberOf, isSet}
 use Rattle.cpu.specs.File.{registersOf}
 use Rattle.cpu.specs.Rows.{status, putting, leaving, loading, combining, comparing, rotating, modified, modifying}
 use Rattle.cpu.specs.Rows.{pulling, swapping, storing, branching}

@@ -1,7 +1,7 @@
 // A task in one number: its action, the action's choice, the register that is put, and what is asked of memory, side by
 // side, so that the machine's step chooses among actions and not among operations. specs/Tasks.antt says where each
 // field stands and what it means.
-use model::machine::Access;
+use types::machine::Access;
 ghost use mathlib.Core.Path.{_≡_};
 ghost use Prim.Native.Nat.{_<_};
 ghost use Rattle.actions.specs.Tasks.{unpackedTask};

@@ -7,16 +7,16 @@ use cpu::flags::with_flags_cleared;
 use cpu::flags::with_flags_set;
 use datawidth::cleared_by;
 use datawidth::wide;
-use model::addresses::BANK_SIZE;
-use model::code::Mode;
-use model::machine::Status;
+use types::addresses::BANK_SIZE;
+use types::code::Mode;
+use types::machine::Status;
 ghost use mathlib.Core.Path.{_≡_};
 ghost use Prim.Native.Nat.{_+_, _<_};
 ghost use Rattle.model.specs.Addressing.{bits};
 ghost use Rattle.prelude.specs.Choice.{pick};
 ghost use Rattle.model.specs.Decode.{operandLimit};
-ghost use Rattle.model.specs.Image.{addressLimit};
-ghost use Rattle.model.specs.Status.{statusOf};
+ghost use Rattle.types.specs.Addresses.{addressLimit};
+ghost use Rattle.types.specs.Status.{statusOf};
 ghost use Rattle.actions.specs.Works as spec;
 
 // Choices from here on are registers.

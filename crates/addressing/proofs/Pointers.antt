@@ -18,18 +18,18 @@ use Rattle.memory.specs.declared.reads.LongRead.{LongRead}
 use Rattle.memory.specs.declared.reads.LongRead.the-variants.{Long, Unmapped as NoLong}
 use Rattle.memory.specs.Reads.{wordRead, longRead}
 use Rattle.memory.proofs.Views.{word-done, word-unmapped, long-done, long-unmapped}
-use Rattle.model.specs.declared.code.Accumulator.{Accumulator as Named}
-use Rattle.model.specs.declared.code.Mode.{Mode}
-use Rattle.model.specs.declared.machine.Access.{Access}
-use Rattle.model.specs.declared.machine.Access.the-variants.{Operand, Addend, Address, Pull, DirectWord}
-use Rattle.model.specs.declared.machine.Registers.{Registers}
-use Rattle.model.specs.declared.machine.Residence.{Residence}
-use Rattle.model.specs.declared.machine.Residence.the-variants.{Memory as InMemory, Instruction, Register}
+use Rattle.types.specs.declared.code.Accumulator.{Accumulator as Named}
+use Rattle.types.specs.declared.code.Mode.{Mode}
+use Rattle.types.specs.declared.machine.Access.{Access}
+use Rattle.types.specs.declared.machine.Access.the-variants.{Operand, Addend, Address, Pull, DirectWord}
+use Rattle.types.specs.declared.machine.Registers.{Registers}
+use Rattle.types.specs.declared.machine.Residence.{Residence}
+use Rattle.types.specs.declared.machine.Residence.the-variants.{Memory as InMemory, Instruction, Register}
 use Rattle.model.specs.Memory.{Memory, Act, ret, _>>=_, Outcome, done, unmapped, come}
 use Rattle.model.specs.Memory.{readWord, readLong, readData}
 use Rattle.anywidth.specs.AnyWidth.{size, low}
 use Rattle.model.specs.Addressing.{bits, dataAt, addressOf, residenceOf, operandBy, dataOf}
-use Rattle.model.specs.declared.machine.Data.{Data}
+use Rattle.types.specs.declared.machine.Data.{Data}
 use Rattle.model.proofs.machine.Access.{the-type}
 use Rattle.model.proofs.Memory.{onDone, come-bind, after-done, after-unmapped}
 

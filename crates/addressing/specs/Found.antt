@@ -8,14 +8,14 @@ use Rattle.addressing.specs.declared.reach.DataRead.{DataRead}
 use Rattle.addressing.specs.declared.reach.DataRead.the-variants.{Found, Unmapped as NoData}
 use Rattle.memory.specs.declared.reads.WordRead.{WordRead}
 use Rattle.memory.specs.declared.reads.WordRead.the-variants.{Word, Unmapped as NoWord}
-use Rattle.model.specs.declared.code.Mode.{Mode}
-use Rattle.model.specs.declared.code.Accumulator.{Accumulator as Named}
-use Rattle.model.specs.declared.machine.Access.{Access}
-use Rattle.model.specs.declared.machine.Access.the-variants.{Operand, Addend, Address, Pull, DirectWord}
-use Rattle.model.specs.declared.machine.Data.{Data}
-use Rattle.model.specs.declared.machine.Registers.{Registers}
-use Rattle.model.specs.declared.machine.Residence.{Residence}
-use Rattle.model.specs.declared.machine.Residence.the-variants.{Memory, Instruction, Register}
+use Rattle.types.specs.declared.code.Mode.{Mode}
+use Rattle.types.specs.declared.code.Accumulator.{Accumulator as Named}
+use Rattle.types.specs.declared.machine.Access.{Access}
+use Rattle.types.specs.declared.machine.Access.the-variants.{Operand, Addend, Address, Pull, DirectWord}
+use Rattle.types.specs.declared.machine.Data.{Data}
+use Rattle.types.specs.declared.machine.Registers.{Registers}
+use Rattle.types.specs.declared.machine.Residence.{Residence}
+use Rattle.types.specs.declared.machine.Residence.the-variants.{Memory, Instruction, Register}
 use Rattle.anywidth.specs.AnyWidth.{low}
 use Rattle.model.specs.Addressing.{bits, dataAt, accumulatorOf, addressOf, residenceOf, inMemory}
 use Rattle.prelude.specs.Choice.{pick}

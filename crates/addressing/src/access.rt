@@ -1,5 +1,5 @@
 // The width of an instruction's data.
-use model::code::DataWidth;
+use types::code::DataWidth;
 ghost use mathlib.Core.Path.{_≡_};
 ghost use Rattle.model.specs.Addressing as spec;
 

@@ -6,12 +6,12 @@ use mathlib.Core.Path.{_≡_}
 use mathlib.Core.List.{List, [], _∷_, _++_}
 use lib.Dec.{leb}
 use lib.ListN.{length, drop}
-use Rattle.model.specs.declared.rules.Verdict as verdicts
-use Rattle.model.specs.declared.lists.ListRead.{ListRead}
-use Rattle.model.specs.declared.lists.ListRead.the-variants.{NotRead, Read}
+use Rattle.types.specs.declared.rules.Verdict as verdicts
+use Rattle.types.specs.declared.lists.ListRead.{ListRead}
+use Rattle.types.specs.declared.lists.ListRead.the-variants.{NotRead, Read}
 use Rattle.prelude.specs.Choice.{pick}
 use Rattle.text.specs.Digits.{digits}
-use Rattle.model.specs.Refusals.{refusalNumber}
+use Rattle.types.specs.Refusals.{refusalNumber}
 use Rattle.model.specs.Image.{imageLimit, startCount}
 use Rattle.model.specs.Verdict.{verdict}
 use Rattle.model.specs.MarkList.{tab, lineEnd, decimalDigits, headerShown, marksOf, readAs}

@@ -1,9 +1,9 @@
 // The answer for the bytes of two files.
 use image::IMAGE_LIMIT;
 use marklist::reader::read_list;
-use model::lists::ListRead;
-use model::refusals::Refusal;
-use model::rules::Verdict;
+use types::lists::ListRead;
+use types::refusals::Refusal;
+use types::rules::Verdict;
 use view::plain::judge;
 ghost use mathlib.Core.Path.{_≡_};
 ghost use lib.ListN.{length};

@@ -2,9 +2,9 @@
 use crate::answers::Answer;
 use marklist::lines::LINE_END;
 use marklist::lines::TAB;
-use model::refusals::refusal_number;
 use text::digits::digit_count;
 use text::digits::put_field;
+use types::refusals::refusal_number;
 ghost use Prim.Native.Nat.{_≤_};
 ghost use lib.ListN.{length};
 ghost use Rattle.answer.specs.AnswerLine as spec;

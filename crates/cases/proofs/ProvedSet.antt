@@ -12,17 +12,17 @@ use borrow.Author.Tests.{lt-ltb, le-leb}
 use lib.Dec.{eqb, ltb}
 use lib.ListN.{length, getD, set}
 use lib.Seq.{getD-set-same}
-use Rattle.model.specs.declared.machine.State.{State}
-use Rattle.model.specs.declared.machine.Answer.the-variants.{Completed, Called, Stopped}
-use Rattle.model.specs.declared.machine.Stop.the-variants.{Halt}
-use Rattle.model.specs.declared.refusals.TestResult.the-variants.{Passed}
+use Rattle.types.specs.declared.machine.State.{State}
+use Rattle.types.specs.declared.machine.Answer.the-variants.{Completed, Called, Stopped}
+use Rattle.types.specs.declared.machine.Stop.the-variants.{Halt}
+use Rattle.types.specs.declared.refusals.TestResult.the-variants.{Passed}
 use Rattle.model.specs.CodePages.{plain, pages}
 use Rattle.model.specs.CodeMap.{entryAt}
 use Rattle.model.specs.Decode.{judged, decodeOn, decode}
 use Rattle.model.specs.Image.{isFormed, lengthFits, baseFits, markAt, resetFits}
 use Rattle.model.specs.Rules.{targetOf, mAfter, xAfter, markOfRoutine, markOnReturn, markAfter, owedBy, owedAt}
 use Rattle.model.specs.Rules.{returnsBy, returnFits}
-use Rattle.model.specs.Refusals.{firstRefusal}
+use Rattle.types.specs.Refusals.{firstRefusal}
 use Rattle.prelude.specs.First.{firstFrom}
 use Rattle.model.specs.Verdict.{isClear, wantsStart, allStarts, wantsMark, allMarks}
 use Rattle.model.specs.Verdict.{decodedResult, startResult, badMark, badStart, startsVerdict, verdict}

@@ -8,11 +8,11 @@ use mathlib.Core.List.{List, [], _∷_}
 use Prim.Native.Nat.{ℕ, zero, suc, _≤_}
 use native.Mathlib.Omega.{arith}
 use lib.ListN.{replicate}
-use Rattle.model.specs.declared.machine.State.{State}
-use Rattle.model.specs.declared.machine.Answer.the-variants.{Completed}
-use Rattle.model.specs.declared.refusals.TestResult.the-variants.{Passed}
-use Rattle.model.specs.declared.runs.End.the-variants.{Done}
-use Rattle.model.specs.declared.runs.RunAnswer.the-variants.{Ended}
+use Rattle.types.specs.declared.machine.State.{State}
+use Rattle.types.specs.declared.machine.Answer.the-variants.{Completed}
+use Rattle.types.specs.declared.refusals.TestResult.the-variants.{Passed}
+use Rattle.types.specs.declared.runs.End.the-variants.{Done}
+use Rattle.types.specs.declared.runs.RunAnswer.the-variants.{Ended}
 use Rattle.model.specs.Memory.{Memory}
 use Rattle.model.specs.Step.{Stepped, stepped, step}
 use Rattle.model.specs.Run.{stepLimit, isCompleted, Event, withRam, history, completedSteps, callsAmong, endOf}

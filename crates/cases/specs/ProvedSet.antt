@@ -4,7 +4,7 @@ use Prim.Native.Nat.{ℕ, _-_}
 use mathlib.Core.Bool.{false}
 use mathlib.Core.List.{List, [], _∷_, _++_}
 use lib.ListN.{set}
-use Rattle.model.specs.declared.machine.State.{State}
+use Rattle.types.specs.declared.machine.State.{State}
 use Rattle.model.specs.Arithmetic.{withWidths, withA, withS, withStatus}
 use Rattle.model.specs.Guarantee.{Every}
 use Rattle.cases.specs.Rows.{listOf, bytesOf, Silent, stateAt, Judged, accepted, refused}

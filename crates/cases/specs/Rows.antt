@@ -8,17 +8,17 @@ use Prim.Native.String.{String, len, charAt}
 use mathlib.Core.Bool.{true}
 use mathlib.Core.List.{List, [], _∷_, _++_}
 use lib.ListN.{length, getD, drop}
-use Rattle.model.specs.declared.lists.ListRead.the-variants.{Read}
-use Rattle.model.specs.declared.lists.ListWritten.the-variants.{Written}
-use Rattle.model.specs.declared.rules.Verdict.{Verdict}
-use Rattle.model.specs.declared.rules.Verdict.the-variants.{Accepted, Refused}
-use Rattle.model.specs.declared.machine.Registers.{Registers}
-use Rattle.model.specs.declared.machine.Core.{Core}
-use Rattle.model.specs.declared.machine.State.{State}
-use Rattle.model.specs.declared.runs.End.the-variants.{Done}
-use Rattle.model.specs.declared.runs.RunAnswer.{RunAnswer}
-use Rattle.model.specs.declared.runs.RunAnswer.the-variants.{NotRun, Ended}
-use Rattle.model.specs.Refusals.{refusalNumber}
+use Rattle.types.specs.declared.lists.ListRead.the-variants.{Read}
+use Rattle.types.specs.declared.lists.ListWritten.the-variants.{Written}
+use Rattle.types.specs.declared.rules.Verdict.{Verdict}
+use Rattle.types.specs.declared.rules.Verdict.the-variants.{Accepted, Refused}
+use Rattle.types.specs.declared.machine.Registers.{Registers}
+use Rattle.types.specs.declared.machine.Core.{Core}
+use Rattle.types.specs.declared.machine.State.{State}
+use Rattle.types.specs.declared.runs.End.the-variants.{Done}
+use Rattle.types.specs.declared.runs.RunAnswer.{RunAnswer}
+use Rattle.types.specs.declared.runs.RunAnswer.the-variants.{NotRun, Ended}
+use Rattle.types.specs.Refusals.{refusalNumber}
 use Rattle.model.specs.Verdict.{verdict}
 use Rattle.model.specs.MarkList.{readList, marksRead, writeList, pageWritten}
 use Rattle.model.specs.Memory.{Memory, memory}

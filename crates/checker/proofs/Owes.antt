@@ -11,19 +11,20 @@ use lib.Dec.{eqb, leb}
 use lib.ListN.{length, getD, List·getD-eq-default}
 use Rattle.codepages.specs.Packing.{unpacked}
 use Rattle.codepages.proofs.Unpacked.{kept-effect}
-use Rattle.model.specs.declared.code.Kind.{Kind}
-use Rattle.model.specs.declared.code.WidthEffect.{WidthEffect}
-use Rattle.model.specs.declared.code.Flow.{Flow}
-use Rattle.model.specs.declared.code.Flow.the-variants.{Next, Branch, Jump, Call, Return, Halt}
-use Rattle.model.specs.declared.code.Instruction.{Instruction}
-use Rattle.model.specs.declared.refusals.Refusal.the-variants as refusal
-use Rattle.model.specs.declared.refusals.TestResult.{TestResult}
-use Rattle.model.specs.declared.rules.Want.{Want}
-use Rattle.model.specs.declared.rules.Owed.{Owed}
-use Rattle.model.specs.declared.rules.Owed.the-variants.{Nothing, One, Two}
+use Rattle.types.specs.declared.code.Kind.{Kind}
+use Rattle.types.specs.declared.code.WidthEffect.{WidthEffect}
+use Rattle.types.specs.declared.code.Flow.{Flow}
+use Rattle.types.specs.declared.code.Flow.the-variants.{Next, Branch, Jump, Call, Return, Halt}
+use Rattle.types.specs.declared.code.Instruction.{Instruction}
+use Rattle.types.specs.declared.refusals.Refusal.the-variants as refusal
+use Rattle.types.specs.declared.refusals.TestResult.{TestResult}
+use Rattle.types.specs.declared.rules.Want.{Want}
+use Rattle.types.specs.declared.rules.Owed.{Owed}
+use Rattle.types.specs.declared.rules.Owed.the-variants.{Nothing, One, Two}
 use Rattle.prelude.specs.Choice.{pick}
-use Rattle.model.specs.Image.{addressLimit, isStart, markM, markX, markKind, returnM, returnX, markOf, markAt}
-use Rattle.model.specs.Refusals.{firstRefusal}
+use Rattle.types.specs.Addresses.{addressLimit}
+use Rattle.model.specs.Image.{isStart, markM, markX, markKind, returnM, returnX, markOf, markAt}
+use Rattle.types.specs.Refusals.{firstRefusal}
 use Rattle.model.specs.Rules.{kindNumber, markOfRoutine, markOnReturn, markAfter, mAfter, xAfter}
 use Rattle.model.specs.Rules.{owedBy, owedAt, returnFits}
 use Rattle.model.specs.Verdict.{wantsStart, allStarts, wantsMark, allMarks}

@@ -9,10 +9,10 @@ use native.Mathlib.Omega.{arith}
 use borrow.Author.Tests.{ltb-true, ltb-false}
 use lib.Dec.{ltb}
 use lib.ListN.{getD, drop}
-use Rattle.model.specs.declared.code.Decoded.{Decoded}
-use Rattle.model.specs.declared.code.Decoded.the-variants.{Whole, NotCarried, CutOff}
-use Rattle.model.specs.declared.refusals.TestResult.{TestResult}
-use Rattle.model.specs.declared.refusals.TestResult.the-variants.{Passed as NoneFailed}
+use Rattle.types.specs.declared.code.Decoded.{Decoded}
+use Rattle.types.specs.declared.code.Decoded.the-variants.{Whole, NotCarried, CutOff}
+use Rattle.types.specs.declared.refusals.TestResult.{TestResult}
+use Rattle.types.specs.declared.refusals.TestResult.the-variants.{Passed as NoneFailed}
 use Rattle.prelude.specs.Choice.{pick}
 use Rattle.model.specs.Image.{markM, markX}
 use Rattle.model.specs.Rules.{instructionAt, StartRules}

@@ -4,10 +4,10 @@ use mathlib.Core.Path.{_≡_}
 use Prim.Native.Nat.{ℕ}
 use mathlib.Core.Bool.{true}
 use mathlib.Core.List.{List, [], _∷_}
-use Rattle.model.specs.declared.code.Flow.{Flow}
-use Rattle.model.specs.declared.refusals.Refusal.the-variants as refusal
-use Rattle.model.specs.declared.rules.Owed.{Owed}
-use Rattle.model.specs.Refusals.{Tests}
+use Rattle.types.specs.declared.code.Flow.{Flow}
+use Rattle.types.specs.declared.refusals.Refusal.the-variants as refusal
+use Rattle.types.specs.declared.rules.Owed.{Owed}
+use Rattle.types.specs.Refusals.{Tests}
 use Rattle.model.specs.Rules.{returnFits}
 use Rattle.model.specs.Verdict.{allStarts, allMarks}
 

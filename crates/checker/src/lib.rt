@@ -8,16 +8,17 @@ use codepages::pages;
 use image::bad_mark;
 use image::is_start;
 use image::test_marks;
-use model::refusals::Refusal;
-use model::refusals::TestResult;
-use model::refusals::refusal_number;
-use model::rules::Verdict;
+use types::refusals::Refusal;
+use types::refusals::TestResult;
+use types::refusals::refusal_number;
+use types::rules::Verdict;
 ghost use mathlib.Core.Path.{_≡_};
 ghost use Prim.Native.Nat.{_+_, _≤_, _<_};
 ghost use lib.ListN.{length};
 ghost use Rattle.codepages.specs.Packing.{numbers};
 ghost use Rattle.prelude.specs.Choice.{pick};
-ghost use Rattle.model.specs.Image.{addressLimit, bankSize, isStart, startCount};
+ghost use Rattle.types.specs.Addresses.{addressLimit, bankSize};
+ghost use Rattle.model.specs.Image.{isStart, startCount};
 ghost use Rattle.model.specs.Verdict as spec;
 
 // The starts in turn, from the lowest: the first that breaks a rule refuses. Where an instruction breaks none, no

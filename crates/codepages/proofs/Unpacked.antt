@@ -8,7 +8,7 @@ use Prim.Native.Nat.{ℕ, zero, suc, _/_, _%_}
 use borrow.Author.Tests.{eqb-true}
 use lib.Dec.{eqb}
 use lib.ListN.{getD, List·getD-map}
-use Rattle.model.specs.declared.code.WidthEffect.{WidthEffect}
+use Rattle.types.specs.declared.code.WidthEffect.{WidthEffect}
 use Rattle.model.specs.CodePages.{Form, none, plain, behind42, behind89, pages}
 use Rattle.model.specs.CodeMap.{entryOf, entryAt}
 use Rattle.codepages.specs.Packing.{unpacked, packed, packedPage, numbers, numberAt}

@@ -6,33 +6,33 @@ use mathlib.Core.Bool.{Bool, true, false}
 use mathlib.Core.List.{List, [], _∷_, map}
 use lib.Dec.{eqb}
 use lib.ListN.{getD}
-use Rattle.model.specs.declared.code.Operation.the-variants.{Unassigned}
-use Rattle.model.specs.declared.code.Mode.{Mode}
-use Rattle.model.specs.declared.code.Mode.the-variants.{Implied, Immediate, Accumulator as ACC, Direct}
-use Rattle.model.specs.declared.code.Mode.the-variants.{DirectBit, DirectIndexedX, DirectIndexedY}
-use Rattle.model.specs.declared.code.Mode.the-variants.{DirectIndirect, DirectIndexedXIndirect}
-use Rattle.model.specs.declared.code.Mode.the-variants.{DirectIndirectIndexedY, DirectIndirectLong}
-use Rattle.model.specs.declared.code.Mode.the-variants.{DirectIndirectLongIndexedY, Absolute, AbsoluteBit}
-use Rattle.model.specs.declared.code.Mode.the-variants.{AbsoluteIndexedX, AbsoluteIndexedY, AbsoluteLong}
-use Rattle.model.specs.declared.code.Mode.the-variants.{AbsoluteLongIndexedX, AbsoluteIndirect}
-use Rattle.model.specs.declared.code.Mode.the-variants.{AbsoluteIndirectLong, AbsoluteIndexedXIndirect, Stack}
-use Rattle.model.specs.declared.code.Mode.the-variants.{Relative, DirectBitRelative, AbsoluteBitRelative}
-use Rattle.model.specs.declared.code.Mode.the-variants.{StackPointerRelative}
-use Rattle.model.specs.declared.code.Mode.the-variants.{StackPointerRelativeIndirectIndexedY, BlockTransfer}
-use Rattle.model.specs.declared.code.Accumulator.{Accumulator}
-use Rattle.model.specs.declared.code.Accumulator.the-variants.{Unnamed, A, B}
-use Rattle.model.specs.declared.code.Kind.the-variants.{ByRts, ByRtl}
-use Rattle.model.specs.declared.code.Flow.{Flow}
-use Rattle.model.specs.declared.code.Flow.the-variants.{Next, Branch, Jump, Call, Return, Halt}
-use Rattle.model.specs.declared.code.Target.{Target}
-use Rattle.model.specs.declared.code.Target.the-variants.{NoTarget, Offset8, Offset16, Address16, Address24}
-use Rattle.model.specs.declared.code.WidthEffect.{WidthEffect}
-use Rattle.model.specs.declared.code.WidthEffect.the-variants.{KeepWidths, SetM, ClearM, SetBits, ClearBits}
-use Rattle.model.specs.declared.code.LengthRule.{LengthRule}
-use Rattle.model.specs.declared.code.LengthRule.the-variants.{Fixed, MoreByM, MoreByX}
-use Rattle.model.specs.declared.code.DataWidth.{DataWidth}
-use Rattle.model.specs.declared.code.DataWidth.the-variants.{NoData, ByM, ByX, Byte, Word}
-use Rattle.model.specs.declared.code.Entry.{Entry}
+use Rattle.types.specs.declared.code.Operation.the-variants.{Unassigned}
+use Rattle.types.specs.declared.code.Mode.{Mode}
+use Rattle.types.specs.declared.code.Mode.the-variants.{Implied, Immediate, Accumulator as ACC, Direct}
+use Rattle.types.specs.declared.code.Mode.the-variants.{DirectBit, DirectIndexedX, DirectIndexedY}
+use Rattle.types.specs.declared.code.Mode.the-variants.{DirectIndirect, DirectIndexedXIndirect}
+use Rattle.types.specs.declared.code.Mode.the-variants.{DirectIndirectIndexedY, DirectIndirectLong}
+use Rattle.types.specs.declared.code.Mode.the-variants.{DirectIndirectLongIndexedY, Absolute, AbsoluteBit}
+use Rattle.types.specs.declared.code.Mode.the-variants.{AbsoluteIndexedX, AbsoluteIndexedY, AbsoluteLong}
+use Rattle.types.specs.declared.code.Mode.the-variants.{AbsoluteLongIndexedX, AbsoluteIndirect}
+use Rattle.types.specs.declared.code.Mode.the-variants.{AbsoluteIndirectLong, AbsoluteIndexedXIndirect, Stack}
+use Rattle.types.specs.declared.code.Mode.the-variants.{Relative, DirectBitRelative, AbsoluteBitRelative}
+use Rattle.types.specs.declared.code.Mode.the-variants.{StackPointerRelative}
+use Rattle.types.specs.declared.code.Mode.the-variants.{StackPointerRelativeIndirectIndexedY, BlockTransfer}
+use Rattle.types.specs.declared.code.Accumulator.{Accumulator}
+use Rattle.types.specs.declared.code.Accumulator.the-variants.{Unnamed, A, B}
+use Rattle.types.specs.declared.code.Kind.the-variants.{ByRts, ByRtl}
+use Rattle.types.specs.declared.code.Flow.{Flow}
+use Rattle.types.specs.declared.code.Flow.the-variants.{Next, Branch, Jump, Call, Return, Halt}
+use Rattle.types.specs.declared.code.Target.{Target}
+use Rattle.types.specs.declared.code.Target.the-variants.{NoTarget, Offset8, Offset16, Address16, Address24}
+use Rattle.types.specs.declared.code.WidthEffect.{WidthEffect}
+use Rattle.types.specs.declared.code.WidthEffect.the-variants.{KeepWidths, SetM, ClearM, SetBits, ClearBits}
+use Rattle.types.specs.declared.code.LengthRule.{LengthRule}
+use Rattle.types.specs.declared.code.LengthRule.the-variants.{Fixed, MoreByM, MoreByX}
+use Rattle.types.specs.declared.code.DataWidth.{DataWidth}
+use Rattle.types.specs.declared.code.DataWidth.the-variants.{NoData, ByM, ByX, Byte, Word}
+use Rattle.types.specs.declared.code.Entry.{Entry}
 use Rattle.model.specs.Operations.{place}
 pub use Rattle.model.specs.Operations.{operations}
 use Rattle.model.specs.CodePages.{Form, plain, behind42, behind89}

@@ -6,9 +6,9 @@ use Prim.Native.Nat.{ℕ, zero, suc, _<_}
 use native.Mathlib.Nat.{mod-eq-of-lt}
 use native.Mathlib.Omega.{arith}
 use lib.ListN.{length, set, length-set}
-use Rattle.model.specs.declared.machine.Registers.{Registers}
+use Rattle.types.specs.declared.machine.Registers.{Registers}
 use Rattle.model.specs.Arithmetic.{registers, withStatus}
-use Rattle.model.specs.Status.{numberOf, statusOf}
+use Rattle.types.specs.Status.{numberOf, statusOf}
 use Rattle.model.proofs.Status.{number-status}
 use Rattle.cpu.specs.File.{registersOf, put, fileSize}
 

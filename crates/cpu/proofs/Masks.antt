@@ -11,7 +11,7 @@ use lib.Bits.{and-mod, or-mod, xor-mod, and-le-l, or-zero-l, xor-zero-l}
 use lib.Dec.{eqb}
 use Rattle.model.specs.Arithmetic.{withFlagsSet, withFlagsCleared}
 use Rattle.prelude.specs.Choice.{pick}
-use Rattle.model.specs.Status.{isSet, statusOf}
+use Rattle.types.specs.Status.{isSet, statusOf}
 
 -- a flag of two numbers joined digit by digit
 module _ (f : ℕ → ℕ → ℕ) (g : Bool → Bool → Bool)

@@ -6,11 +6,11 @@ use Prim.Native.Nat.{ℕ, zero, suc, _+_, _-_, _*_, _/_, _%_, _≤_}
 use native.Mathlib.Nat.{div-div-eq-div-mul}
 use native.Mathlib.Omega.{arith}
 use lib.Dec.{eqb}
-use Rattle.model.specs.declared.machine.Status.{Status}
+use Rattle.types.specs.declared.machine.Status.{Status}
 use Rattle.anywidth.specs.AnyWidth.{low, isNegative}
 use Rattle.model.specs.Arithmetic.{withCarry, withOverflow, withWidths, withResult}
 use Rattle.prelude.specs.Choice.{bit}
-use Rattle.model.specs.Status.{isSet, statusOf, numberOf}
+use Rattle.types.specs.Status.{isSet, statusOf, numberOf}
 use Rattle.model.proofs.Status.{status-number, number-status}
 
 bit-small : (n : ℕ) → n ≤ 1 → bit (eqb n 1) ≡ n

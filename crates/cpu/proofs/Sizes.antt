@@ -2,7 +2,7 @@
 -- Assumes nothing.
 use Prim.Native.Nat.{_<_}
 use native.Mathlib.Omega.{arith}
-use Rattle.model.specs.declared.code.Mode.{Mode}
+use Rattle.types.specs.declared.code.Mode.{Mode}
 use Rattle.model.specs.Effects.{addressSize}
 
 pub some-address : (mode : Mode) → 0 < addressSize mode

@@ -6,14 +6,14 @@ use mathlib.Core.Bool.{Bool, true, false}
 use mathlib.Core.List.{List, [], _∷_}
 use lib.Bits.{bitAnd, bitOr, bitXor}
 use lib.ListN.{getD}
-use Rattle.model.specs.declared.machine.Status.{Status}
-use Rattle.model.specs.declared.machine.Residence.{Residence}
+use Rattle.types.specs.declared.machine.Status.{Status}
+use Rattle.types.specs.declared.machine.Residence.{Residence}
 use Rattle.anywidth.specs.AnyWidth.{low, merged, isNegative, sum, difference, isPast, decremented, shiftedLeft}
 use Rattle.anywidth.specs.AnyWidth.{shiftedRight, isOdd, rotated}
 use Rattle.model.specs.Addressing.{bits, pulledAt}
 use Rattle.model.specs.Arithmetic.{withCarry, withResult, withStatus, withS, sumStatus, differenceStatus}
 use Rattle.model.specs.Effects.{Effect, effect, only, storesOf, bytes}
-use Rattle.model.specs.Status.{statusOf}
+use Rattle.types.specs.Status.{statusOf}
 use Rattle.cpu.specs.File.{registersOf, put}
 
 -- What is worked out: data, of any size, and the status.

@@ -11,10 +11,10 @@ use Rattle.cpu.specs.File.{registersOf, put, fileSize}
 use Rattle.cpu.specs.Rows.{Worked, worked}
 use Rattle.memory.specs.Listed.{listed}
 use Rattle.memory.specs.declared.stores.Stores.{Stores}
-use Rattle.model.specs.declared.machine.Registers.{Registers}
+use Rattle.types.specs.declared.machine.Registers.{Registers}
 use Rattle.model.specs.Effects.{Effect, effect}
 use Rattle.model.specs.Arithmetic.{withStatus}
-use Rattle.model.specs.Status.{statusOf}
+use Rattle.types.specs.Status.{statusOf}
 
 abbrev pub kept : ℕ → ℕ → ℕ → ℕ → ℕ → Stores → Bool → Kept
 kept first value second other status stores taken = record {

@@ -2,9 +2,9 @@
 // Left open is the upper byte of DT's number: DT has 8 bits, and a promise speaks of the registers that a file holds
 // (specs/File.antt, `registersOf`). Nothing hangs on it, for a task gives the same registers whatever it is
 // (operations/specs/Table.antt, `Does`).
-use model::code::Accumulator;
-use model::machine::Registers;
-use model::machine::Status;
+use types::code::Accumulator;
+use types::machine::Registers;
+use types::machine::Status;
 ghost use mathlib.Core.Path.{_≡_};
 ghost use lib.ListN.{length};
 ghost use Rattle.model.specs.Addressing.{accumulatorOf};

@@ -1,14 +1,14 @@
 // The flags of the status register's number, and the number with some of them changed.
 use datawidth::half;
 use datawidth::low;
-use model::machine::Status;
-use model::machine::bit_of;
+use types::machine::Status;
+use types::machine::bit_of;
 ghost use mathlib.Core.Path.{_≡_};
 ghost use Prim.Native.Nat.{_^_, _≤_, _<_};
 ghost use lib.Dec.{eqb};
 ghost use Rattle.model.specs.Addressing.{bits};
 ghost use Rattle.model.specs.Arithmetic as spec;
-ghost use Rattle.model.specs.Status.{isSet, statusOf};
+ghost use Rattle.types.specs.Status.{isSet, statusOf};
 ghost use Rattle.prelude.specs.Choice.{bit};
 
 // Whether the flag that a mask names is set. Asks for a mask other than 0: it is divided by.

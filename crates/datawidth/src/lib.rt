@@ -1,5 +1,5 @@
 // Data of 8 or 16 bits: `short` says which.
-use model::machine::bit_of;
+use types::machine::bit_of;
 ghost use mathlib.Core.Path.{_≡_};
 ghost use Prim.Native.Nat.{_*_, _%_, _^_, _<_, _≤_};
 ghost use Rattle.model.specs.Addressing.{bits};

@@ -11,8 +11,8 @@ use borrow.Author.Tests.{leb-true, lt-ltb, le-ltb, eqb-true, ne-eqb}
 use lib.Dec.{eqb, ltb, leb}
 use lib.ListN.{length, getD, drop, length-drop}
 use lib.Seq.{getD-drop}
-use Rattle.model.specs.declared.code.Instruction.{Instruction}
-use Rattle.model.specs.declared.code.Decoded.the-variants.{Whole, NotCarried, CutOff}
+use Rattle.types.specs.declared.code.Instruction.{Instruction}
+use Rattle.types.specs.declared.code.Decoded.the-variants.{Whole, NotCarried, CutOff}
 use Rattle.prelude.specs.Choice.{pick}
 use Rattle.model.specs.CodeMap.{prefixBytes, lengthAt}
 use Rattle.model.specs.CodePages.{plain}

@@ -6,7 +6,7 @@ use native.Mathlib.Nat.{mod-lt}
 use native.Mathlib.Omega.{arith}
 use lib.Dec.{eqb}
 use lib.ListN.{getD}
-use Rattle.model.specs.declared.code.LengthRule.the-variants.{Fixed}
+use Rattle.types.specs.declared.code.LengthRule.the-variants.{Fixed}
 use Rattle.prelude.specs.Choice.{pick}
 use Rattle.model.specs.CodeMap.{moreBytes, lengthAt}
 use Rattle.prelude.proofs.Choice.{one-or-none}

@@ -7,9 +7,9 @@ use Rattle.packing.specs.Packed.{writtenNumbers, packedRun, answerNumbers, runN
 use Rattle.packing.proofs.Answers.{verdict-fits, read-fits}
 use Rattle.packing.proofs.Counts.{run-fits}
 use Rattle.packing.proofs.Unpacked.{verdict-unpacked, read-unpacked, written-unpacked, run-unpacked}
-use Rattle.model.specs.declared.rules.Verdict.{Verdict}
-use Rattle.model.specs.declared.lists.ListRead.{ListRead}
-use Rattle.model.specs.declared.lists.ListWritten.{ListWritten}
+use Rattle.types.specs.declared.rules.Verdict.{Verdict}
+use Rattle.types.specs.declared.lists.ListRead.{ListRead}
+use Rattle.types.specs.declared.lists.ListWritten.{ListWritten}
 use Rattle.model.specs.Verdict.{verdict}
 use Rattle.model.specs.MarkList.{readList, writeList}
 use Rattle.model.specs.RunBytes.{RanBytes, ranBytes}

@@ -28,7 +28,7 @@ use Rattle.loader.proofs.m7700_step as Step
 use Rattle.loader.proofs.m7700_step.Reads as StepReads
 use Rattle.loader.proofs.m7700_step.Statement as StepStatement
 use Rattle.packing.specs.Packed.{RunNumbers, runNumbers}
-use Rattle.model.specs.declared.machine.State.{State}
+use Rattle.types.specs.declared.machine.State.{State}
 use Rattle.prelude.specs.Bytes.{AllBytes}
 use Rattle.model.specs.Memory.{Memory, memory}
 use Rattle.model.specs.Run.{Event, runHistory}

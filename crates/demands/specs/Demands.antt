@@ -18,9 +18,9 @@ use mathlib.Core.List.{List, [], _∷_, _++_}
 use lib.ListN.{length, take, drop}
 use Rattle.packing.specs.Packed.{verdictNumbers, checkNumbers, listReadNumbers, readNumbers, listWrittenNumbers}
 use Rattle.packing.specs.Packed.{writtenNumbers, answerNumbers}
-use Rattle.model.specs.declared.refusals.Refusal.{Refusal}
-use Rattle.model.specs.declared.runs.RunAnswer.the-variants.{Ended}
-use Rattle.model.specs.Refusals.{refusalNumber}
+use Rattle.types.specs.declared.refusals.Refusal.{Refusal}
+use Rattle.types.specs.declared.runs.RunAnswer.the-variants.{Ended}
+use Rattle.types.specs.Refusals.{refusalNumber}
 use Rattle.model.specs.CodeMap.{entryAt, lengthAt}
 use Rattle.model.specs.Rules.{Accepts}
 use Rattle.model.specs.Verdict.{verdict}

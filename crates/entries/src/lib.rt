@@ -2,26 +2,26 @@
 pub mod operations;
 
 use crate::operations::operation_of;
-use model::code::Accumulator;
-use model::code::DataWidth;
-use model::code::Entry;
-use model::code::Flow;
-use model::code::Kind;
-use model::code::LengthRule;
-use model::code::Mode;
-use model::code::Target;
-use model::code::WidthEffect;
+use types::code::Accumulator;
+use types::code::DataWidth;
+use types::code::Entry;
+use types::code::Flow;
+use types::code::Kind;
+use types::code::LengthRule;
+use types::code::Mode;
+use types::code::Target;
+use types::code::WidthEffect;
 ghost use mathlib.Core.Path.{_≡_};
 ghost use Prim.Native.Nat.{_/_, _%_, _≤_};
 ghost use lib.Dec.{eqb};
 ghost use lib.ListN.{getD};
-ghost use Rattle.model.specs.declared.code.Accumulator.the-variants.{Unnamed};
-ghost use Rattle.model.specs.declared.code.DataWidth.the-variants.{NoData};
-ghost use Rattle.model.specs.declared.code.Flow.the-variants.{Next};
-ghost use Rattle.model.specs.declared.code.LengthRule.the-variants.{Fixed};
-ghost use Rattle.model.specs.declared.code.Mode.the-variants.{Implied};
-ghost use Rattle.model.specs.declared.code.Target.the-variants.{NoTarget};
-ghost use Rattle.model.specs.declared.code.WidthEffect.the-variants.{KeepWidths};
+ghost use Rattle.types.specs.declared.code.Accumulator.the-variants.{Unnamed};
+ghost use Rattle.types.specs.declared.code.DataWidth.the-variants.{NoData};
+ghost use Rattle.types.specs.declared.code.Flow.the-variants.{Next};
+ghost use Rattle.types.specs.declared.code.LengthRule.the-variants.{Fixed};
+ghost use Rattle.types.specs.declared.code.Mode.the-variants.{Implied};
+ghost use Rattle.types.specs.declared.code.Target.the-variants.{NoTarget};
+ghost use Rattle.types.specs.declared.code.WidthEffect.the-variants.{KeepWidths};
 ghost use Rattle.codepages.specs.Packing.{
   modes,
   accumulators,

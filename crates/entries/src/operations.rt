@@ -1,5 +1,5 @@
 // The operation of an entry, and its mnemonic for whoever prints instructions.
-use model::code::Operation;
+use types::code::Operation;
 ghost use mathlib.Core.Path.{_≡_};
 ghost use Rattle.codepages.specs.Packing.{unpacked};
 ghost use Rattle.model.specs.Words.{wordOf};

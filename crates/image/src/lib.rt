@@ -1,15 +1,16 @@
 // What the check, the machine and the lists all ask of an image and its marks.
 use fields::byte_at;
-use model::addresses::ADDRESS_LIMIT;
-use model::addresses::BANK_SIZE;
-use model::addresses::in_bank_of;
-use model::refusals::Refusal;
-use model::refusals::TestResult;
+use types::addresses::ADDRESS_LIMIT;
+use types::addresses::BANK_SIZE;
+use types::addresses::in_bank_of;
+use types::refusals::Refusal;
+use types::refusals::TestResult;
 ghost use mathlib.Core.Path.{_≡_};
 ghost use Prim.Native.Nat.{_%_};
 ghost use Rattle.prelude.specs.Choice.{pick};
-ghost use Rattle.model.specs.Image.{bankSize, isStart, isFormed, lengthFits, baseFits, markAt, resetFits};
-ghost use Rattle.model.specs.Refusals.{firstRefusal};
+ghost use Rattle.types.specs.Addresses.{bankSize};
+ghost use Rattle.model.specs.Image.{isStart, isFormed, lengthFits, baseFits, markAt, resetFits};
+ghost use Rattle.types.specs.Refusals.{firstRefusal};
 ghost use Rattle.model.specs.Verdict.{badMark, allFormed, imageTests, marksTests};
 
 // The limit of model/specs/Image.antt.

@@ -19,26 +19,26 @@ use Rattle.memory.specs.declared.stores.Stores.the-variants.{None}
 use Rattle.memory.specs.Listed.{listed}
 use Rattle.memory.specs.Reads.{wordRead, longRead}
 use Rattle.memory.proofs.Views.{long-done, long-unmapped}
-use Rattle.model.specs.declared.code.Flow.the-variants.{Return}
-use Rattle.model.specs.declared.code.Instruction.{Instruction}
-use Rattle.model.specs.declared.code.Kind.{Kind}
-use Rattle.model.specs.declared.code.Kind.the-variants.{ByRts, ByRtl}
-use Rattle.model.specs.declared.machine.Answer.the-variants.{Stopped, Called, Completed}
-use Rattle.model.specs.declared.machine.CallChange.the-variants.{Open, Close}
-use Rattle.model.specs.declared.machine.Core.{Core}
-use Rattle.model.specs.declared.machine.Registers.{Registers}
-use Rattle.model.specs.declared.machine.Served.{Served}
-use Rattle.model.specs.declared.machine.Served.the-variants.{All, Refused}
-use Rattle.model.specs.declared.machine.Stop.{Stop}
-use Rattle.model.specs.declared.machine.Stop.the-variants.{Unmapped, Astray, Deep}
+use Rattle.types.specs.declared.code.Flow.the-variants.{Return}
+use Rattle.types.specs.declared.code.Instruction.{Instruction}
+use Rattle.types.specs.declared.code.Kind.{Kind}
+use Rattle.types.specs.declared.code.Kind.the-variants.{ByRts, ByRtl}
+use Rattle.types.specs.declared.machine.Answer.the-variants.{Stopped, Called, Completed}
+use Rattle.types.specs.declared.machine.CallChange.the-variants.{Open, Close}
+use Rattle.types.specs.declared.machine.Core.{Core}
+use Rattle.types.specs.declared.machine.Registers.{Registers}
+use Rattle.types.specs.declared.machine.Served.{Served}
+use Rattle.types.specs.declared.machine.Served.the-variants.{All, Refused}
+use Rattle.types.specs.declared.machine.Stop.{Stop}
+use Rattle.types.specs.declared.machine.Stop.the-variants.{Unmapped, Astray, Deep}
 use Rattle.model.specs.Addressing.{pulledAt}
 use Rattle.model.specs.Arithmetic.{withS, withStatus}
 use Rattle.model.specs.Effects.{pushedAt}
-use Rattle.model.specs.Image.{addressLimit, bankSize, inBankOf}
+use Rattle.types.specs.Addresses.{addressLimit, bankSize, inBankOf}
 use Rattle.model.specs.Memory.{Memory, Act, ret, _>>=_, Outcome, done, unmapped, come, served, stored}
 use Rattle.model.specs.Memory.{wordFrom, longFrom}
 use Rattle.model.specs.Rules.{nextAddress, targetAddress, kindNumber}
-use Rattle.model.specs.Status.{statusOf}
+use Rattle.types.specs.Status.{statusOf}
 use Rattle.model.specs.Step as spec
 use Rattle.model.specs.Step.{Plan, stops, changes, change, callLimit, kindOf, returnOf, returnBytes, entryOf}
 use Rattle.model.specs.Step.{Stepped, returnsTo, planBy, widthsAfter}

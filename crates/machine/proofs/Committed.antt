@@ -10,11 +10,11 @@ use Rattle.cpu.specs.declared.effects.Effect.{Effect}
 use Rattle.cpu.specs.File.{registersOf, put, fileSize}
 use Rattle.cpu.specs.View.{viewed, Placed}
 use Rattle.cpu.proofs.Files.{put-three}
-use Rattle.model.specs.declared.code.WidthEffect.{WidthEffect}
-use Rattle.model.specs.declared.code.WidthEffect.the-variants.{KeepWidths, SetM, ClearM, SetBits, ClearBits}
+use Rattle.types.specs.declared.code.WidthEffect.{WidthEffect}
+use Rattle.types.specs.declared.code.WidthEffect.the-variants.{KeepWidths, SetM, ClearM, SetBits, ClearBits}
 use Rattle.model.specs.Arithmetic.{withStatus, withWidths}
 use Rattle.model.specs.Rules.{mAfter, xAfter}
-use Rattle.model.specs.Status.{maskM, maskX, isSet, statusOf}
+use Rattle.types.specs.Status.{maskM, maskX, isSet, statusOf}
 use Rattle.prelude.specs.Choice.{bit}
 use Rattle.model.specs.Step.{widthsAfter}
 use Rattle.prelude.proofs.Choice.{one-of}

@@ -5,12 +5,13 @@ use mathlib.Core.List.{List}
 use Prim.Native.Nat.{ℕ, _+_, _-_, _≤_}
 use native.Mathlib.Omega.{arith}
 use lib.ListN.{length, drop}
-use Rattle.model.specs.declared.code.Decoded.{Decoded}
-use Rattle.model.specs.declared.machine.Core.{Core}
+use Rattle.types.specs.declared.code.Decoded.{Decoded}
+use Rattle.types.specs.declared.machine.Core.{Core}
 use Rattle.model.specs.Decode.{decode}
-use Rattle.model.specs.Image.{addressLimit, imageLimit}
+use Rattle.types.specs.Addresses.{addressLimit}
+use Rattle.model.specs.Image.{imageLimit}
 use Rattle.model.specs.Memory.{memory}
-use Rattle.model.specs.Status.{maskM, maskX, isSet, statusOf}
+use Rattle.types.specs.Status.{maskM, maskX, isSet, statusOf}
 use Rattle.prelude.specs.Choice.{bit}
 use Rattle.model.specs.Step.{placeOf, fetched}
 use Rattle.model.proofs.Step.{fetched-from}

@@ -16,24 +16,24 @@ use Rattle.cpu.specs.File.{registersOf}
 use Rattle.cpu.specs.View.{viewed, kept}
 use Rattle.memory.specs.declared.stores.Stores.the-variants.{None}
 use Rattle.memory.specs.Listed.{listed}
-use Rattle.model.specs.declared.code.Accumulator.{Accumulator}
-use Rattle.model.specs.declared.code.DataWidth.{DataWidth}
-use Rattle.model.specs.declared.code.Entry.{Entry}
-use Rattle.model.specs.declared.code.Mode.{Mode}
-use Rattle.model.specs.declared.machine.Access.{Access}
-use Rattle.model.specs.declared.machine.Core.{Core}
-use Rattle.model.specs.declared.machine.Data.{Data}
-use Rattle.model.specs.declared.machine.Registers.{Registers}
-use Rattle.model.specs.declared.machine.CallChange.the-variants.{Keep}
-use Rattle.model.specs.declared.machine.Stop.the-variants.{Unmapped, Decimal}
-use Rattle.model.specs.declared.machine.Answer.the-variants.{Completed, Stopped}
+use Rattle.types.specs.declared.code.Accumulator.{Accumulator}
+use Rattle.types.specs.declared.code.DataWidth.{DataWidth}
+use Rattle.types.specs.declared.code.Entry.{Entry}
+use Rattle.types.specs.declared.code.Mode.{Mode}
+use Rattle.types.specs.declared.machine.Access.{Access}
+use Rattle.types.specs.declared.machine.Core.{Core}
+use Rattle.types.specs.declared.machine.Data.{Data}
+use Rattle.types.specs.declared.machine.Registers.{Registers}
+use Rattle.types.specs.declared.machine.CallChange.the-variants.{Keep}
+use Rattle.types.specs.declared.machine.Stop.the-variants.{Unmapped, Decimal}
+use Rattle.types.specs.declared.machine.Answer.the-variants.{Completed, Stopped}
 use Rattle.model.specs.Addressing.{accessOf, isShort, dataOf}
 use Rattle.prelude.specs.Choice.{pick}
 use Rattle.model.specs.Effects.{Effect, effectOf}
-use Rattle.model.specs.Image.{addressLimit}
+use Rattle.types.specs.Addresses.{addressLimit}
 use Rattle.model.specs.Memory.{Memory, Outcome, done, unmapped, come}
 use Rattle.model.specs.Rules.{nextAddress}
-use Rattle.model.specs.Status.{maskM, maskX, isSet}
+use Rattle.types.specs.Status.{maskM, maskX, isSet}
 use Rattle.model.specs.Step as spec
 use Rattle.model.specs.Step.{Plan, stops, changes, change, isDecimal, widthsAfter, operates}
 use Rattle.model.proofs.Step.{decimal-first}

@@ -11,17 +11,17 @@ use types.Run.{OneOf}
 use denote.Enum.Declared.{tagOf}
 use Rattle.cpu.specs.File.{registersOf}
 use Rattle.model.proofs.code.Flow.{the-type}
-use Rattle.model.specs.declared.code.Kind.{Kind}
-use Rattle.model.specs.declared.code.Decoded.the-variants.{Whole}
-use Rattle.model.specs.declared.code.Flow.{Flow}
-use Rattle.model.specs.declared.code.Flow.the-variants.{Next, Branch, Jump, Call, Return, Halt}
-use Rattle.model.specs.declared.code.Instruction.{Instruction}
-use Rattle.model.specs.declared.machine.CallChange.the-variants.{Keep}
-use Rattle.model.specs.declared.machine.Core.{Core}
-use Rattle.model.specs.declared.machine.Stop.the-variants.{Outside, Uncarried, Halt as Halted}
-use Rattle.model.specs.declared.machine.Answer.the-variants.{Stopped}
+use Rattle.types.specs.declared.code.Kind.{Kind}
+use Rattle.types.specs.declared.code.Decoded.the-variants.{Whole}
+use Rattle.types.specs.declared.code.Flow.{Flow}
+use Rattle.types.specs.declared.code.Flow.the-variants.{Next, Branch, Jump, Call, Return, Halt}
+use Rattle.types.specs.declared.code.Instruction.{Instruction}
+use Rattle.types.specs.declared.machine.CallChange.the-variants.{Keep}
+use Rattle.types.specs.declared.machine.Core.{Core}
+use Rattle.types.specs.declared.machine.Stop.the-variants.{Outside, Uncarried, Halt as Halted}
+use Rattle.types.specs.declared.machine.Answer.the-variants.{Stopped}
 use Rattle.prelude.specs.Choice.{pick}
-use Rattle.model.specs.Image.{addressLimit}
+use Rattle.types.specs.Addresses.{addressLimit}
 use Rattle.model.specs.Memory.{Memory}
 use Rattle.model.specs.Rules.{nextAddress, targetAddress}
 use Rattle.model.specs.Step.{Plan, Stepped, stops, changes, change, operates, calls, planBy, fetched, onDecoded, step}

@@ -5,13 +5,13 @@ use mathlib.Core.List.{List}
 use Prim.Native.Nat.{ℕ, _/_, _%_, _<_}
 use native.Mathlib.Omega.{arith}
 use Rattle.cpu.specs.File.{registersOf}
-use Rattle.model.specs.declared.machine.Answer.the-variants.{Stopped}
-use Rattle.model.specs.declared.machine.CallChange.{CallChange}
-use Rattle.model.specs.declared.machine.Registers.{Registers}
-use Rattle.model.specs.declared.machine.Served.the-variants.{All, Refused}
-use Rattle.model.specs.declared.machine.Stop.{Stop}
-use Rattle.model.specs.declared.machine.Store.{Store}
-use Rattle.model.specs.Image.{addressLimit, bankSize}
+use Rattle.types.specs.declared.machine.Answer.the-variants.{Stopped}
+use Rattle.types.specs.declared.machine.CallChange.{CallChange}
+use Rattle.types.specs.declared.machine.Registers.{Registers}
+use Rattle.types.specs.declared.machine.Served.the-variants.{All, Refused}
+use Rattle.types.specs.declared.machine.Stop.{Stop}
+use Rattle.types.specs.declared.machine.Store.{Store}
+use Rattle.types.specs.Addresses.{addressLimit, bankSize}
 use Rattle.model.specs.Memory.{Memory, served, stored}
 use Rattle.model.specs.Step.{Plan, stops, changes, change, placeOf}
 use Rattle.model.specs.Step.{answerOf, depthAfter, callsAfter, widthsAfter, stepped}

@@ -7,11 +7,11 @@ use Rattle.machine.specs.declared.fetch.Fetched.{Fetched}
 use Rattle.machine.specs.declared.fetch.Fetch.{Fetch}
 use Rattle.machine.specs.declared.fetch.Fetch.the-variants.{Whole as Found, NotCarried as NoCode}
 use Rattle.machine.specs.declared.fetch.Fetch.the-variants.{CutOff as Outside}
-use Rattle.model.specs.declared.code.Decoded.{Decoded}
-use Rattle.model.specs.declared.code.Decoded.the-variants.{Whole, NotCarried, CutOff}
-use Rattle.model.specs.declared.code.Flow.{Flow}
-use Rattle.model.specs.declared.code.Flow.the-variants.{Next, Branch, Jump, Call, Return, Halt}
-use Rattle.model.specs.declared.code.Instruction.{Instruction}
+use Rattle.types.specs.declared.code.Decoded.{Decoded}
+use Rattle.types.specs.declared.code.Decoded.the-variants.{Whole, NotCarried, CutOff}
+use Rattle.types.specs.declared.code.Flow.{Flow}
+use Rattle.types.specs.declared.code.Flow.the-variants.{Next, Branch, Jump, Call, Return, Halt}
+use Rattle.types.specs.declared.code.Instruction.{Instruction}
 use Rattle.model.specs.Decode.{operandLimit}
 
 abbrev pub instruction : Fetched → Instruction

@@ -11,11 +11,11 @@ use Rattle.memory.specs.declared.reads.WordRead.{WordRead}
 use Rattle.memory.specs.declared.reads.WordRead.the-variants.{Word, Unmapped as NoWord}
 use Rattle.memory.specs.declared.reads.LongRead.{LongRead}
 use Rattle.memory.specs.declared.reads.LongRead.the-variants.{Long, Unmapped as NoLong}
-use Rattle.model.specs.declared.machine.Answer.{Answer}
-use Rattle.model.specs.declared.machine.Core.{Core}
-use Rattle.model.specs.declared.machine.State.{State}
+use Rattle.types.specs.declared.machine.Answer.{Answer}
+use Rattle.types.specs.declared.machine.Core.{Core}
+use Rattle.types.specs.declared.machine.State.{State}
 use Rattle.prelude.specs.Choice.{pick}
-use Rattle.model.specs.Image.{bankSize, inBankOf}
+use Rattle.types.specs.Addresses.{bankSize, inBankOf}
 use Rattle.model.specs.Rules.{nextAddress, targetAddress}
 use Rattle.model.specs.Memory.{Memory}
 use Rattle.model.specs.Step.{Plan, Stepped, stepped, finish}

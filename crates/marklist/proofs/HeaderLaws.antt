@@ -8,7 +8,7 @@ use native.Mathlib.Omega.{arith}
 use lib.ListN.{length, take, drop, set, length-append}
 use lib.Seq.{take-at, length-take-le}
 use borrow.Rule.Slice.PartMut.{putMid}
-use Rattle.model.specs.declared.lists.Header.{Header}
+use Rattle.types.specs.declared.lists.Header.{Header}
 use Rattle.text.specs.Digits.{digits}
 use Rattle.model.specs.MarkList.{tab, lineEnd, decimalDigits, headerText, lengthDigits, lengthDigitsShown, tabAt}
 use Rattle.prelude.proofs.First.{first-is}

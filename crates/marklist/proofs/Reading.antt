@@ -10,13 +10,14 @@ use native.Mathlib.Omega.{arith}
 use borrow.Author.Tests.{ltb-true, lt-ltb, le-ltb, le-leb, lt-leb, eq-eqb, ne-eqb, eqb-true, eqb-false}
 use lib.Dec.{eqb, ltb}
 use lib.ListN.{length, getD, drop, length-drop, List·getD-eq-default}
-use Rattle.model.specs.declared.lists.Header.{Header}
-use Rattle.model.specs.declared.refusals.Refusal.{Refusal}
-use Rattle.model.specs.declared.refusals.TestResult.the-variants.{Passed, Failed}
-use Rattle.model.specs.declared.lists.ListRead.the-variants.{NotRead, Read}
-use Rattle.model.specs.Refusals.{firstRefusal}
+use Rattle.types.specs.declared.lists.Header.{Header}
+use Rattle.types.specs.declared.refusals.Refusal.{Refusal}
+use Rattle.types.specs.declared.refusals.TestResult.the-variants.{Passed, Failed}
+use Rattle.types.specs.declared.lists.ListRead.the-variants.{NotRead, Read}
+use Rattle.types.specs.Refusals.{firstRefusal}
 use Rattle.text.specs.Text.{startsWith}
-use Rattle.model.specs.Image.{bankSize, inBankOf, markAt, resetFits}
+use Rattle.types.specs.Addresses.{bankSize, inBankOf}
+use Rattle.model.specs.Image.{markAt, resetFits}
 use Rattle.model.specs.MarkList.{lengthLimit, headerText, headerShown, isHeader, markShown, lineSize, marksShown}
 use Rattle.model.specs.MarkList.{linesLeft}
 use Rattle.model.specs.MarkList.{linesText, leftOf, marksOf, isList, readTests, readAs, readList, marksBy, marksRead}

@@ -8,13 +8,13 @@ use native.Mathlib.Omega.{arith}
 use borrow.Author.Tests.{le-leb, lt-leb}
 use lib.ListN.{length, take, drop, length-append}
 use borrow.Rule.Slice.PartMut.{putMid}
-use Rattle.model.specs.declared.lists.Header.{Header}
-use Rattle.model.specs.declared.refusals.Refusal.{Refusal}
-use Rattle.model.specs.declared.refusals.Refusal.the-variants as refusal
-use Rattle.model.specs.declared.refusals.TestResult.the-variants.{Passed, Failed}
-use Rattle.model.specs.declared.lists.ListWritten.the-variants.{NotWritten, Written}
-use Rattle.model.specs.Image.{bankSize}
-use Rattle.model.specs.Refusals.{firstRefusal}
+use Rattle.types.specs.declared.lists.Header.{Header}
+use Rattle.types.specs.declared.refusals.Refusal.{Refusal}
+use Rattle.types.specs.declared.refusals.Refusal.the-variants as refusal
+use Rattle.types.specs.declared.refusals.TestResult.the-variants.{Passed, Failed}
+use Rattle.types.specs.declared.lists.ListWritten.the-variants.{NotWritten, Written}
+use Rattle.types.specs.Addresses.{bankSize}
+use Rattle.types.specs.Refusals.{firstRefusal}
 use Rattle.model.specs.Verdict.{marksTests}
 use Rattle.model.specs.MarkList.{headerText, lines, listText, writeTests, writeList, pageBy, pageWritten}
 use Rattle.model.proofs.TestResults.{passes, fails, holds, goes-on}

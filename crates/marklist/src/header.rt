@@ -2,11 +2,11 @@
 use crate::lines::LINE_END;
 use crate::lines::TAB;
 use fields::byte_at;
-use model::lists::Header;
 use text::bytes::starts_with;
 use text::digits::digit_count;
 use text::digits::number;
 use text::digits::put_field;
+use types::lists::Header;
 ghost use mathlib.Core.Path.{_≡_};
 ghost use mathlib.Core.List.{_++_};
 ghost use Prim.Native.Nat.{_≤_};

@@ -2,12 +2,12 @@
 use fields::byte_at;
 use image::is_formed;
 use image::is_start;
-use model::addresses::BANK_SIZE;
 use text::bytes::put_bytes;
 use text::bytes::starts_with;
 use text::digits::digit;
 use text::digits::put_digits;
 use text::digits::shows_digits;
+use types::addresses::BANK_SIZE;
 ghost use mathlib.Core.Path.{_≡_};
 ghost use mathlib.Core.List.{_++_};
 ghost use Prim.Native.Nat.{_≤_, _<_};

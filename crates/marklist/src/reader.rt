@@ -6,18 +6,18 @@ use crate::lines::line_size;
 use crate::lines::mark_shown;
 use image::low;
 use image::test_image;
-use model::addresses::BANK_SIZE;
-use model::addresses::in_bank_of;
-use model::lists::Header;
-use model::lists::ListRead;
-use model::refusals::Refusal;
-use model::refusals::TestResult;
+use types::addresses::BANK_SIZE;
+use types::addresses::in_bank_of;
+use types::lists::Header;
+use types::lists::ListRead;
+use types::refusals::Refusal;
+use types::refusals::TestResult;
 ghost use mathlib.Core.Path.{_≡_};
 ghost use mathlib.Core.Bool.{true};
 ghost use Prim.Native.Nat.{_+_, _≤_, _<_};
 ghost use lib.ListN.{length, drop};
 ghost use Rattle.model.specs.Image.{resetFits};
-ghost use Rattle.model.specs.Refusals.{firstRefusal};
+ghost use Rattle.types.specs.Refusals.{firstRefusal};
 ghost use Rattle.model.specs.MarkList as spec;
 
 // Where a text goes on behind its lines from a place on, for so many addresses in turn.

@@ -3,7 +3,7 @@
 use mathlib.Core.List.{List, [], _∷_}
 use Rattle.memory.specs.declared.stores.Stores.{Stores}
 use Rattle.memory.specs.declared.stores.Stores.the-variants.{None, One, Two, Three}
-use Rattle.model.specs.declared.machine.Store.{Store}
+use Rattle.types.specs.declared.machine.Store.{Store}
 
 abbrev pub listed : Stores → List Store
 listed None = []

@@ -5,7 +5,7 @@ use Rattle.memory.specs.declared.reads.WordRead.{WordRead}
 use Rattle.memory.specs.declared.reads.WordRead.the-variants.{Word, Unmapped as NoWord}
 use Rattle.memory.specs.declared.reads.LongRead.{LongRead}
 use Rattle.memory.specs.declared.reads.LongRead.the-variants.{Long, Unmapped as NoLong}
-use Rattle.model.specs.Image.{addressLimit}
+use Rattle.types.specs.Addresses.{addressLimit}
 use Rattle.model.specs.Memory.{Outcome, done, unmapped}
 
 abbrev pub wordRead : Outcome ℕ → WordRead

@@ -1,7 +1,7 @@
 // Bytes of memory, and numbers made of them.
 use fields::long_of;
 use fields::word_of;
-use model::machine::ByteRead;
+use types::machine::ByteRead;
 ghost use mathlib.Core.Path.{_≡_};
 ghost use Rattle.model.specs.Memory.{byteAt, memory, come, wordFrom, longFrom, dataFrom};
 ghost use Rattle.memory.specs.Reads.{wordRead, longRead, IsLong};

@@ -1,7 +1,7 @@
 // Bytes to be stored: whether all of them can be, and RAM with them.
-use model::machine::Served;
-use model::machine::Stop;
-use model::machine::Store;
+use types::machine::Served;
+use types::machine::Stop;
+use types::machine::Store;
 ghost use mathlib.Core.Path.{_≡_};
 ghost use lib.ListN.{set};
 ghost use Rattle.model.specs.Memory.{memory, servedAt, served, andThen, stored};

@@ -9,18 +9,18 @@ use Prim.Native.Nat.{ℕ, zero, suc, _≤_, _<_, _/_, _%_}
 use native.Mathlib.Omega.{arith}
 use lib.Dec.{T, leb, leb→le, ltb, eqb, eqb·suc-zero}
 use lib.ListN.{getD}
-use Rattle.model.specs.declared.code.Operation.{Operation}
-use Rattle.model.specs.declared.code.Operation.the-variants.{CLP, SEP}
-use Rattle.model.specs.declared.code.Entry.{Entry}
-use Rattle.model.specs.declared.code.Kind.{Kind}
-use Rattle.model.specs.declared.code.Flow.{Flow}
-use Rattle.model.specs.declared.code.Flow.the-variants.{Next, Branch, Jump, Call, Return, Halt}
-use Rattle.model.specs.declared.code.WidthEffect.{WidthEffect}
-use Rattle.model.specs.declared.code.WidthEffect.the-variants.{KeepWidths, SetM, ClearM, SetBits, ClearBits}
-use Rattle.model.specs.declared.code.LengthRule.{LengthRule}
-use Rattle.model.specs.declared.code.LengthRule.the-variants.{Fixed, MoreByM, MoreByX}
-use Rattle.model.specs.declared.machine.Residence.{Residence}
-use Rattle.model.specs.declared.machine.Residence.the-variants.{Memory, Instruction, Register}
+use Rattle.types.specs.declared.code.Operation.{Operation}
+use Rattle.types.specs.declared.code.Operation.the-variants.{CLP, SEP}
+use Rattle.types.specs.declared.code.Entry.{Entry}
+use Rattle.types.specs.declared.code.Kind.{Kind}
+use Rattle.types.specs.declared.code.Flow.{Flow}
+use Rattle.types.specs.declared.code.Flow.the-variants.{Next, Branch, Jump, Call, Return, Halt}
+use Rattle.types.specs.declared.code.WidthEffect.{WidthEffect}
+use Rattle.types.specs.declared.code.WidthEffect.the-variants.{KeepWidths, SetM, ClearM, SetBits, ClearBits}
+use Rattle.types.specs.declared.code.LengthRule.{LengthRule}
+use Rattle.types.specs.declared.code.LengthRule.the-variants.{Fixed, MoreByM, MoreByX}
+use Rattle.types.specs.declared.machine.Residence.{Residence}
+use Rattle.types.specs.declared.machine.Residence.the-variants.{Memory, Instruction, Register}
 use Rattle.model.specs.Operations.{isIn}
 use Rattle.model.specs.Addressing.{residenceOf}
 use Rattle.model.specs.CodePages.{Form, none, plain, behind42, behind89, pages}

@@ -14,10 +14,10 @@ use lib.ListN.{length, getD, take, drop, length-take, length-drop}
 use lib.Seq.{getD-drop, take-all}
 use Rattle.prelude.proofs.Bytes.{bytes-take, bytes-drop}
 use Rattle.fields.proofs.Fields.{number-bound}
-use Rattle.model.specs.declared.code.Entry.{Entry}
-use Rattle.model.specs.declared.code.Instruction.{Instruction}
-use Rattle.model.specs.declared.code.Decoded.{Decoded}
-use Rattle.model.specs.declared.code.Decoded.the-variants.{Whole, NotCarried, CutOff}
+use Rattle.types.specs.declared.code.Entry.{Entry}
+use Rattle.types.specs.declared.code.Instruction.{Instruction}
+use Rattle.types.specs.declared.code.Decoded.{Decoded}
+use Rattle.types.specs.declared.code.Decoded.the-variants.{Whole, NotCarried, CutOff}
 use Rattle.prelude.specs.Choice.{pick}
 use Rattle.model.specs.CodeMap.{prefixBytes, entryAt, lengthAt}
 use Rattle.prelude.specs.Bytes.{AllBytes}

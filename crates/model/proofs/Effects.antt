@@ -6,34 +6,34 @@ use mathlib.Core.List.{List}
 use Prim.Native.Nat.{ℕ, _+_, _-_, _<_}
 use native.Mathlib.Omega.{arith}
 use lib.ListN.{getD}
-use Rattle.model.specs.declared.code.Mode.{Mode}
-use Rattle.model.specs.declared.code.Accumulator.{Accumulator}
-use Rattle.model.specs.declared.code.Accumulator.the-variants.{Unnamed, A, B}
-use Rattle.model.specs.declared.code.Operation.{Operation}
-use Rattle.model.specs.declared.code.Operation.the-variants.{Unassigned}
-use Rattle.model.specs.declared.code.Operation.the-variants.{ADC, AND, ASL, BBC, BBS, BCC, BCS, BEQ, BMI}
-use Rattle.model.specs.declared.code.Operation.the-variants.{BNE, BPL, BRA, BRK, BVC, BVS, CLB, CLC, CLI}
-use Rattle.model.specs.declared.code.Operation.the-variants.{CLM, CLP, CLV, CMP, CPX, CPY, DEC, DEX, DEY}
-use Rattle.model.specs.declared.code.Operation.the-variants.{DIV, EOR, INC, INX, INY, JMP, JSR, LDA, LDM}
-use Rattle.model.specs.declared.code.Operation.the-variants.{LDT, LDX, LDY, LSR, MPY, MVN, MVP, NOP, ORA}
-use Rattle.model.specs.declared.code.Operation.the-variants.{PEA, PEI, PER, PHA, PHB, PHD, PHG, PHP, PHT}
-use Rattle.model.specs.declared.code.Operation.the-variants.{PHX, PHY, PLA, PLB, PLD, PLP, PLT, PLX, PLY}
-use Rattle.model.specs.declared.code.Operation.the-variants.{PSH, PUL, RLA, ROL, ROR, RTI, RTL, RTS, SBC}
-use Rattle.model.specs.declared.code.Operation.the-variants.{SEB, SEC, SEI, SEM, SEP, STA, STP, STX, STY}
-use Rattle.model.specs.declared.code.Operation.the-variants.{TAD, TAS, TAX, TAY, TBD, TBS, TBX, TBY, TDA}
-use Rattle.model.specs.declared.code.Operation.the-variants.{TDB, TSA, TSB, TSX, TXA, TXB, TXS, TXY, TYA}
-use Rattle.model.specs.declared.code.Operation.the-variants.{TYB, TYX, WIT, XAB}
-use Rattle.model.specs.declared.machine.Registers.{Registers}
-use Rattle.model.specs.declared.machine.Status.{Status}
-use Rattle.model.specs.declared.machine.Data.{Data}
-use Rattle.model.specs.declared.machine.Access.{Access}
-use Rattle.model.specs.declared.machine.Access.the-variants.{Operand, Addend, Address, Pull, DirectWord}
-use Rattle.model.specs.declared.machine.Residence.{Residence}
-use Rattle.model.specs.declared.machine.Residence.the-variants.{Memory as InMemory, Instruction as Immediate}
-use Rattle.model.specs.declared.machine.Residence.the-variants.{Register}
-use Rattle.model.specs.declared.machine.ByteRead.{ByteRead}
-use Rattle.model.specs.declared.machine.ByteRead.the-variants.{Byte, Unmapped as NoByte}
-use Rattle.model.specs.declared.machine.Store.{Store}
+use Rattle.types.specs.declared.code.Mode.{Mode}
+use Rattle.types.specs.declared.code.Accumulator.{Accumulator}
+use Rattle.types.specs.declared.code.Accumulator.the-variants.{Unnamed, A, B}
+use Rattle.types.specs.declared.code.Operation.{Operation}
+use Rattle.types.specs.declared.code.Operation.the-variants.{Unassigned}
+use Rattle.types.specs.declared.code.Operation.the-variants.{ADC, AND, ASL, BBC, BBS, BCC, BCS, BEQ, BMI}
+use Rattle.types.specs.declared.code.Operation.the-variants.{BNE, BPL, BRA, BRK, BVC, BVS, CLB, CLC, CLI}
+use Rattle.types.specs.declared.code.Operation.the-variants.{CLM, CLP, CLV, CMP, CPX, CPY, DEC, DEX, DEY}
+use Rattle.types.specs.declared.code.Operation.the-variants.{DIV, EOR, INC, INX, INY, JMP, JSR, LDA, LDM}
+use Rattle.types.specs.declared.code.Operation.the-variants.{LDT, LDX, LDY, LSR, MPY, MVN, MVP, NOP, ORA}
+use Rattle.types.specs.declared.code.Operation.the-variants.{PEA, PEI, PER, PHA, PHB, PHD, PHG, PHP, PHT}
+use Rattle.types.specs.declared.code.Operation.the-variants.{PHX, PHY, PLA, PLB, PLD, PLP, PLT, PLX, PLY}
+use Rattle.types.specs.declared.code.Operation.the-variants.{PSH, PUL, RLA, ROL, ROR, RTI, RTL, RTS, SBC}
+use Rattle.types.specs.declared.code.Operation.the-variants.{SEB, SEC, SEI, SEM, SEP, STA, STP, STX, STY}
+use Rattle.types.specs.declared.code.Operation.the-variants.{TAD, TAS, TAX, TAY, TBD, TBS, TBX, TBY, TDA}
+use Rattle.types.specs.declared.code.Operation.the-variants.{TDB, TSA, TSB, TSX, TXA, TXB, TXS, TXY, TYA}
+use Rattle.types.specs.declared.code.Operation.the-variants.{TYB, TYX, WIT, XAB}
+use Rattle.types.specs.declared.machine.Registers.{Registers}
+use Rattle.types.specs.declared.machine.Status.{Status}
+use Rattle.types.specs.declared.machine.Data.{Data}
+use Rattle.types.specs.declared.machine.Access.{Access}
+use Rattle.types.specs.declared.machine.Access.the-variants.{Operand, Addend, Address, Pull, DirectWord}
+use Rattle.types.specs.declared.machine.Residence.{Residence}
+use Rattle.types.specs.declared.machine.Residence.the-variants.{Memory as InMemory, Instruction as Immediate}
+use Rattle.types.specs.declared.machine.Residence.the-variants.{Register}
+use Rattle.types.specs.declared.machine.ByteRead.{ByteRead}
+use Rattle.types.specs.declared.machine.ByteRead.the-variants.{Byte, Unmapped as NoByte}
+use Rattle.types.specs.declared.machine.Store.{Store}
 use Rattle.prelude.specs.Choice.{pick}
 use Rattle.prelude.specs.Bytes.{AllBytes}
 use Rattle.model.specs.Memory.{Memory, inRam, inImage, byteAt, Act, ret, load, _>>=_, Outcome, done, unmapped}

@@ -15,31 +15,32 @@ use borrow.Author.Tests.{eqb-true, ltb-true, ltb-false, leb-true, leb-false}
 use lib.Dec.{eqb, ltb, leb}
 use lib.ListN.{length, getD, set, drop, length-set, length-drop, List·getD-eq-default}
 use lib.Seq.{getD-set-same, getD-set-other}
-use Rattle.model.specs.declared.code.Kind.{Kind}
-use Rattle.model.specs.declared.code.Kind.the-variants.{ByRts, ByRtl}
-use Rattle.model.specs.declared.code.Flow.{Flow}
-use Rattle.model.specs.declared.code.Flow.the-variants.{Next, Branch, Jump, Call, Return, Halt}
-use Rattle.model.specs.declared.code.WidthEffect.the-variants.{KeepWidths}
-use Rattle.model.specs.declared.code.Instruction.{Instruction}
-use Rattle.model.specs.declared.code.Decoded.the-variants.{Whole}
-use Rattle.model.specs.declared.machine.State.{State}
-use Rattle.model.specs.declared.machine.Data.{Data}
-use Rattle.model.specs.declared.machine.Store.{Store}
-use Rattle.model.specs.declared.machine.Stop.{Stop}
-use Rattle.model.specs.declared.machine.Stop.the-variants.{Unmapped, Deep, ImageStore, Decimal}
-use Rattle.model.specs.declared.machine.Served.{Served}
-use Rattle.model.specs.declared.machine.Served.the-variants.{All, Refused as Unserved}
-use Rattle.model.specs.declared.machine.CallChange.{CallChange}
-use Rattle.model.specs.declared.machine.CallChange.the-variants.{Keep, Open, Close}
-use Rattle.model.specs.declared.machine.Answer.{Answer}
-use Rattle.model.specs.declared.machine.Answer.the-variants.{Completed, Called, Stopped}
-use Rattle.model.specs.declared.refusals.TestResult.{TestResult}
-use Rattle.model.specs.declared.refusals.TestResult.the-variants.{Passed, Failed}
-use Rattle.model.specs.declared.runs.End.{End}
-use Rattle.model.specs.declared.runs.End.the-variants.{Done, AtStop}
+use Rattle.types.specs.declared.code.Kind.{Kind}
+use Rattle.types.specs.declared.code.Kind.the-variants.{ByRts, ByRtl}
+use Rattle.types.specs.declared.code.Flow.{Flow}
+use Rattle.types.specs.declared.code.Flow.the-variants.{Next, Branch, Jump, Call, Return, Halt}
+use Rattle.types.specs.declared.code.WidthEffect.the-variants.{KeepWidths}
+use Rattle.types.specs.declared.code.Instruction.{Instruction}
+use Rattle.types.specs.declared.code.Decoded.the-variants.{Whole}
+use Rattle.types.specs.declared.machine.State.{State}
+use Rattle.types.specs.declared.machine.Data.{Data}
+use Rattle.types.specs.declared.machine.Store.{Store}
+use Rattle.types.specs.declared.machine.Stop.{Stop}
+use Rattle.types.specs.declared.machine.Stop.the-variants.{Unmapped, Deep, ImageStore, Decimal}
+use Rattle.types.specs.declared.machine.Served.{Served}
+use Rattle.types.specs.declared.machine.Served.the-variants.{All, Refused as Unserved}
+use Rattle.types.specs.declared.machine.CallChange.{CallChange}
+use Rattle.types.specs.declared.machine.CallChange.the-variants.{Keep, Open, Close}
+use Rattle.types.specs.declared.machine.Answer.{Answer}
+use Rattle.types.specs.declared.machine.Answer.the-variants.{Completed, Called, Stopped}
+use Rattle.types.specs.declared.refusals.TestResult.{TestResult}
+use Rattle.types.specs.declared.refusals.TestResult.the-variants.{Passed, Failed}
+use Rattle.types.specs.declared.runs.End.{End}
+use Rattle.types.specs.declared.runs.End.the-variants.{Done, AtStop}
 use Rattle.prelude.specs.Choice.{pick}
 use Rattle.model.specs.CodeMap.{prefixBytes, entryAt}
-use Rattle.model.specs.Image.{bankSize, addressLimit, isStart, markM, markX, markKind, returnM, returnX, markOf}
+use Rattle.types.specs.Addresses.{bankSize, addressLimit}
+use Rattle.model.specs.Image.{isStart, markM, markX, markKind, returnM, returnX, markOf}
 use Rattle.model.specs.Image.{markAt}
 use Rattle.model.specs.Decode.{pageOf, decode}
 use Rattle.model.specs.Rules.{nextAddress, mAfter, xAfter, kindNumber, want, markOfRoutine, markOnReturn}

@@ -10,7 +10,8 @@ use lib.Dec.{eqb, ltb, leb}
 use lib.ListN.{length, getD, drop}
 use lib.Seq.{drop-cons}
 use Rattle.prelude.specs.Choice.{pick}
-use Rattle.model.specs.Image.{imageLimit, bankSize, addressLimit, isStart, lengthFits, baseFits, startCount}
+use Rattle.types.specs.Addresses.{bankSize, addressLimit}
+use Rattle.model.specs.Image.{imageLimit, isStart, lengthFits, baseFits, startCount}
 use Rattle.prelude.proofs.Choice.{one-or-none}
 use Rattle.prelude.proofs.Choice.{both-true}
 

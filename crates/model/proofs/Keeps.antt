@@ -11,25 +11,25 @@ use native.Mathlib.Omega.{arith}
 use borrow.Author.Tests.{ltb-true}
 use lib.Dec.{ltb}
 use lib.ListN.{length, getD, set, take, drop, length-take, length-set}
-use Rattle.model.specs.declared.code.Kind.{Kind}
-use Rattle.model.specs.declared.code.Kind.the-variants.{ByRts, ByRtl}
-use Rattle.model.specs.declared.code.Flow.{Flow}
-use Rattle.model.specs.declared.code.Flow.the-variants.{Next, Branch, Jump, Call, Return, Halt}
-use Rattle.model.specs.declared.code.Instruction.{Instruction}
-use Rattle.model.specs.declared.code.Decoded.{Decoded}
-use Rattle.model.specs.declared.code.Decoded.the-variants.{Whole, NotCarried, CutOff}
-use Rattle.model.specs.declared.machine.Core.{Core}
-use Rattle.model.specs.declared.machine.State.{State}
-use Rattle.model.specs.declared.machine.Data.{Data}
-use Rattle.model.specs.declared.machine.Store.{Store}
-use Rattle.model.specs.declared.machine.Stop.{Stop}
-use Rattle.model.specs.declared.machine.Stop.the-variants.{Astray, Deep, Decimal}
-use Rattle.model.specs.declared.machine.Served.{Served}
-use Rattle.model.specs.declared.machine.Served.the-variants.{All, Refused as Unserved}
-use Rattle.model.specs.declared.machine.CallChange.{CallChange}
-use Rattle.model.specs.declared.machine.CallChange.the-variants.{Keep, Open, Close}
-use Rattle.model.specs.declared.refusals.TestResult.{TestResult}
-use Rattle.model.specs.declared.refusals.TestResult.the-variants.{Passed, Failed}
+use Rattle.types.specs.declared.code.Kind.{Kind}
+use Rattle.types.specs.declared.code.Kind.the-variants.{ByRts, ByRtl}
+use Rattle.types.specs.declared.code.Flow.{Flow}
+use Rattle.types.specs.declared.code.Flow.the-variants.{Next, Branch, Jump, Call, Return, Halt}
+use Rattle.types.specs.declared.code.Instruction.{Instruction}
+use Rattle.types.specs.declared.code.Decoded.{Decoded}
+use Rattle.types.specs.declared.code.Decoded.the-variants.{Whole, NotCarried, CutOff}
+use Rattle.types.specs.declared.machine.Core.{Core}
+use Rattle.types.specs.declared.machine.State.{State}
+use Rattle.types.specs.declared.machine.Data.{Data}
+use Rattle.types.specs.declared.machine.Store.{Store}
+use Rattle.types.specs.declared.machine.Stop.{Stop}
+use Rattle.types.specs.declared.machine.Stop.the-variants.{Astray, Deep, Decimal}
+use Rattle.types.specs.declared.machine.Served.{Served}
+use Rattle.types.specs.declared.machine.Served.the-variants.{All, Refused as Unserved}
+use Rattle.types.specs.declared.machine.CallChange.{CallChange}
+use Rattle.types.specs.declared.machine.CallChange.the-variants.{Keep, Open, Close}
+use Rattle.types.specs.declared.refusals.TestResult.{TestResult}
+use Rattle.types.specs.declared.refusals.TestResult.the-variants.{Passed, Failed}
 use Rattle.prelude.specs.Choice.{pick}
 use Rattle.prelude.specs.Bytes.{AllBytes}
 use Rattle.fields.specs.Fields.{number}

@@ -8,11 +8,12 @@ use native.Mathlib.Omega.{arith}
 use borrow.Author.Tests.{ltb-true}
 use lib.Dec.{ltb}
 use lib.ListN.{length, length-append}
-use Rattle.model.specs.declared.lists.Header.{Header}
-use Rattle.model.specs.declared.lists.ListRead.the-variants.{NotRead, Read}
-use Rattle.model.specs.declared.lists.ListWritten.the-variants.{NotWritten, Written}
-use Rattle.model.specs.Refusals.{firstRefusal}
-use Rattle.model.specs.Image.{imageLimit, bankSize, addressLimit, resetFits}
+use Rattle.types.specs.declared.lists.Header.{Header}
+use Rattle.types.specs.declared.lists.ListRead.the-variants.{NotRead, Read}
+use Rattle.types.specs.declared.lists.ListWritten.the-variants.{NotWritten, Written}
+use Rattle.types.specs.Refusals.{firstRefusal}
+use Rattle.types.specs.Addresses.{bankSize, addressLimit}
+use Rattle.model.specs.Image.{imageLimit, resetFits}
 use Rattle.model.specs.MarkList.{listText, headerShown, linesText}
 use Rattle.model.specs.MarkList.{marksOf, readTests, readAs, readList, writeTests, writeList}
 use Rattle.model.proofs.TestResults.{AllHold, shown, all-passed}

@@ -12,13 +12,14 @@ use borrow.Author.Tests.{lt-ltb, ltb-true}
 use lib.Dec.{eqb, ltb}
 use lib.ListN.{length, drop}
 use lib.Seq.{drop-at}
-use Rattle.model.specs.declared.lists.Header.{Header}
-use Rattle.model.specs.declared.refusals.Refusal.the-variants as refusal
-use Rattle.model.specs.declared.lists.ListRead.the-variants.{NotRead, Read}
+use Rattle.types.specs.declared.lists.Header.{Header}
+use Rattle.types.specs.declared.refusals.Refusal.the-variants as refusal
+use Rattle.types.specs.declared.lists.ListRead.the-variants.{NotRead, Read}
 use Rattle.prelude.specs.Choice.{pick}
-use Rattle.model.specs.Refusals.{firstRefusal, answered}
+use Rattle.types.specs.Refusals.{firstRefusal, answered}
 use Rattle.text.specs.Text.{startsWith}
-use Rattle.model.specs.Image.{bankSize, isStart, isFormed, lengthFits, baseFits, resetFits}
+use Rattle.types.specs.Addresses.{bankSize}
+use Rattle.model.specs.Image.{isStart, isFormed, lengthFits, baseFits, resetFits}
 use Rattle.model.specs.MarkList.{lengthLimit, headerText, line, headerShown, isHeader, fieldsMark, isLine}
 use Rattle.model.specs.MarkList.{markShown, lineSize, linesLeft, linesText, marksOf, leftOf, isList, readAs}
 use Rattle.model.specs.MarkList.{readList}

@@ -12,11 +12,12 @@ use borrow.Author.Tests.{ltb-true, lt-ltb, eqb-true, eq-eqb, ne-eqb}
 use lib.Dec.{T, eqb, ltb, eqb→eq}
 use lib.ListN.{length, getD, drop, length-append, List·getD-append}
 use lib.Seq.{drop-drop, drop-at, getD-at}
-use Rattle.model.specs.declared.lists.Header.{Header}
+use Rattle.types.specs.declared.lists.Header.{Header}
 use Rattle.prelude.specs.Choice.{pick}
 use Rattle.text.specs.Digits.{digit, digits, value}
 use Rattle.text.specs.Text.{startsWith}
-use Rattle.model.specs.Image.{bankSize, isStart, markKind, returnM, returnX, isFormed}
+use Rattle.types.specs.Addresses.{bankSize}
+use Rattle.model.specs.Image.{isStart, markKind, returnM, returnX, isFormed}
 use Rattle.prelude.specs.First.{firstFrom}
 use Rattle.model.specs.MarkList.{tab, lineEnd, lengthDigits, lengthLimit, decimalDigits, headerText, kindLetter}
 use Rattle.model.specs.MarkList.{fields, line, lineOf, lines, tabAt, lengthDigitsShown, headerShown, bitShown}

@@ -11,19 +11,20 @@ use native.Mathlib.Omega.{arith}
 use borrow.Author.Tests.{eqb-false, not-true, not-false}
 use lib.Dec.{eqb}
 use lib.ListN.{length, getD}
-use Rattle.model.specs.declared.code.Instruction.{Instruction}
-use Rattle.model.specs.declared.code.Decoded.{Decoded}
-use Rattle.model.specs.declared.code.Decoded.the-variants.{Whole, NotCarried, CutOff}
-use Rattle.model.specs.declared.refusals.Refusal.{Refusal}
-use Rattle.model.specs.declared.refusals.TestResult.{TestResult}
-use Rattle.model.specs.declared.refusals.TestResult.the-variants.{Passed, Failed}
-use Rattle.model.specs.declared.rules.Want.{Want}
-use Rattle.model.specs.declared.rules.Owed.{Owed}
-use Rattle.model.specs.declared.rules.Owed.the-variants.{Nothing, One, Two}
-use Rattle.model.specs.declared.rules.Verdict.the-variants.{Accepted, Refused}
+use Rattle.types.specs.declared.code.Instruction.{Instruction}
+use Rattle.types.specs.declared.code.Decoded.{Decoded}
+use Rattle.types.specs.declared.code.Decoded.the-variants.{Whole, NotCarried, CutOff}
+use Rattle.types.specs.declared.refusals.Refusal.{Refusal}
+use Rattle.types.specs.declared.refusals.TestResult.{TestResult}
+use Rattle.types.specs.declared.refusals.TestResult.the-variants.{Passed, Failed}
+use Rattle.types.specs.declared.rules.Want.{Want}
+use Rattle.types.specs.declared.rules.Owed.{Owed}
+use Rattle.types.specs.declared.rules.Owed.the-variants.{Nothing, One, Two}
+use Rattle.types.specs.declared.rules.Verdict.the-variants.{Accepted, Refused}
 use Rattle.prelude.specs.Choice.{pick}
-use Rattle.model.specs.Image.{bankSize, isStart, isFormed, lengthFits, markAt}
-use Rattle.model.specs.Refusals.{Tests, firstRefusal, answered}
+use Rattle.types.specs.Addresses.{bankSize}
+use Rattle.model.specs.Image.{isStart, isFormed, lengthFits, markAt}
+use Rattle.types.specs.Refusals.{Tests, firstRefusal, answered}
 use Rattle.model.specs.Rules.{owedThere, instructionAt}
 use Rattle.model.specs.Meaning.{Among, StartBreaks, Breaks}
 use Rattle.prelude.specs.First.{firstFrom}

@@ -9,11 +9,11 @@ use native.Mathlib.Nat.{not-suc-le-zero, le-of-suc-le-suc}
 use lib.Dec.{ltb, leb}
 use lib.ListN.{length, getD, set}
 use borrow.Author.Tests.{lt-ltb, le-ltb, le-leb, lt-leb}
-use Rattle.model.specs.declared.machine.ByteRead.{ByteRead}
-use Rattle.model.specs.declared.machine.ByteRead.the-variants.{Byte, Unmapped as NoByte}
-use Rattle.model.specs.declared.machine.Stop.the-variants.{Unmapped, ImageStore}
-use Rattle.model.specs.declared.machine.Served.{Served}
-use Rattle.model.specs.declared.machine.Served.the-variants.{All, Refused}
+use Rattle.types.specs.declared.machine.ByteRead.{ByteRead}
+use Rattle.types.specs.declared.machine.ByteRead.the-variants.{Byte, Unmapped as NoByte}
+use Rattle.types.specs.declared.machine.Stop.the-variants.{Unmapped, ImageStore}
+use Rattle.types.specs.declared.machine.Served.{Served}
+use Rattle.types.specs.declared.machine.Served.the-variants.{All, Refused}
 use Rattle.prelude.specs.Choice.{pick}
 use Rattle.model.specs.Memory.{Memory, memory, byteAt, servedAt, Act, ret, load, _>>=_, Outcome, done, unmapped}
 use Rattle.model.specs.Memory.{onByte, come, andThen}

@@ -11,13 +11,14 @@ use borrow.Author.Tests.{leb-true, le-leb, lt-ltb, eqb-true, eq-eqb}
 use lib.Dec.{eqb, ltb, leb}
 use lib.ListN.{length, take, drop}
 use lib.Seq.{take-at, drop-at}
-use Rattle.model.specs.declared.lists.Header.{Header}
-use Rattle.model.specs.declared.lists.ListRead.the-variants.{Read}
-use Rattle.model.specs.declared.lists.ListWritten.the-variants.{Written}
-use Rattle.model.specs.declared.refusals.TestResult.the-variants.{Passed}
-use Rattle.model.specs.Refusals.{firstRefusal}
+use Rattle.types.specs.declared.lists.Header.{Header}
+use Rattle.types.specs.declared.lists.ListRead.the-variants.{Read}
+use Rattle.types.specs.declared.lists.ListWritten.the-variants.{Written}
+use Rattle.types.specs.declared.refusals.TestResult.the-variants.{Passed}
+use Rattle.types.specs.Refusals.{firstRefusal}
 use Rattle.text.specs.Text.{startsWith}
-use Rattle.model.specs.Image.{bankSize, addressLimit, baseFits}
+use Rattle.types.specs.Addresses.{bankSize, addressLimit}
+use Rattle.model.specs.Image.{baseFits}
 use Rattle.prelude.specs.First.{firstFrom}
 use Rattle.model.specs.Verdict.{badMark, unformedAt, allFormed}
 use Rattle.model.specs.MarkList.{lengthLimit, headerText, lines, listText, headerShown, isHeader, linesLeft}

@@ -11,26 +11,27 @@ use native.Mathlib.Nat.{zero-add, add-zero, add-assoc}
 use native.Mathlib.Omega.{arith}
 use lib.ListN.{length}
 use borrow.Author.Tests.{leb-true}
-use Rattle.model.specs.declared.code.Instruction.{Instruction}
-use Rattle.model.specs.declared.code.Decoded.{Decoded}
-use Rattle.model.specs.declared.code.Decoded.the-variants.{Whole, NotCarried, CutOff}
-use Rattle.model.specs.declared.machine.CallChange.{CallChange}
-use Rattle.model.specs.declared.machine.CallChange.the-variants.{Keep, Open, Close}
-use Rattle.model.specs.declared.machine.Served.{Served}
-use Rattle.model.specs.declared.machine.Served.the-variants.{All, Refused as Unserved}
-use Rattle.model.specs.declared.machine.State.{State}
-use Rattle.model.specs.declared.machine.Stop.{Stop}
-use Rattle.model.specs.declared.machine.Answer.{Answer}
-use Rattle.model.specs.declared.machine.Answer.the-variants.{Completed, Called, Stopped}
-use Rattle.model.specs.declared.refusals.Refusal.{Refusal}
-use Rattle.model.specs.declared.refusals.TestResult.the-variants.{Passed, Failed}
-use Rattle.model.specs.declared.runs.End.{End}
-use Rattle.model.specs.declared.runs.End.the-variants.{Done, AtStop}
-use Rattle.model.specs.declared.runs.RunAnswer.{RunAnswer}
-use Rattle.model.specs.declared.runs.RunAnswer.the-variants.{NotRun, Ended}
+use Rattle.types.specs.declared.code.Instruction.{Instruction}
+use Rattle.types.specs.declared.code.Decoded.{Decoded}
+use Rattle.types.specs.declared.code.Decoded.the-variants.{Whole, NotCarried, CutOff}
+use Rattle.types.specs.declared.machine.CallChange.{CallChange}
+use Rattle.types.specs.declared.machine.CallChange.the-variants.{Keep, Open, Close}
+use Rattle.types.specs.declared.machine.Served.{Served}
+use Rattle.types.specs.declared.machine.Served.the-variants.{All, Refused as Unserved}
+use Rattle.types.specs.declared.machine.State.{State}
+use Rattle.types.specs.declared.machine.Stop.{Stop}
+use Rattle.types.specs.declared.machine.Answer.{Answer}
+use Rattle.types.specs.declared.machine.Answer.the-variants.{Completed, Called, Stopped}
+use Rattle.types.specs.declared.refusals.Refusal.{Refusal}
+use Rattle.types.specs.declared.refusals.TestResult.the-variants.{Passed, Failed}
+use Rattle.types.specs.declared.runs.End.{End}
+use Rattle.types.specs.declared.runs.End.the-variants.{Done, AtStop}
+use Rattle.types.specs.declared.runs.RunAnswer.{RunAnswer}
+use Rattle.types.specs.declared.runs.RunAnswer.the-variants.{NotRun, Ended}
 use Rattle.prelude.specs.Choice.{pick}
-use Rattle.model.specs.Image.{imageLimit, addressLimit}
-use Rattle.model.specs.Refusals.{firstRefusal}
+use Rattle.types.specs.Addresses.{addressLimit}
+use Rattle.model.specs.Image.{imageLimit}
+use Rattle.types.specs.Refusals.{firstRefusal}
 use Rattle.prelude.specs.Choice.{bit}
 use Rattle.model.specs.Memory.{Memory, memory, served}
 use Rattle.model.specs.Step.{Change, Plan, stops, changes, answerOf, onServed, finish, plan, fetched, onDecoded}

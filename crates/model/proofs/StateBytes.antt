@@ -9,11 +9,11 @@ use native.Mathlib.Omega.{arith}
 use lib.ListN.{length, getD, take, drop, length-append, length-drop}
 use lib.Seq.{drop-drop, drop-at, take-add, take-all, take-at}
 use Rattle.fields.proofs.Fields.{joined-parted, length-joined, number-low, parted-from, parted-joined, parted-none}
-use Rattle.model.specs.declared.machine.Core.{Core}
-use Rattle.model.specs.declared.machine.State.{State}
-use Rattle.model.specs.declared.machine.Status.{Status}
+use Rattle.types.specs.declared.machine.Core.{Core}
+use Rattle.types.specs.declared.machine.State.{State}
+use Rattle.types.specs.declared.machine.Status.{Status}
 use Rattle.fields.specs.Fields.{number}
-use Rattle.model.specs.Status.{statusOf, numberOf}
+use Rattle.types.specs.Status.{statusOf, numberOf}
 use Rattle.model.specs.Step.{callLimit}
 use Rattle.model.specs.StateBytes.{headSize, entrySize, stateSize}
 use Rattle.fields.specs.Fields.{lowBytes, joined, parted, fieldAt}

@@ -11,9 +11,9 @@ use borrow.Author.Tests.{eq-eqb, ne-eqb}
 use lib.Dec.{eqb}
 use lib.ListN.{length}
 use Rattle.prelude.proofs.Choice.{remainder-bit}
-use Rattle.model.specs.declared.machine.Status.{Status}
+use Rattle.types.specs.declared.machine.Status.{Status}
 use Rattle.prelude.specs.Choice.{bit}
-use Rattle.model.specs.Status.{statusOf, numberOf, levelUnit}
+use Rattle.types.specs.Status.{statusOf, numberOf, levelUnit}
 
 halved : (n mask : ℕ) → n / mask ≡ n / mask % 2 + 2 * (n / (mask * 2))
 halved n mask = omega (arith, div-add-mod (n / mask) 2, div-div-eq-div-mul n mask 2)

@@ -9,19 +9,19 @@ use native.Mathlib.Omega.{arith}
 use lib.Bits.{bitAnd, bitOr, and-step, or-step, and-mask, or-zero-r}
 use lib.Dec.{eqb}
 use lib.ListN.{length, getD}
-use Rattle.model.specs.declared.code.Operation.{Operation}
-use Rattle.model.specs.declared.code.Operation.the-variants.{CLP, SEP}
-use Rattle.model.specs.declared.code.Instruction.{Instruction}
-use Rattle.model.specs.declared.code.Decoded.the-variants.{Whole}
-use Rattle.model.specs.declared.machine.Status.{Status}
-use Rattle.model.specs.declared.machine.State.{State}
-use Rattle.model.specs.declared.machine.Residence.the-variants.{Instruction as Instr}
+use Rattle.types.specs.declared.code.Operation.{Operation}
+use Rattle.types.specs.declared.code.Operation.the-variants.{CLP, SEP}
+use Rattle.types.specs.declared.code.Instruction.{Instruction}
+use Rattle.types.specs.declared.code.Decoded.the-variants.{Whole}
+use Rattle.types.specs.declared.machine.Status.{Status}
+use Rattle.types.specs.declared.machine.State.{State}
+use Rattle.types.specs.declared.machine.Residence.the-variants.{Instruction as Instr}
 use Rattle.prelude.specs.Choice.{pick}
 use Rattle.model.specs.Operations.{isIn}
 use Rattle.model.specs.CodeMap.{prefixBytes, entryAt, flowOf, effectOf as changesOf, widthOf}
 use Rattle.model.specs.Decode.{pageOf}
 use Rattle.model.specs.Rules.{setBit, clearBit, mAfter, xAfter}
-use Rattle.model.specs.Status.{maskX, maskM, isSet, statusOf, numberOf}
+use Rattle.types.specs.Status.{maskX, maskM, isSet, statusOf, numberOf}
 use Rattle.prelude.specs.Choice.{bit}
 use Rattle.anywidth.specs.AnyWidth.{size, low, clearedBy}
 use Rattle.model.specs.Memory.{Memory}

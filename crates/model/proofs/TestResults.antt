@@ -9,11 +9,11 @@ use Prim.Native.Nat.{ℕ, _<_}
 use native.Mathlib.Omega.{arith}
 use lib.ListN.{getD}
 use borrow.Author.Tests.{not-true, not-false}
-use Rattle.model.specs.declared.refusals.Refusal.{Refusal}
-use Rattle.model.specs.declared.refusals.Refusal.the-variants as refusal
-use Rattle.model.specs.declared.refusals.TestResult.{TestResult}
-use Rattle.model.specs.declared.refusals.TestResult.the-variants.{Passed, Failed}
-use Rattle.model.specs.Refusals.{refusalNumber, Tests, firstRefusal, isFailed, answered}
+use Rattle.types.specs.declared.refusals.Refusal.{Refusal}
+use Rattle.types.specs.declared.refusals.Refusal.the-variants as refusal
+use Rattle.types.specs.declared.refusals.TestResult.{TestResult}
+use Rattle.types.specs.declared.refusals.TestResult.the-variants.{Passed, Failed}
+use Rattle.types.specs.Refusals.{refusalNumber, Tests, firstRefusal, isFailed, answered}
 
 pub failed-passed : {why : Refusal} → Failed why ≡ Passed → ⊥
 failed-passed e = let z : _≡_ {A = ℕ} 0 1 = cc in absurd (omega arith)

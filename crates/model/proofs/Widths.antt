@@ -4,12 +4,12 @@ use mathlib.Core.Path.{_≡_}
 use Prim.Native.Nat.{ℕ, _+_, _*_, _/_, _%_, _≤_, _<_}
 use native.Mathlib.Omega.{arith}
 use lib.Dec.{eqb, eqb→eq}
-use Rattle.model.specs.declared.code.WidthEffect.{WidthEffect}
-use Rattle.model.specs.declared.code.WidthEffect.the-variants.{KeepWidths, SetM, ClearM, SetBits, ClearBits}
-use Rattle.model.specs.declared.code.Kind.{Kind}
-use Rattle.model.specs.declared.code.Kind.the-variants.{ByRts, ByRtl}
+use Rattle.types.specs.declared.code.WidthEffect.{WidthEffect}
+use Rattle.types.specs.declared.code.WidthEffect.the-variants.{KeepWidths, SetM, ClearM, SetBits, ClearBits}
+use Rattle.types.specs.declared.code.Kind.{Kind}
+use Rattle.types.specs.declared.code.Kind.the-variants.{ByRts, ByRtl}
 use Rattle.model.specs.Image.{markM, markX, markKind, returnM, returnX, markOf}
-use Rattle.model.specs.Status.{maskX, maskM}
+use Rattle.types.specs.Status.{maskX, maskM}
 use Rattle.model.specs.Rules.{mAfter, xAfter, kindNumber}
 use Rattle.prelude.proofs.Choice.{one-of}
 use Rattle.prelude.proofs.Table.{below-all}

@@ -5,34 +5,34 @@
 use Prim.Native.Nat.{ℕ, _+_, _*_, _%_}
 use mathlib.Core.Bool.{Bool, true, false}
 use mathlib.Core.List.{List, [], _∷_}
-use Rattle.model.specs.declared.code.Operation.{Operation}
-use Rattle.model.specs.declared.code.Operation.the-variants.{ADC, LDM, PEI, PLA, PLB, PLD, PLT, PLX, PLY}
-use Rattle.model.specs.declared.code.Operation.the-variants.{SBC, STA, STX, STY}
-use Rattle.model.specs.declared.code.Mode.{Mode}
-use Rattle.model.specs.declared.code.Mode.the-variants.{Implied, Immediate, Accumulator, Direct}
-use Rattle.model.specs.declared.code.Mode.the-variants.{DirectBit, DirectIndexedX, DirectIndexedY}
-use Rattle.model.specs.declared.code.Mode.the-variants.{DirectIndirect, DirectIndexedXIndirect}
-use Rattle.model.specs.declared.code.Mode.the-variants.{DirectIndirectIndexedY, DirectIndirectLong}
-use Rattle.model.specs.declared.code.Mode.the-variants.{DirectIndirectLongIndexedY, Absolute, AbsoluteBit}
-use Rattle.model.specs.declared.code.Mode.the-variants.{AbsoluteIndexedX, AbsoluteIndexedY, AbsoluteLong}
-use Rattle.model.specs.declared.code.Mode.the-variants.{AbsoluteLongIndexedX, AbsoluteIndirect}
-use Rattle.model.specs.declared.code.Mode.the-variants.{AbsoluteIndirectLong, AbsoluteIndexedXIndirect}
-use Rattle.model.specs.declared.code.Mode.the-variants.{Stack, Relative, DirectBitRelative}
-use Rattle.model.specs.declared.code.Mode.the-variants.{AbsoluteBitRelative, StackPointerRelative}
-use Rattle.model.specs.declared.code.Mode.the-variants.{StackPointerRelativeIndirectIndexedY}
-use Rattle.model.specs.declared.code.Mode.the-variants.{BlockTransfer}
-use Rattle.model.specs.declared.code.DataWidth.{DataWidth}
-use Rattle.model.specs.declared.code.DataWidth.the-variants.{NoData, ByM, ByX, Byte, Word}
-use Rattle.model.specs.declared.code.Accumulator.{Accumulator as Named}
-use Rattle.model.specs.declared.code.Accumulator.the-variants.{Unnamed, A, B}
-use Rattle.model.specs.declared.machine.Registers.{Registers}
-use Rattle.model.specs.declared.machine.Access.{Access}
-use Rattle.model.specs.declared.machine.Access.the-variants.{Operand, Addend, Address, Pull, DirectWord}
-use Rattle.model.specs.declared.machine.Residence.{Residence}
-use Rattle.model.specs.declared.machine.Residence.the-variants.{Memory, Instruction, Register}
-use Rattle.model.specs.declared.machine.Data.{Data}
+use Rattle.types.specs.declared.code.Operation.{Operation}
+use Rattle.types.specs.declared.code.Operation.the-variants.{ADC, LDM, PEI, PLA, PLB, PLD, PLT, PLX, PLY}
+use Rattle.types.specs.declared.code.Operation.the-variants.{SBC, STA, STX, STY}
+use Rattle.types.specs.declared.code.Mode.{Mode}
+use Rattle.types.specs.declared.code.Mode.the-variants.{Implied, Immediate, Accumulator, Direct}
+use Rattle.types.specs.declared.code.Mode.the-variants.{DirectBit, DirectIndexedX, DirectIndexedY}
+use Rattle.types.specs.declared.code.Mode.the-variants.{DirectIndirect, DirectIndexedXIndirect}
+use Rattle.types.specs.declared.code.Mode.the-variants.{DirectIndirectIndexedY, DirectIndirectLong}
+use Rattle.types.specs.declared.code.Mode.the-variants.{DirectIndirectLongIndexedY, Absolute, AbsoluteBit}
+use Rattle.types.specs.declared.code.Mode.the-variants.{AbsoluteIndexedX, AbsoluteIndexedY, AbsoluteLong}
+use Rattle.types.specs.declared.code.Mode.the-variants.{AbsoluteLongIndexedX, AbsoluteIndirect}
+use Rattle.types.specs.declared.code.Mode.the-variants.{AbsoluteIndirectLong, AbsoluteIndexedXIndirect}
+use Rattle.types.specs.declared.code.Mode.the-variants.{Stack, Relative, DirectBitRelative}
+use Rattle.types.specs.declared.code.Mode.the-variants.{AbsoluteBitRelative, StackPointerRelative}
+use Rattle.types.specs.declared.code.Mode.the-variants.{StackPointerRelativeIndirectIndexedY}
+use Rattle.types.specs.declared.code.Mode.the-variants.{BlockTransfer}
+use Rattle.types.specs.declared.code.DataWidth.{DataWidth}
+use Rattle.types.specs.declared.code.DataWidth.the-variants.{NoData, ByM, ByX, Byte, Word}
+use Rattle.types.specs.declared.code.Accumulator.{Accumulator as Named}
+use Rattle.types.specs.declared.code.Accumulator.the-variants.{Unnamed, A, B}
+use Rattle.types.specs.declared.machine.Registers.{Registers}
+use Rattle.types.specs.declared.machine.Access.{Access}
+use Rattle.types.specs.declared.machine.Access.the-variants.{Operand, Addend, Address, Pull, DirectWord}
+use Rattle.types.specs.declared.machine.Residence.{Residence}
+use Rattle.types.specs.declared.machine.Residence.the-variants.{Memory, Instruction, Register}
+use Rattle.types.specs.declared.machine.Data.{Data}
 use Rattle.prelude.specs.Choice.{pick}
-use Rattle.model.specs.Image.{bankSize, addressLimit}
+use Rattle.types.specs.Addresses.{bankSize, addressLimit}
 use Rattle.model.specs.Operations.{isIn}
 use Rattle.anywidth.specs.AnyWidth.{low}
 use Rattle.model.specs.Memory.{Act, ret, _>>=_, wordFrom, longFrom, dataFrom, readWord, readLong}

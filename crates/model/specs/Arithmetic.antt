@@ -5,11 +5,11 @@ use Prim.Native.Nat.{ℕ}
 use mathlib.Core.Bool.{Bool, true, not, _&&_, _||_}
 use lib.Bits.{bitAnd, bitOr, bitXor}
 use lib.Dec.{eqb}
-use Rattle.model.specs.declared.code.Accumulator.{Accumulator}
-use Rattle.model.specs.declared.code.Accumulator.the-variants.{Unnamed, A, B}
-use Rattle.model.specs.declared.machine.Status.{Status}
-use Rattle.model.specs.declared.machine.Registers.{Registers}
-use Rattle.model.specs.Status.{maskC, maskZ, maskI, maskD, maskV, maskN, isSet}
+use Rattle.types.specs.declared.code.Accumulator.{Accumulator}
+use Rattle.types.specs.declared.code.Accumulator.the-variants.{Unnamed, A, B}
+use Rattle.types.specs.declared.machine.Status.{Status}
+use Rattle.types.specs.declared.machine.Registers.{Registers}
+use Rattle.types.specs.Status.{maskC, maskZ, maskI, maskD, maskV, maskN, isSet}
 use Rattle.anywidth.specs.AnyWidth.{low, merged, isNegative, sum, difference, isPast, sumOverflows}
 use Rattle.anywidth.specs.AnyWidth.{differenceOverflows, rotated}
 use Rattle.model.specs.Addressing.{accumulatorOf}

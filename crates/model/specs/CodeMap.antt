@@ -7,36 +7,36 @@ use mathlib.Core.Bool.{Bool, true, false, not, _&&_, _||_}
 use mathlib.Core.List.{[], _∷_}
 use lib.Dec.{eqb}
 use lib.ListN.{getD}
-use Rattle.model.specs.declared.code.Operation.{Operation}
-use Rattle.model.specs.declared.code.Operation.the-variants.{Unassigned, BRK, CLM, CLP, JMP, JSR, LDM}
-use Rattle.model.specs.declared.code.Operation.the-variants.{PEA, PEI, PER, PSH, PUL, RTL, RTS, SEM, SEP}
-use Rattle.model.specs.declared.code.Mode.{Mode}
-use Rattle.model.specs.declared.code.Mode.the-variants.{Implied, Immediate, Accumulator, Direct}
-use Rattle.model.specs.declared.code.Mode.the-variants.{DirectBit, DirectIndexedX, DirectIndexedY}
-use Rattle.model.specs.declared.code.Mode.the-variants.{DirectIndirect, DirectIndexedXIndirect}
-use Rattle.model.specs.declared.code.Mode.the-variants.{DirectIndirectIndexedY, DirectIndirectLong}
-use Rattle.model.specs.declared.code.Mode.the-variants.{DirectIndirectLongIndexedY, Absolute, AbsoluteBit}
-use Rattle.model.specs.declared.code.Mode.the-variants.{AbsoluteIndexedX, AbsoluteIndexedY, AbsoluteLong}
-use Rattle.model.specs.declared.code.Mode.the-variants.{AbsoluteLongIndexedX, AbsoluteIndirect}
-use Rattle.model.specs.declared.code.Mode.the-variants.{AbsoluteIndirectLong, AbsoluteIndexedXIndirect}
-use Rattle.model.specs.declared.code.Mode.the-variants.{Stack, Relative, DirectBitRelative}
-use Rattle.model.specs.declared.code.Mode.the-variants.{AbsoluteBitRelative, StackPointerRelative}
-use Rattle.model.specs.declared.code.Mode.the-variants.{StackPointerRelativeIndirectIndexedY}
-use Rattle.model.specs.declared.code.Mode.the-variants.{BlockTransfer}
-use Rattle.model.specs.declared.code.Kind.the-variants.{ByRts, ByRtl}
-use Rattle.model.specs.declared.code.Flow.{Flow}
-use Rattle.model.specs.declared.code.Flow.the-variants.{Next, Branch, Jump, Call, Return, Halt}
-use Rattle.model.specs.declared.code.Target.{Target}
-use Rattle.model.specs.declared.code.Target.the-variants.{NoTarget, Offset8, Offset16, Address16}
-use Rattle.model.specs.declared.code.Target.the-variants.{Address24}
-use Rattle.model.specs.declared.code.WidthEffect.{WidthEffect}
-use Rattle.model.specs.declared.code.WidthEffect.the-variants.{KeepWidths, SetM, ClearM, SetBits}
-use Rattle.model.specs.declared.code.WidthEffect.the-variants.{ClearBits}
-use Rattle.model.specs.declared.code.LengthRule.{LengthRule}
-use Rattle.model.specs.declared.code.LengthRule.the-variants.{Fixed, MoreByM, MoreByX}
-use Rattle.model.specs.declared.code.DataWidth.{DataWidth}
-use Rattle.model.specs.declared.code.DataWidth.the-variants.{NoData, ByM, ByX, Byte, Word}
-use Rattle.model.specs.declared.code.Entry.{Entry}
+use Rattle.types.specs.declared.code.Operation.{Operation}
+use Rattle.types.specs.declared.code.Operation.the-variants.{Unassigned, BRK, CLM, CLP, JMP, JSR, LDM}
+use Rattle.types.specs.declared.code.Operation.the-variants.{PEA, PEI, PER, PSH, PUL, RTL, RTS, SEM, SEP}
+use Rattle.types.specs.declared.code.Mode.{Mode}
+use Rattle.types.specs.declared.code.Mode.the-variants.{Implied, Immediate, Accumulator, Direct}
+use Rattle.types.specs.declared.code.Mode.the-variants.{DirectBit, DirectIndexedX, DirectIndexedY}
+use Rattle.types.specs.declared.code.Mode.the-variants.{DirectIndirect, DirectIndexedXIndirect}
+use Rattle.types.specs.declared.code.Mode.the-variants.{DirectIndirectIndexedY, DirectIndirectLong}
+use Rattle.types.specs.declared.code.Mode.the-variants.{DirectIndirectLongIndexedY, Absolute, AbsoluteBit}
+use Rattle.types.specs.declared.code.Mode.the-variants.{AbsoluteIndexedX, AbsoluteIndexedY, AbsoluteLong}
+use Rattle.types.specs.declared.code.Mode.the-variants.{AbsoluteLongIndexedX, AbsoluteIndirect}
+use Rattle.types.specs.declared.code.Mode.the-variants.{AbsoluteIndirectLong, AbsoluteIndexedXIndirect}
+use Rattle.types.specs.declared.code.Mode.the-variants.{Stack, Relative, DirectBitRelative}
+use Rattle.types.specs.declared.code.Mode.the-variants.{AbsoluteBitRelative, StackPointerRelative}
+use Rattle.types.specs.declared.code.Mode.the-variants.{StackPointerRelativeIndirectIndexedY}
+use Rattle.types.specs.declared.code.Mode.the-variants.{BlockTransfer}
+use Rattle.types.specs.declared.code.Kind.the-variants.{ByRts, ByRtl}
+use Rattle.types.specs.declared.code.Flow.{Flow}
+use Rattle.types.specs.declared.code.Flow.the-variants.{Next, Branch, Jump, Call, Return, Halt}
+use Rattle.types.specs.declared.code.Target.{Target}
+use Rattle.types.specs.declared.code.Target.the-variants.{NoTarget, Offset8, Offset16, Address16}
+use Rattle.types.specs.declared.code.Target.the-variants.{Address24}
+use Rattle.types.specs.declared.code.WidthEffect.{WidthEffect}
+use Rattle.types.specs.declared.code.WidthEffect.the-variants.{KeepWidths, SetM, ClearM, SetBits}
+use Rattle.types.specs.declared.code.WidthEffect.the-variants.{ClearBits}
+use Rattle.types.specs.declared.code.LengthRule.{LengthRule}
+use Rattle.types.specs.declared.code.LengthRule.the-variants.{Fixed, MoreByM, MoreByX}
+use Rattle.types.specs.declared.code.DataWidth.{DataWidth}
+use Rattle.types.specs.declared.code.DataWidth.the-variants.{NoData, ByM, ByX, Byte, Word}
+use Rattle.types.specs.declared.code.Entry.{Entry}
 use Rattle.prelude.specs.Choice.{pick}
 use Rattle.model.specs.Operations.{isIn, neverCarried, branches, jumps, halts, byIndex, ofByte, ofWord}
 use Rattle.model.specs.Operations.{withoutData}

@@ -5,43 +5,43 @@
 -- Assumes nothing.
 use mathlib.Core.List.{List, [], _∷_}
 use mathlib.Core.Bool.{Bool, true, false}
-use Rattle.model.specs.declared.code.Operation.{Operation}
-use Rattle.model.specs.declared.code.Operation.the-variants.{Unassigned}
-use Rattle.model.specs.declared.code.Operation.the-variants.{ADC, AND, ASL, BBC, BBS, BCC, BCS, BEQ, BMI}
-use Rattle.model.specs.declared.code.Operation.the-variants.{BNE, BPL, BRA, BRK, BVC, BVS, CLB, CLC, CLI}
-use Rattle.model.specs.declared.code.Operation.the-variants.{CLM, CLP, CLV, CMP, CPX, CPY, DEC, DEX, DEY}
-use Rattle.model.specs.declared.code.Operation.the-variants.{DIV, EOR, INC, INX, INY, JMP, JSR, LDA, LDM}
-use Rattle.model.specs.declared.code.Operation.the-variants.{LDT, LDX, LDY, LSR, MPY, MVN, MVP, NOP, ORA}
-use Rattle.model.specs.declared.code.Operation.the-variants.{PEA, PEI, PER, PHA, PHB, PHD, PHG, PHP, PHT}
-use Rattle.model.specs.declared.code.Operation.the-variants.{PHX, PHY, PLA, PLB, PLD, PLP, PLT, PLX, PLY}
-use Rattle.model.specs.declared.code.Operation.the-variants.{PSH, PUL, RLA, ROL, ROR, RTI, RTL, RTS, SBC}
-use Rattle.model.specs.declared.code.Operation.the-variants.{SEB, SEC, SEI, SEM, SEP, STA, STP, STX, STY}
-use Rattle.model.specs.declared.code.Operation.the-variants.{TAD, TAS, TAX, TAY, TBD, TBS, TBX, TBY, TDA}
-use Rattle.model.specs.declared.code.Operation.the-variants.{TDB, TSA, TSB, TSX, TXA, TXB, TXS, TXY, TYA}
-use Rattle.model.specs.declared.code.Operation.the-variants.{TYB, TYX, WIT, XAB}
-use Rattle.model.specs.declared.code.Mode.{Mode}
-use Rattle.model.specs.declared.code.Mode.the-variants.{Implied as IMP, Immediate as IMM}
-use Rattle.model.specs.declared.code.Mode.the-variants.{Accumulator as ACC, Direct as DIR}
-use Rattle.model.specs.declared.code.Mode.the-variants.{DirectBit as DIRb, DirectIndexedX as DIR-X}
-use Rattle.model.specs.declared.code.Mode.the-variants.{DirectIndexedY as DIR-Y, DirectIndirect as ⟨DIR⟩}
-use Rattle.model.specs.declared.code.Mode.the-variants.{DirectIndexedXIndirect as ⟨DIR-X⟩}
-use Rattle.model.specs.declared.code.Mode.the-variants.{DirectIndirectIndexedY as ⟨DIR⟩-Y}
-use Rattle.model.specs.declared.code.Mode.the-variants.{DirectIndirectLong as L⟨DIR⟩}
-use Rattle.model.specs.declared.code.Mode.the-variants.{DirectIndirectLongIndexedY as L⟨DIR⟩-Y}
-use Rattle.model.specs.declared.code.Mode.the-variants.{Absolute as ABS, AbsoluteBit as ABSb}
-use Rattle.model.specs.declared.code.Mode.the-variants.{AbsoluteIndexedX as ABS-X}
-use Rattle.model.specs.declared.code.Mode.the-variants.{AbsoluteIndexedY as ABS-Y, AbsoluteLong as ABL}
-use Rattle.model.specs.declared.code.Mode.the-variants.{AbsoluteLongIndexedX as ABL-X}
-use Rattle.model.specs.declared.code.Mode.the-variants.{AbsoluteIndirect as ⟨ABS⟩}
-use Rattle.model.specs.declared.code.Mode.the-variants.{AbsoluteIndirectLong as L⟨ABS⟩}
-use Rattle.model.specs.declared.code.Mode.the-variants.{AbsoluteIndexedXIndirect as ⟨ABS-X⟩, Stack as STK}
-use Rattle.model.specs.declared.code.Mode.the-variants.{Relative as REL, DirectBitRelative as DIRb-REL}
-use Rattle.model.specs.declared.code.Mode.the-variants.{AbsoluteBitRelative as ABSb-REL}
-use Rattle.model.specs.declared.code.Mode.the-variants.{StackPointerRelative as SR}
-use Rattle.model.specs.declared.code.Mode.the-variants.{StackPointerRelativeIndirectIndexedY as ⟨SR⟩-Y}
-use Rattle.model.specs.declared.code.Mode.the-variants.{BlockTransfer as BLK}
-use Rattle.model.specs.declared.code.Accumulator.{Accumulator}
-use Rattle.model.specs.declared.code.Accumulator.the-variants.{Unnamed, A, B}
+use Rattle.types.specs.declared.code.Operation.{Operation}
+use Rattle.types.specs.declared.code.Operation.the-variants.{Unassigned}
+use Rattle.types.specs.declared.code.Operation.the-variants.{ADC, AND, ASL, BBC, BBS, BCC, BCS, BEQ, BMI}
+use Rattle.types.specs.declared.code.Operation.the-variants.{BNE, BPL, BRA, BRK, BVC, BVS, CLB, CLC, CLI}
+use Rattle.types.specs.declared.code.Operation.the-variants.{CLM, CLP, CLV, CMP, CPX, CPY, DEC, DEX, DEY}
+use Rattle.types.specs.declared.code.Operation.the-variants.{DIV, EOR, INC, INX, INY, JMP, JSR, LDA, LDM}
+use Rattle.types.specs.declared.code.Operation.the-variants.{LDT, LDX, LDY, LSR, MPY, MVN, MVP, NOP, ORA}
+use Rattle.types.specs.declared.code.Operation.the-variants.{PEA, PEI, PER, PHA, PHB, PHD, PHG, PHP, PHT}
+use Rattle.types.specs.declared.code.Operation.the-variants.{PHX, PHY, PLA, PLB, PLD, PLP, PLT, PLX, PLY}
+use Rattle.types.specs.declared.code.Operation.the-variants.{PSH, PUL, RLA, ROL, ROR, RTI, RTL, RTS, SBC}
+use Rattle.types.specs.declared.code.Operation.the-variants.{SEB, SEC, SEI, SEM, SEP, STA, STP, STX, STY}
+use Rattle.types.specs.declared.code.Operation.the-variants.{TAD, TAS, TAX, TAY, TBD, TBS, TBX, TBY, TDA}
+use Rattle.types.specs.declared.code.Operation.the-variants.{TDB, TSA, TSB, TSX, TXA, TXB, TXS, TXY, TYA}
+use Rattle.types.specs.declared.code.Operation.the-variants.{TYB, TYX, WIT, XAB}
+use Rattle.types.specs.declared.code.Mode.{Mode}
+use Rattle.types.specs.declared.code.Mode.the-variants.{Implied as IMP, Immediate as IMM}
+use Rattle.types.specs.declared.code.Mode.the-variants.{Accumulator as ACC, Direct as DIR}
+use Rattle.types.specs.declared.code.Mode.the-variants.{DirectBit as DIRb, DirectIndexedX as DIR-X}
+use Rattle.types.specs.declared.code.Mode.the-variants.{DirectIndexedY as DIR-Y, DirectIndirect as ⟨DIR⟩}
+use Rattle.types.specs.declared.code.Mode.the-variants.{DirectIndexedXIndirect as ⟨DIR-X⟩}
+use Rattle.types.specs.declared.code.Mode.the-variants.{DirectIndirectIndexedY as ⟨DIR⟩-Y}
+use Rattle.types.specs.declared.code.Mode.the-variants.{DirectIndirectLong as L⟨DIR⟩}
+use Rattle.types.specs.declared.code.Mode.the-variants.{DirectIndirectLongIndexedY as L⟨DIR⟩-Y}
+use Rattle.types.specs.declared.code.Mode.the-variants.{Absolute as ABS, AbsoluteBit as ABSb}
+use Rattle.types.specs.declared.code.Mode.the-variants.{AbsoluteIndexedX as ABS-X}
+use Rattle.types.specs.declared.code.Mode.the-variants.{AbsoluteIndexedY as ABS-Y, AbsoluteLong as ABL}
+use Rattle.types.specs.declared.code.Mode.the-variants.{AbsoluteLongIndexedX as ABL-X}
+use Rattle.types.specs.declared.code.Mode.the-variants.{AbsoluteIndirect as ⟨ABS⟩}
+use Rattle.types.specs.declared.code.Mode.the-variants.{AbsoluteIndirectLong as L⟨ABS⟩}
+use Rattle.types.specs.declared.code.Mode.the-variants.{AbsoluteIndexedXIndirect as ⟨ABS-X⟩, Stack as STK}
+use Rattle.types.specs.declared.code.Mode.the-variants.{Relative as REL, DirectBitRelative as DIRb-REL}
+use Rattle.types.specs.declared.code.Mode.the-variants.{AbsoluteBitRelative as ABSb-REL}
+use Rattle.types.specs.declared.code.Mode.the-variants.{StackPointerRelative as SR}
+use Rattle.types.specs.declared.code.Mode.the-variants.{StackPointerRelativeIndirectIndexedY as ⟨SR⟩-Y}
+use Rattle.types.specs.declared.code.Mode.the-variants.{BlockTransfer as BLK}
+use Rattle.types.specs.declared.code.Accumulator.{Accumulator}
+use Rattle.types.specs.declared.code.Accumulator.the-variants.{Unnamed, A, B}
 
 -- What stands in a cell. BRA has two codes of one mode: the one with 16 bits of offset is far.
 pub record Form : Type 0 where

@@ -14,17 +14,17 @@ use Prim.Native.Nat.{ℕ, _≤_, _<_}
 use mathlib.Core.Bool.{true}
 use mathlib.Core.List.{List, [], _∷_}
 use lib.ListN.{length}
-use Rattle.model.specs.declared.code.Kind.{Kind}
-use Rattle.model.specs.declared.code.Flow.the-variants.{Return}
-use Rattle.model.specs.declared.code.Instruction.{Instruction}
-use Rattle.model.specs.declared.code.Decoded.the-variants.{Whole}
-use Rattle.model.specs.declared.rules.Verdict.the-variants.{Accepted}
-use Rattle.model.specs.declared.machine.State.{State}
-use Rattle.model.specs.declared.machine.Stop.{Stop}
-use Rattle.model.specs.declared.refusals.Refusal.{Refusal}
-use Rattle.model.specs.declared.refusals.TestResult.the-variants.{Passed, Failed}
-use Rattle.model.specs.declared.runs.End.the-variants.{Done, AtStop}
-use Rattle.model.specs.declared.runs.RunAnswer.the-variants.{NotRun, Ended}
+use Rattle.types.specs.declared.code.Kind.{Kind}
+use Rattle.types.specs.declared.code.Flow.the-variants.{Return}
+use Rattle.types.specs.declared.code.Instruction.{Instruction}
+use Rattle.types.specs.declared.code.Decoded.the-variants.{Whole}
+use Rattle.types.specs.declared.rules.Verdict.the-variants.{Accepted}
+use Rattle.types.specs.declared.machine.State.{State}
+use Rattle.types.specs.declared.machine.Stop.{Stop}
+use Rattle.types.specs.declared.refusals.Refusal.{Refusal}
+use Rattle.types.specs.declared.refusals.TestResult.the-variants.{Passed, Failed}
+use Rattle.types.specs.declared.runs.End.the-variants.{Done, AtStop}
+use Rattle.types.specs.declared.runs.RunAnswer.the-variants.{NotRun, Ended}
 use Rattle.model.specs.CodeMap.{lengthAt}
 use Rattle.model.specs.Image.{isStart, markM, markX, markAt}
 use Rattle.model.specs.Rules.{nextAddress, kindNumber}

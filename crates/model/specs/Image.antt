@@ -6,18 +6,11 @@ use mathlib.Core.List.{List, [], _∷_}
 use lib.Dec.{eqb, ltb, leb}
 use lib.ListN.{getD}
 use Rattle.prelude.specs.Choice.{pick}
+use Rattle.types.specs.Addresses.{bankSize, addressLimit, inBankOf}
 
 -- 'The image is 1 to 16,384 bytes'
 abbrev pub imageLimit : ℕ
 imageLimit = 16_384
-
--- 'within one bank (64 KiB)'
-abbrev pub bankSize : ℕ
-bankSize = 65_536
-
--- addresses have 24 bits
-abbrev pub addressLimit : ℕ
-addressLimit = 16_777_216
 
 -- 'Bit 0: an instruction starts here'
 abbrev pub isStart : ℕ → Bool
@@ -63,10 +56,6 @@ baseFits base n = ltb base addressLimit && leb (base % bankSize + n) bankSize
 -- the mark at a 24-bit address; outside the image there is none
 unfoldable pub markAt : List ℕ → ℕ → ℕ → ℕ
 markAt marks base address = pick (leb base address) (getD marks (address - base) 0) 0
-
--- the address in the bank of another address
-abbrev pub inBankOf : ℕ → ℕ → ℕ
-inBankOf address low = address / bankSize * bankSize + low
 
 -- number 3: 'At the reset address stands a start with m=0, x=0, return kind 0.' With the form of a mark that is mark
 -- 01. 'The reset address is a 16-bit address in that bank.'

@@ -1,5 +1,4 @@
 -- Everything that a reader has to believe, a file for each topic of document 01.
-pub mod Refusals
 pub mod Operations
 pub mod Words
 pub mod CodePages
@@ -11,7 +10,6 @@ pub mod Meaning
 pub mod Verdict
 pub mod MarkList
 pub mod ListForm
-pub mod Status
 pub mod Memory
 pub mod Addressing
 pub mod Arithmetic

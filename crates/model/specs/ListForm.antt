@@ -4,8 +4,9 @@ use mathlib.Core.Path.{_≡_}
 use Prim.Native.Nat.{ℕ, _+_, _%_, _^_, _≤_, _<_}
 use mathlib.Core.Bool.{true}
 use mathlib.Core.List.{List, [], _++_}
-use Rattle.model.specs.declared.lists.Header.{Header}
-use Rattle.model.specs.Image.{bankSize, isStart, isFormed}
+use Rattle.types.specs.declared.lists.Header.{Header}
+use Rattle.types.specs.Addresses.{bankSize}
+use Rattle.model.specs.Image.{isStart, isFormed}
 use Rattle.model.specs.MarkList.{headerText, line}
 
 -- 'one line for each start, ascending': lines of starts in form, the first at `low` or above, each further one above

@@ -6,18 +6,19 @@ use mathlib.Core.Bool.{Bool, _&&_}
 use mathlib.Core.List.{List, [], _∷_, _++_}
 use lib.Dec.{eqb, ltb, leb}
 use lib.ListN.{length, getD, drop}
-use Rattle.model.specs.declared.lists.Header.{Header}
-use Rattle.model.specs.declared.refusals.Refusal.the-variants as refusal
-use Rattle.model.specs.declared.lists.ListRead.{ListRead}
-use Rattle.model.specs.declared.lists.ListRead.the-variants.{NotRead, Read}
-use Rattle.model.specs.declared.lists.ListWritten.{ListWritten}
-use Rattle.model.specs.declared.lists.ListWritten.the-variants.{NotWritten, Written}
+use Rattle.types.specs.declared.lists.Header.{Header}
+use Rattle.types.specs.declared.refusals.Refusal.the-variants as refusal
+use Rattle.types.specs.declared.lists.ListRead.{ListRead}
+use Rattle.types.specs.declared.lists.ListRead.the-variants.{NotRead, Read}
+use Rattle.types.specs.declared.lists.ListWritten.{ListWritten}
+use Rattle.types.specs.declared.lists.ListWritten.the-variants.{NotWritten, Written}
 use Rattle.prelude.specs.Choice.{pick}
 use Rattle.text.specs.Digits.{digit, digits, value, digitCount}
 use Rattle.text.specs.Text.{startsWith}
-use Rattle.model.specs.Image.{bankSize, isStart, markM, markX, markKind, returnM, returnX, markOf, isFormed}
+use Rattle.types.specs.Addresses.{bankSize}
+use Rattle.model.specs.Image.{isStart, markM, markX, markKind, returnM, returnX, markOf, isFormed}
 use Rattle.model.specs.Image.{resetFits}
-use Rattle.model.specs.Refusals.{Tests, firstRefusal, answered}
+use Rattle.types.specs.Refusals.{Tests, firstRefusal, answered}
 use Rattle.prelude.specs.First.{firstFrom}
 use Rattle.model.specs.Verdict.{imageTests, marksTests}
 

@@ -8,13 +8,13 @@ use Prim.Native.Nat.{ℕ, _+_, _<_}
 use mathlib.Core.Bool.{true, false}
 use mathlib.Core.List.{List}
 use lib.ListN.{length, getD}
-use Rattle.model.specs.declared.code.Instruction.{Instruction}
-use Rattle.model.specs.declared.code.Decoded.the-variants.{Whole, NotCarried, CutOff}
-use Rattle.model.specs.declared.refusals.Refusal.{Refusal}
-use Rattle.model.specs.declared.refusals.Refusal.the-variants as refusal
-use Rattle.model.specs.declared.rules.Want.{Want}
-use Rattle.model.specs.declared.rules.Owed.{Owed}
-use Rattle.model.specs.declared.rules.Owed.the-variants.{Nothing, One, Two}
+use Rattle.types.specs.declared.code.Instruction.{Instruction}
+use Rattle.types.specs.declared.code.Decoded.the-variants.{Whole, NotCarried, CutOff}
+use Rattle.types.specs.declared.refusals.Refusal.{Refusal}
+use Rattle.types.specs.declared.refusals.Refusal.the-variants as refusal
+use Rattle.types.specs.declared.rules.Want.{Want}
+use Rattle.types.specs.declared.rules.Owed.{Owed}
+use Rattle.types.specs.declared.rules.Owed.the-variants.{Nothing, One, Two}
 use Rattle.model.specs.Image.{isStart, isFormed, lengthFits, baseFits, markAt, resetFits}
 use Rattle.model.specs.Rules.{owedThere, returnFits, instructionAt, StartRules}
 

@@ -7,14 +7,14 @@ use mathlib.Core.Bool.{Bool, true, false, _&&_}
 use mathlib.Core.List.{List, [], _∷_}
 use lib.Dec.{ltb, leb}
 use lib.ListN.{length, getD, set}
-use Rattle.model.specs.declared.machine.ByteRead.{ByteRead}
-use Rattle.model.specs.declared.machine.ByteRead.the-variants.{Byte, Unmapped as NoByte}
-use Rattle.model.specs.declared.machine.Store.{Store}
-use Rattle.model.specs.declared.machine.Stop.the-variants.{Unmapped, ImageStore}
-use Rattle.model.specs.declared.machine.Served.{Served}
-use Rattle.model.specs.declared.machine.Served.the-variants.{All, Refused}
+use Rattle.types.specs.declared.machine.ByteRead.{ByteRead}
+use Rattle.types.specs.declared.machine.ByteRead.the-variants.{Byte, Unmapped as NoByte}
+use Rattle.types.specs.declared.machine.Store.{Store}
+use Rattle.types.specs.declared.machine.Stop.the-variants.{Unmapped, ImageStore}
+use Rattle.types.specs.declared.machine.Served.{Served}
+use Rattle.types.specs.declared.machine.Served.the-variants.{All, Refused}
 use Rattle.prelude.specs.Choice.{pick}
-use Rattle.model.specs.Image.{bankSize}
+use Rattle.types.specs.Addresses.{bankSize}
 
 pub record Memory : Type 0 where
   pub ram : List ℕ

@@ -6,24 +6,26 @@ use mathlib.Core.Bool.{Bool, true, false, _&&_}
 use mathlib.Core.List.{List}
 use lib.Dec.{eqb, ltb}
 use lib.ListN.{length, getD, drop}
-use Rattle.model.specs.declared.code.Kind.{Kind}
-use Rattle.model.specs.declared.code.Kind.the-variants.{ByRts, ByRtl}
-use Rattle.model.specs.declared.code.Flow.{Flow}
-use Rattle.model.specs.declared.code.Flow.the-variants.{Next, Branch, Jump, Call, Return, Halt}
-use Rattle.model.specs.declared.code.Target.{Target}
-use Rattle.model.specs.declared.code.Target.the-variants.{NoTarget, Offset8, Offset16, Address16, Address24}
-use Rattle.model.specs.declared.code.WidthEffect.{WidthEffect}
-use Rattle.model.specs.declared.code.WidthEffect.the-variants.{KeepWidths, SetM, ClearM, SetBits, ClearBits}
-use Rattle.model.specs.declared.code.Instruction.{Instruction}
-use Rattle.model.specs.declared.code.Decoded.{Decoded}
-use Rattle.model.specs.declared.code.Decoded.the-variants.{Whole}
-use Rattle.model.specs.declared.rules.Want.{Want}
-use Rattle.model.specs.declared.rules.Owed.{Owed}
-use Rattle.model.specs.declared.rules.Owed.the-variants.{Nothing, One, Two}
+use Rattle.types.specs.declared.code.Kind.{Kind}
+use Rattle.types.specs.declared.code.Kind.the-variants.{ByRts, ByRtl}
+use Rattle.types.specs.declared.code.Flow.{Flow}
+use Rattle.types.specs.declared.code.Flow.the-variants.{Next, Branch, Jump, Call, Return, Halt}
+use Rattle.types.specs.declared.code.Target.{Target}
+use Rattle.types.specs.declared.code.Target.the-variants.{NoTarget, Offset8, Offset16, Address16, Address24}
+use Rattle.types.specs.declared.code.WidthEffect.{WidthEffect}
+use Rattle.types.specs.declared.code.WidthEffect.the-variants.{KeepWidths, SetM, ClearM, SetBits, ClearBits}
+use Rattle.types.specs.declared.code.Instruction.{Instruction}
+use Rattle.types.specs.declared.code.Decoded.{Decoded}
+use Rattle.types.specs.declared.code.Decoded.the-variants.{Whole}
+use Rattle.types.specs.declared.rules.Want.{Want}
+use Rattle.types.specs.declared.rules.Owed.{Owed}
+use Rattle.types.specs.declared.rules.Owed.the-variants.{Nothing, One, Two}
 use Rattle.prelude.specs.Choice.{pick}
-use Rattle.model.specs.Status.{maskX, maskM}
-use Rattle.model.specs.Image.{bankSize, addressLimit, isStart, markM, markX, markKind, returnM, returnX}
-use Rattle.model.specs.Image.{markOf, isFormed, lengthFits, baseFits, markAt, inBankOf, resetFits}
+use Rattle.types.specs.Status.{maskX, maskM}
+use Rattle.types.specs.Addresses.{bankSize, addressLimit}
+use Rattle.model.specs.Image.{isStart, markM, markX, markKind, returnM, returnX}
+use Rattle.types.specs.Addresses.{inBankOf}
+use Rattle.model.specs.Image.{markOf, isFormed, lengthFits, baseFits, markAt, resetFits}
 use Rattle.model.specs.Decode.{decode}
 
 -- the instruction at a place, at the widths marked there: 'length is read from there at the marked widths'

@@ -5,11 +5,11 @@ use mathlib.Core.Bool.{Bool, _&&_}
 use mathlib.Core.List.{List}
 use lib.Dec.{eqb}
 use lib.ListN.{length}
-use Rattle.model.specs.declared.refusals.TestResult.{TestResult}
-use Rattle.model.specs.declared.refusals.TestResult.the-variants.{Passed, Failed}
-use Rattle.model.specs.declared.runs.RunAnswer.{RunAnswer}
-use Rattle.model.specs.declared.runs.RunAnswer.the-variants.{NotRun}
-use Rattle.model.specs.Refusals.{firstRefusal}
+use Rattle.types.specs.declared.refusals.TestResult.{TestResult}
+use Rattle.types.specs.declared.refusals.TestResult.the-variants.{Passed, Failed}
+use Rattle.types.specs.declared.runs.RunAnswer.{RunAnswer}
+use Rattle.types.specs.declared.runs.RunAnswer.the-variants.{NotRun}
+use Rattle.types.specs.Refusals.{firstRefusal}
 use Rattle.model.specs.Memory.{Memory}
 use Rattle.model.specs.Run.{stateFits, runTests, Ran, played}
 use Rattle.model.specs.StateBytes.{stateSize, stateOf, bytesOf}

@@ -6,11 +6,11 @@ use Prim.Native.Nat.{ℕ, zero, suc, _+_, _*_, _/_, _%_, _^_, _<_}
 use mathlib.Core.Path.{_≡_}
 use mathlib.Core.List.{List, [], _∷_, _++_}
 use lib.ListN.{length, getD, take, drop}
-use Rattle.model.specs.declared.machine.Registers.{Registers}
-use Rattle.model.specs.declared.machine.Core.{Core}
-use Rattle.model.specs.declared.machine.State.{State}
+use Rattle.types.specs.declared.machine.Registers.{Registers}
+use Rattle.types.specs.declared.machine.Core.{Core}
+use Rattle.types.specs.declared.machine.State.{State}
 use Rattle.fields.specs.Fields.{number, fieldAt, joined, parted}
-use Rattle.model.specs.Status.{statusOf, numberOf}
+use Rattle.types.specs.Status.{statusOf, numberOf}
 use Rattle.model.specs.Step.{callLimit}
 
 -- the bytes before the entries, those of an entry, and all of them

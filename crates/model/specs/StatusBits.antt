@@ -5,12 +5,12 @@
 use mathlib.Core.Path.{_≡_}
 use Prim.Native.Nat.{ℕ, _<_}
 use lib.Bits.{bitOr}
-use Rattle.model.specs.declared.code.Operation.the-variants.{CLP, SEP}
-use Rattle.model.specs.declared.code.Instruction.{Instruction}
-use Rattle.model.specs.declared.code.Decoded.the-variants.{Whole}
-use Rattle.model.specs.declared.machine.Answer.the-variants.{Completed}
-use Rattle.model.specs.declared.machine.State.{State}
-use Rattle.model.specs.Status.{numberOf}
+use Rattle.types.specs.declared.code.Operation.the-variants.{CLP, SEP}
+use Rattle.types.specs.declared.code.Instruction.{Instruction}
+use Rattle.types.specs.declared.code.Decoded.the-variants.{Whole}
+use Rattle.types.specs.declared.machine.Answer.the-variants.{Completed}
+use Rattle.types.specs.declared.machine.State.{State}
+use Rattle.types.specs.Status.{numberOf}
 use Rattle.anywidth.specs.AnyWidth.{size, low, clearedBy}
 use Rattle.model.specs.Memory.{Memory}
 use Rattle.model.specs.Step.{fetched, step}

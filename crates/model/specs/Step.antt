@@ -6,31 +6,31 @@ use mathlib.Core.Bool.{Bool, false, _&&_}
 use mathlib.Core.List.{List, [], _∷_}
 use lib.Dec.{eqb, ltb}
 use lib.ListN.{length, getD, set}
-use Rattle.model.specs.declared.code.Kind.{Kind}
-use Rattle.model.specs.declared.code.Kind.the-variants.{ByRts, ByRtl}
-use Rattle.model.specs.declared.code.Flow.{Flow}
-use Rattle.model.specs.declared.code.Flow.the-variants.{Next, Branch, Jump, Call, Return, Halt}
-use Rattle.model.specs.declared.code.Instruction.{Instruction}
-use Rattle.model.specs.declared.code.Decoded.{Decoded}
-use Rattle.model.specs.declared.code.Decoded.the-variants.{Whole, NotCarried, CutOff}
-use Rattle.model.specs.declared.machine.Registers.{Registers}
-use Rattle.model.specs.declared.machine.Core.{Core}
-use Rattle.model.specs.declared.machine.State.{State}
-use Rattle.model.specs.declared.machine.Stop.{Stop}
-use Rattle.model.specs.declared.machine.Stop.the-variants.{Outside, Uncarried, Halt as Halted, Unmapped}
-use Rattle.model.specs.declared.machine.Stop.the-variants.{Astray, Deep, ImageStore, Decimal}
-use Rattle.model.specs.declared.machine.Access.{Access}
-use Rattle.model.specs.declared.machine.Access.the-variants.{Operand, Addend, Address, Pull, DirectWord}
-use Rattle.model.specs.declared.machine.Data.{Data}
-use Rattle.model.specs.declared.machine.Store.{Store}
-use Rattle.model.specs.declared.machine.Served.{Served}
-use Rattle.model.specs.declared.machine.Served.the-variants.{All, Refused}
-use Rattle.model.specs.declared.machine.CallChange.{CallChange}
-use Rattle.model.specs.declared.machine.CallChange.the-variants.{Keep, Open, Close}
-use Rattle.model.specs.declared.machine.Answer.{Answer}
-use Rattle.model.specs.declared.machine.Answer.the-variants.{Completed, Called, Stopped}
+use Rattle.types.specs.declared.code.Kind.{Kind}
+use Rattle.types.specs.declared.code.Kind.the-variants.{ByRts, ByRtl}
+use Rattle.types.specs.declared.code.Flow.{Flow}
+use Rattle.types.specs.declared.code.Flow.the-variants.{Next, Branch, Jump, Call, Return, Halt}
+use Rattle.types.specs.declared.code.Instruction.{Instruction}
+use Rattle.types.specs.declared.code.Decoded.{Decoded}
+use Rattle.types.specs.declared.code.Decoded.the-variants.{Whole, NotCarried, CutOff}
+use Rattle.types.specs.declared.machine.Registers.{Registers}
+use Rattle.types.specs.declared.machine.Core.{Core}
+use Rattle.types.specs.declared.machine.State.{State}
+use Rattle.types.specs.declared.machine.Stop.{Stop}
+use Rattle.types.specs.declared.machine.Stop.the-variants.{Outside, Uncarried, Halt as Halted, Unmapped}
+use Rattle.types.specs.declared.machine.Stop.the-variants.{Astray, Deep, ImageStore, Decimal}
+use Rattle.types.specs.declared.machine.Access.{Access}
+use Rattle.types.specs.declared.machine.Access.the-variants.{Operand, Addend, Address, Pull, DirectWord}
+use Rattle.types.specs.declared.machine.Data.{Data}
+use Rattle.types.specs.declared.machine.Store.{Store}
+use Rattle.types.specs.declared.machine.Served.{Served}
+use Rattle.types.specs.declared.machine.Served.the-variants.{All, Refused}
+use Rattle.types.specs.declared.machine.CallChange.{CallChange}
+use Rattle.types.specs.declared.machine.CallChange.the-variants.{Keep, Open, Close}
+use Rattle.types.specs.declared.machine.Answer.{Answer}
+use Rattle.types.specs.declared.machine.Answer.the-variants.{Completed, Called, Stopped}
 use Rattle.prelude.specs.Choice.{pick}
-use Rattle.model.specs.Image.{bankSize, inBankOf}
+use Rattle.types.specs.Addresses.{bankSize, inBankOf}
 use Rattle.model.specs.Decode.{decode}
 use Rattle.model.specs.Rules.{nextAddress, targetAddress, mAfter, xAfter, kindNumber}
 use Rattle.prelude.specs.Choice.{bit}

@@ -6,10 +6,10 @@ use mathlib.Core.Bool.{Bool}
 use mathlib.Core.List.{List}
 use lib.Dec.{eqb}
 use lib.ListN.{getD}
-use Rattle.model.specs.declared.code.Accumulator.{Accumulator}
-use Rattle.model.specs.declared.code.Mode.{Mode}
-use Rattle.model.specs.declared.code.Operation.{Operation}
-use Rattle.model.specs.declared.machine.Data.{Data}
+use Rattle.types.specs.declared.code.Accumulator.{Accumulator}
+use Rattle.types.specs.declared.code.Mode.{Mode}
+use Rattle.types.specs.declared.code.Operation.{Operation}
+use Rattle.types.specs.declared.machine.Data.{Data}
 use Rattle.model.specs.Addressing.{accessOf}
 use Rattle.prelude.specs.Choice.{pick}
 use Rattle.model.specs.Effects.{effectOf}

@@ -4,12 +4,12 @@ use mathlib.Core.Path.{_≡_, refl}
 use mathlib.Core.List.{List}
 use Prim.Native.Nat.{ℕ}
 use native.Mathlib.Omega.{arith}
-use Rattle.model.specs.declared.rules.Verdict.{Verdict}
-use Rattle.model.specs.declared.rules.Verdict.the-variants.{Accepted, Refused}
-use Rattle.model.specs.declared.lists.ListRead.{ListRead}
-use Rattle.model.specs.declared.lists.ListRead.the-variants.{NotRead, Read}
-use Rattle.model.specs.declared.lists.ListWritten.{ListWritten}
-use Rattle.model.specs.declared.lists.ListWritten.the-variants.{NotWritten, Written}
+use Rattle.types.specs.declared.rules.Verdict.{Verdict}
+use Rattle.types.specs.declared.rules.Verdict.the-variants.{Accepted, Refused}
+use Rattle.types.specs.declared.lists.ListRead.{ListRead}
+use Rattle.types.specs.declared.lists.ListRead.the-variants.{NotRead, Read}
+use Rattle.types.specs.declared.lists.ListWritten.{ListWritten}
+use Rattle.types.specs.declared.lists.ListWritten.the-variants.{NotWritten, Written}
 use Rattle.model.specs.Verdict.{verdict}
 use Rattle.model.specs.MarkList.{readList, writeList}
 use Rattle.model.proofs.Meaning.{refused-small}

@@ -4,17 +4,17 @@
 use mathlib.Core.Path.{_≡_, refl}
 use Prim.Native.Nat.{_+_, _*_, _/_, _^_, _<_}
 use native.Mathlib.Omega.{arith}
-use Rattle.model.specs.declared.rules.Verdict.{Verdict}
-use Rattle.model.specs.declared.rules.Verdict.the-variants.{Accepted, Refused}
-use Rattle.model.specs.declared.lists.ListRead.{ListRead}
-use Rattle.model.specs.declared.lists.ListRead.the-variants.{NotRead, Read}
-use Rattle.model.specs.declared.lists.ListWritten.{ListWritten}
-use Rattle.model.specs.declared.lists.ListWritten.the-variants.{NotWritten, Written}
-use Rattle.model.specs.declared.runs.End.{End}
-use Rattle.model.specs.declared.runs.End.the-variants.{Done, AtStop}
-use Rattle.model.specs.declared.runs.RunAnswer.{RunAnswer}
-use Rattle.model.specs.declared.runs.RunAnswer.the-variants.{NotRun, Ended}
-use Rattle.model.specs.Refusals.{refusalNumber}
+use Rattle.types.specs.declared.rules.Verdict.{Verdict}
+use Rattle.types.specs.declared.rules.Verdict.the-variants.{Accepted, Refused}
+use Rattle.types.specs.declared.lists.ListRead.{ListRead}
+use Rattle.types.specs.declared.lists.ListRead.the-variants.{NotRead, Read}
+use Rattle.types.specs.declared.lists.ListWritten.{ListWritten}
+use Rattle.types.specs.declared.lists.ListWritten.the-variants.{NotWritten, Written}
+use Rattle.types.specs.declared.runs.End.{End}
+use Rattle.types.specs.declared.runs.End.the-variants.{Done, AtStop}
+use Rattle.types.specs.declared.runs.RunAnswer.{RunAnswer}
+use Rattle.types.specs.declared.runs.RunAnswer.the-variants.{NotRun, Ended}
+use Rattle.types.specs.Refusals.{refusalNumber}
 use Rattle.model.specs.Run.{endNumber}
 use Rattle.model.proofs.TestResults.{refusal-range}
 use Rattle.model.proofs.Step.{stop-range}

@@ -2,16 +2,16 @@
 -- include/m7700.h take out of a result. That these are the numbers of the answer: proofs/Unpacked.antt.
 -- Assumes nothing.
 use Prim.Native.Nat.{ℕ, _+_, _*_, _/_, _%_, _^_, _≤_, _<_}
-use Rattle.model.specs.declared.rules.Verdict.{Verdict}
-use Rattle.model.specs.declared.rules.Verdict.the-variants.{Accepted, Refused}
-use Rattle.model.specs.declared.lists.ListRead.{ListRead}
-use Rattle.model.specs.declared.lists.ListRead.the-variants.{NotRead, Read}
-use Rattle.model.specs.declared.lists.ListWritten.{ListWritten}
-use Rattle.model.specs.declared.lists.ListWritten.the-variants.{NotWritten, Written}
-use Rattle.model.specs.declared.runs.RunAnswer.{RunAnswer}
-use Rattle.model.specs.declared.runs.RunAnswer.the-variants.{NotRun, Ended}
-use Rattle.model.specs.Image.{addressLimit, bankSize}
-use Rattle.model.specs.Refusals.{refusalNumber}
+use Rattle.types.specs.declared.rules.Verdict.{Verdict}
+use Rattle.types.specs.declared.rules.Verdict.the-variants.{Accepted, Refused}
+use Rattle.types.specs.declared.lists.ListRead.{ListRead}
+use Rattle.types.specs.declared.lists.ListRead.the-variants.{NotRead, Read}
+use Rattle.types.specs.declared.lists.ListWritten.{ListWritten}
+use Rattle.types.specs.declared.lists.ListWritten.the-variants.{NotWritten, Written}
+use Rattle.types.specs.declared.runs.RunAnswer.{RunAnswer}
+use Rattle.types.specs.declared.runs.RunAnswer.the-variants.{NotRun, Ended}
+use Rattle.types.specs.Addresses.{addressLimit, bankSize}
+use Rattle.types.specs.Refusals.{refusalNumber}
 use Rattle.model.specs.Run.{stepLimit, endNumber}
 
 -- ---- the check: the number in the upper 16 bits, the offset in the lower; 0 is accepted

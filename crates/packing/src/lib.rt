@@ -1,12 +1,12 @@
 // The answers of the C interface as numbers (include/m7700.h). Each function asks that the answer fits its bits, which
 // every answer does (proofs/Answers.antt, Counts.antt).
-use model::lists::ListRead;
-use model::lists::ListWritten;
-use model::machine::Stop;
-use model::refusals::refusal_number;
-use model::rules::Verdict;
-use model::runs::End;
-use model::runs::RunAnswer;
+use types::lists::ListRead;
+use types::lists::ListWritten;
+use types::machine::Stop;
+use types::refusals::refusal_number;
+use types::rules::Verdict;
+use types::runs::End;
+use types::runs::RunAnswer;
 ghost use mathlib.Core.Path.{_≡_};
 ghost use Rattle.model.specs.Run.{endNumber};
 ghost use Rattle.model.specs.Step.{stopNumber};

@@ -7,13 +7,13 @@ use mathlib.Core.List.{List}
 use Prim.Native.Nat.{ℕ, suc, _+_, _-_, _/_, _%_, _≤_, _<_}
 use native.Mathlib.Omega.{arith}
 use lib.ListN.{length}
-use Rattle.model.specs.declared.machine.Answer.{Answer}
-use Rattle.model.specs.declared.machine.Answer.the-variants.{Completed, Called, Stopped}
-use Rattle.model.specs.declared.machine.Core.{Core}
-use Rattle.model.specs.declared.machine.State.{State}
-use Rattle.model.specs.declared.runs.End.{End}
-use Rattle.model.specs.declared.runs.End.the-variants.{Done}
-use Rattle.model.specs.Image.{bankSize}
+use Rattle.types.specs.declared.machine.Answer.{Answer}
+use Rattle.types.specs.declared.machine.Answer.the-variants.{Completed, Called, Stopped}
+use Rattle.types.specs.declared.machine.Core.{Core}
+use Rattle.types.specs.declared.machine.State.{State}
+use Rattle.types.specs.declared.runs.End.{End}
+use Rattle.types.specs.declared.runs.End.the-variants.{Done}
+use Rattle.types.specs.Addresses.{bankSize}
 use Rattle.model.specs.Memory.{Memory, memory}
 use Rattle.prelude.specs.Choice.{bit}
 use Rattle.model.specs.Step.{callLimit, step}

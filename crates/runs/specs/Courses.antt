@@ -3,7 +3,7 @@
 use Prim.Native.Nat.{ℕ}
 use mathlib.Core.List.{List}
 use Rattle.runs.specs.declared.course.Course.{Course}
-use Rattle.model.specs.declared.runs.RunAnswer.the-variants.{Ended}
+use Rattle.types.specs.declared.runs.RunAnswer.the-variants.{Ended}
 use Rattle.model.specs.Run.{Ran}
 use Rattle.machine.specs.Turns.{state}
 

@@ -7,9 +7,9 @@ use Prim.Native.Nat.{ℕ, _+_, _*_, _/_, _%_, _<_}
 use native.Mathlib.Omega.{arith}
 use lib.ListN.{length, length-append, drop-of-length-le}
 use lib.Seq.{sets, sets-eq}
-use Rattle.model.specs.declared.machine.Core.{Core}
-use Rattle.model.specs.declared.machine.State.{State}
-use Rattle.model.specs.Status.{numberOf}
+use Rattle.types.specs.declared.machine.Core.{Core}
+use Rattle.types.specs.declared.machine.State.{State}
+use Rattle.types.specs.Status.{numberOf}
 use Rattle.model.specs.Step.{callLimit}
 use Rattle.model.specs.StateBytes.{headSize, entrySize, stateSize, headOf, bytesOf}
 use Rattle.fields.specs.Fields.{lowBytes, joined}

@@ -2,12 +2,12 @@
 use fields::field_at;
 use fields::put_fields;
 use fields::word_of;
-use model::addresses::ADDRESS_LIMIT;
-use model::machine::CALL_LIMIT;
-use model::machine::Core;
-use model::machine::ENTRY_UNIT;
-use model::machine::Registers;
-use model::machine::Status;
+use types::addresses::ADDRESS_LIMIT;
+use types::machine::CALL_LIMIT;
+use types::machine::Core;
+use types::machine::ENTRY_UNIT;
+use types::machine::Registers;
+use types::machine::Status;
 ghost use mathlib.Core.Path.{_≡_};
 ghost use Prim.Native.Nat.{_+_, _*_, _≤_, _<_};
 ghost use lib.ListN.{length};

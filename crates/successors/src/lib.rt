@@ -2,15 +2,15 @@
 // address is asked to have 24 bits, so that no sum passes 32.
 pub mod widths;
 
-use model::addresses::ADDRESS_LIMIT;
-use model::addresses::in_bank_of;
-use model::addresses::low_long;
-use model::addresses::low_word;
-use model::code::Kind;
-use model::code::Target;
+use types::addresses::ADDRESS_LIMIT;
+use types::addresses::in_bank_of;
+use types::addresses::low_long;
+use types::addresses::low_word;
+use types::code::Kind;
+use types::code::Target;
 ghost use mathlib.Core.Path.{_≡_};
 ghost use Prim.Native.Nat.{_≤_, _<_};
-ghost use Rattle.model.specs.Image.{addressLimit, bankSize};
+ghost use Rattle.types.specs.Addresses.{addressLimit, bankSize};
 ghost use Rattle.model.specs.Rules as rules;
 
 // The address after n bytes more.

@@ -1,6 +1,6 @@
 // The widths after an instruction, for the check and the machine alike.
-use model::code::WidthEffect;
-use model::machine::Status;
+use types::code::WidthEffect;
+use types::machine::Status;
 ghost use mathlib.Core.Path.{_≡_};
 ghost use Rattle.model.specs.Rules as rules;
 

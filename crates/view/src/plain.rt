@@ -1,8 +1,8 @@
 // A view's functions for callers who have its parts: each makes one view and asks it.
 use crate::View;
 use codepages::CodePages;
-use model::code::Decoded;
-use model::rules::Verdict;
+use types::code::Decoded;
+use types::rules::Verdict;
 ghost use mathlib.Core.Path.{_≡_};
 ghost use Rattle.codepages.specs.Packing.{numbers};
 ghost use Rattle.model.specs.Image.{startCount};

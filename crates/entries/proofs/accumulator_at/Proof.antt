@@ -3,7 +3,7 @@
 use mathlib.Core.Path.{refl}
 use borrow.Author.Needs.{needs}
 use Rattle.prelude.proofs.Match.{no-key}
-use Rattle.model.specs.declared.code.Accumulator.the-variants.{Unnamed}
+use Rattle.types.specs.declared.code.Accumulator.the-variants.{Unnamed}
 use Rattle.codepages.specs.Packing.{accumulators}
 use Rattle.entries.proofs.accumulator_at.Statement.{statement}
 use Rattle.entries.proofs.accumulator_at.Tie as tie

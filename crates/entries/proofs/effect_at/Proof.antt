@@ -3,7 +3,7 @@
 use mathlib.Core.Path.{refl}
 use borrow.Author.Needs.{needs}
 use Rattle.prelude.proofs.Match.{no-key}
-use Rattle.model.specs.declared.code.WidthEffect.the-variants.{KeepWidths}
+use Rattle.types.specs.declared.code.WidthEffect.the-variants.{KeepWidths}
 use Rattle.codepages.specs.Packing.{effects}
 use Rattle.entries.proofs.effect_at.Statement.{statement}
 use Rattle.entries.proofs.effect_at.Tie as tie

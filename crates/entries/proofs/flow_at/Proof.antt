@@ -3,7 +3,7 @@
 use mathlib.Core.Path.{refl}
 use borrow.Author.Needs.{needs}
 use Rattle.prelude.proofs.Match.{no-key}
-use Rattle.model.specs.declared.code.Flow.the-variants.{Next}
+use Rattle.types.specs.declared.code.Flow.the-variants.{Next}
 use Rattle.codepages.specs.Packing.{flows}
 use Rattle.entries.proofs.flow_at.Statement.{statement}
 use Rattle.entries.proofs.flow_at.Tie as tie

@@ -3,7 +3,7 @@
 use mathlib.Core.Path.{refl}
 use borrow.Author.Needs.{needs}
 use Rattle.prelude.proofs.Match.{no-key}
-use Rattle.model.specs.declared.code.Mode.the-variants.{Implied}
+use Rattle.types.specs.declared.code.Mode.the-variants.{Implied}
 use Rattle.codepages.specs.Packing.{modes}
 use Rattle.entries.proofs.mode_at.Statement.{statement}
 use Rattle.entries.proofs.mode_at.Tie as tie

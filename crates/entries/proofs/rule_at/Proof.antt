@@ -3,7 +3,7 @@
 use mathlib.Core.Path.{refl}
 use borrow.Author.Needs.{needs}
 use Rattle.prelude.proofs.Match.{no-key}
-use Rattle.model.specs.declared.code.LengthRule.the-variants.{Fixed}
+use Rattle.types.specs.declared.code.LengthRule.the-variants.{Fixed}
 use Rattle.codepages.specs.Packing.{rules}
 use Rattle.entries.proofs.rule_at.Statement.{statement}
 use Rattle.entries.proofs.rule_at.Tie as tie

@@ -3,7 +3,7 @@
 use mathlib.Core.Path.{refl}
 use borrow.Author.Needs.{needs}
 use Rattle.prelude.proofs.Match.{no-key}
-use Rattle.model.specs.declared.code.Target.the-variants.{NoTarget}
+use Rattle.types.specs.declared.code.Target.the-variants.{NoTarget}
 use Rattle.codepages.specs.Packing.{targets}
 use Rattle.entries.proofs.target_at.Statement.{statement}
 use Rattle.entries.proofs.target_at.Tie as tie

@@ -3,7 +3,7 @@
 use mathlib.Core.Path.{refl}
 use borrow.Author.Needs.{needs}
 use Rattle.prelude.proofs.Match.{no-key}
-use Rattle.model.specs.declared.code.DataWidth.the-variants.{NoData}
+use Rattle.types.specs.declared.code.DataWidth.the-variants.{NoData}
 use Rattle.codepages.specs.Packing.{widths}
 use Rattle.entries.proofs.width_at.Statement.{statement}
 use Rattle.entries.proofs.width_at.Tie as tie

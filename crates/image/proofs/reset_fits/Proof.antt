@@ -1,6 +1,7 @@
 -- A reset address past 16 bits fails; else the mark at that address of the base's bank is compared with 01.
 -- Assumes nothing.
-use Rattle.model.specs.Image.{bankSize, resetFits}
+use Rattle.types.specs.Addresses.{bankSize}
+use Rattle.model.specs.Image.{resetFits}
 use native.Mathlib.Omega.{arith}
 use borrow.Author.Tests.{le-ltb, lt-ltb}
 use borrow.Author.Needs.{needs}

@@ -4,7 +4,7 @@ use Prim.Native.Nat.{ℕ, _/_}
 use mathlib.Core.Path.{_≡_, refl}
 use lib.ListN.{getD}
 use Rattle.prelude.proofs.Match.{NoKey, keys, no-key}
-use Rattle.model.specs.declared.machine.Access.{Access}
+use Rattle.types.specs.declared.machine.Access.{Access}
 use Rattle.actions.specs.Tasks.{accesses, unpackedTask}
 use Rattle.actions.proofs.tasks.access_of.Statement.{statement}
 use Rattle.actions.proofs.tasks.access_of.Tie as tie

@@ -3,7 +3,7 @@
 use mathlib.Core.Path.{refl, _∙_}
 use Rattle.prelude.proofs.Match.{no-key}
 use Rattle.model.specs.Addressing.{bits}
-use Rattle.model.specs.Status.{statusOf}
+use Rattle.types.specs.Status.{statusOf}
 use Rattle.cpu.specs.Rows.{added, combinations}
 use borrow.Author.Needs.{needs}
 use Rattle.cpu.proofs.arithmetic.combined.Statement.{statement}

@@ -5,10 +5,10 @@ use mathlib.Core.Bool.{false}
 use Prim.Native.Nat.{ℕ, _*_, _/_}
 use native.Mathlib.Nat.{add-zero}
 use Rattle.prelude.proofs.Match.{no-key}
-use Rattle.model.specs.declared.machine.Status.{Status}
+use Rattle.types.specs.declared.machine.Status.{Status}
 use Rattle.anywidth.specs.AnyWidth.{shiftedLeft, shiftedRight}
 use Rattle.model.specs.Addressing.{bits}
-use Rattle.model.specs.Status.{statusOf}
+use Rattle.types.specs.Status.{statusOf}
 use Rattle.cpu.specs.Rows.{worked, modifications}
 use borrow.Author.Needs.{needs}
 use Rattle.cpu.proofs.arithmetic.modified.Statement.{statement}

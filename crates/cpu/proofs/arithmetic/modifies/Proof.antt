@@ -7,7 +7,7 @@ use Rattle.memory.specs.Listed.{listed}
 use Rattle.model.specs.Effects.{effect}
 use Rattle.model.specs.Addressing.{bits}
 use Rattle.model.specs.Arithmetic.{withStatus}
-use Rattle.model.specs.declared.machine.Residence.{Residence}
+use Rattle.types.specs.declared.machine.Residence.{Residence}
 use Rattle.cpu.specs.File.{registersOf}
 use Rattle.cpu.specs.Rows.{status, modified, modifying}
 use borrow.Author.Needs.{needs}

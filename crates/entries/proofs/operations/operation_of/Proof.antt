@@ -3,7 +3,7 @@
 use mathlib.Core.Path.{refl, sym}
 use borrow.Author.Needs.{needs}
 use lib.ListN.{List·getD-eq-default}
-use Rattle.model.specs.declared.code.Operation.{Operation}
+use Rattle.types.specs.declared.code.Operation.{Operation}
 use Rattle.codepages.specs.Packing.{operations, unpacked}
 use Rattle.entries.proofs.operations.operation_of.Statement.{statement}
 use Rattle.entries.proofs.operations.operation_of.Tie as tie

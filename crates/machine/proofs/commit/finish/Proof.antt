@@ -4,8 +4,8 @@ use mathlib.Core.Path.{refl}
 use Rattle.cpu.specs.File.{registersOf}
 use Rattle.cpu.specs.View.{viewed}
 use Rattle.memory.specs.Listed.{listed}
-use Rattle.model.specs.declared.machine.CallChange.the-variants.{Keep}
-use Rattle.model.specs.declared.machine.Registers.{Registers}
+use Rattle.types.specs.declared.machine.CallChange.the-variants.{Keep}
+use Rattle.types.specs.declared.machine.Registers.{Registers}
 use Rattle.model.specs.Memory.{Memory, memory}
 use Rattle.machine.proofs.Turning.{stops-at-stores, completes}
 use borrow.Author.Needs.{needs}

@@ -4,7 +4,7 @@ use mathlib.Core.Path.{ap}
 use Prim.Native.Nat.{ℕ, _-_}
 use native.Mathlib.Omega.{arith}
 use Rattle.decoder.proofs.Frames.{fits-at, decoded-fits, decoded-uncarried, decoded-short}
-use Rattle.model.specs.declared.code.Decoded.the-variants.{Whole, NotCarried, CutOff}
+use Rattle.types.specs.declared.code.Decoded.the-variants.{Whole, NotCarried, CutOff}
 use Rattle.model.proofs.Step.{fetched-under}
 use Rattle.machine.specs.declared.fetch.Fetched.{Fetched}
 use Rattle.machine.specs.Fetches.{instruction}

@@ -4,7 +4,7 @@ use mathlib.Core.Path.{refl, ap, _∙_}
 use Prim.Native.Nat.{_+_, _-_, _%_}
 use native.Mathlib.Omega.{arith}
 use lib.ListN.{getD}
-use Rattle.model.specs.Image.{bankSize}
+use Rattle.types.specs.Addresses.{bankSize}
 use Rattle.model.specs.Memory.{memory}
 use Rattle.machine.proofs.Calling.{placed, puts-s, stops-deep, stops-pushing, calls-so}
 use borrow.Author.Needs.{needs}

@@ -4,7 +4,7 @@ use mathlib.Core.Path.{refl, ap, _∙_}
 use Prim.Native.Nat.{_+_, _%_}
 use native.Mathlib.Omega.{arith}
 use lib.ListN.{getD}
-use Rattle.model.specs.Image.{bankSize}
+use Rattle.types.specs.Addresses.{bankSize}
 use Rattle.machine.proofs.Calling.{placed, puts-s}
 use Rattle.machine.proofs.Calling.{stops-none-open, stops-other-kind, stops-other-address, returns-so}
 use borrow.Author.Needs.{needs}

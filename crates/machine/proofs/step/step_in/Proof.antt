@@ -4,10 +4,10 @@ use Rattle.machine.proofs.Stepping.{step-whole, step-uncarried, step-ou
 use Rattle.machine.proofs.Turning.{place-kept}
 use Rattle.machine.specs.Fetches.{decodedAs}
 use Rattle.machine.specs.Turns.{coreOf}
-use Rattle.model.specs.declared.machine.Core.{Core}
+use Rattle.types.specs.declared.machine.Core.{Core}
 use Rattle.model.specs.Memory.{Memory, memory}
 use Rattle.model.specs.Step.{fetched}
-use Rattle.model.specs.Image.{addressLimit}
+use Rattle.types.specs.Addresses.{addressLimit}
 use Prim.Native.Nat.{_%_}
 use native.Mathlib.Omega.{arith}
 use mathlib.Core.Path.{_≡_, refl, sym}

@@ -3,7 +3,7 @@
 use native.Mathlib.Nat.{mod-lt}
 use native.Mathlib.Omega.{arith}
 use borrow.Author.Tests.{not-true, not-false}
-use Rattle.model.specs.Image.{bankSize}
+use Rattle.types.specs.Addresses.{bankSize}
 use Rattle.marklist.proofs.Reading.{headed, no-header, list-by-end}
 use borrow.Author.Needs.{needs}
 use Rattle.marklist.proofs.reader.is_list.Statement.{statement}

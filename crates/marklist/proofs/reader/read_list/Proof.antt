@@ -4,7 +4,7 @@ use mathlib.Core.Path.{sym, _∙_}
 use native.Mathlib.Nat.{mod-lt}
 use native.Mathlib.Omega.{arith}
 use lib.ListN.{length}
-use Rattle.model.specs.Image.{bankSize}
+use Rattle.types.specs.Addresses.{bankSize}
 use Rattle.model.specs.MarkList.{readTests}
 use Rattle.model.proofs.Image.{right-length}
 use Rattle.model.proofs.TestResults.{shown}

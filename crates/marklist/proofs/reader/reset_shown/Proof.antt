@@ -3,7 +3,7 @@
 use Rattle.model.proofs.ListAnswers.{length-marks-of}
 use native.Mathlib.Nat.{mod-lt}
 use native.Mathlib.Omega.{arith}
-use Rattle.model.specs.Image.{bankSize}
+use Rattle.types.specs.Addresses.{bankSize}
 use Rattle.text.proofs.Pages.{part-whole}
 use Rattle.marklist.proofs.Reading.{reset-past, list-headed, below-base, past-end, at-offset}
 use borrow.Author.Needs.{needs}

@@ -1,7 +1,7 @@
 -- 14 comes first; where 1 or 2 refuses, that stays; the reset address is looked for only in a list.
 -- Assumes nothing.
 use borrow.Author.Tests.{not-false}
-use Rattle.model.specs.Refusals.{Tests}
+use Rattle.types.specs.Refusals.{Tests}
 use Rattle.model.specs.Verdict.{imageTests}
 use Rattle.model.proofs.TestResults.{passes, fails, holds, ends, goes-on}
 use borrow.Author.Needs.{needs}

@@ -6,9 +6,10 @@ use native.Mathlib.Nat.{mod-lt}
 use native.Mathlib.Omega.{arith}
 use mathlib.Core.Path.{_≡_, sym, _∙_}
 use lib.ListN.{length}
-use Rattle.model.specs.declared.refusals.TestResult.the-variants.{Passed}
-use Rattle.model.specs.Image.{bankSize, imageLimit}
-use Rattle.model.specs.Refusals.{Tests, firstRefusal}
+use Rattle.types.specs.declared.refusals.TestResult.the-variants.{Passed}
+use Rattle.types.specs.Addresses.{bankSize}
+use Rattle.model.specs.Image.{imageLimit}
+use Rattle.types.specs.Refusals.{Tests, firstRefusal}
 use Rattle.model.specs.Verdict.{marksTests}
 use Rattle.model.proofs.Image.{right-length}
 use Rattle.model.proofs.MarkList.{lines-most}

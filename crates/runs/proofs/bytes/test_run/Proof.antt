@@ -6,8 +6,8 @@ use mathlib.Core.List.{_++_}
 use native.Mathlib.Omega.{arith}
 use borrow.Author.Tests.{lt-leb, le-leb}
 use lib.ListN.{length}
-use Rattle.model.specs.declared.refusals.TestResult.{TestResult}
-use Rattle.model.specs.Refusals.{Tests, firstRefusal}
+use Rattle.types.specs.declared.refusals.TestResult.{TestResult}
+use Rattle.types.specs.Refusals.{Tests, firstRefusal}
 use Rattle.model.specs.Run.{stepLimit}
 use Rattle.model.specs.Verdict.{imageTests}
 use Rattle.model.proofs.TestResults.{passes, fails, holds, ends, goes-on}

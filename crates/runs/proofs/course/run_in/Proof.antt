@@ -2,7 +2,7 @@
 -- Assumes nothing.
 use Rattle.runs.proofs.Going.{Going, made-of, begins, ends, goes-on, stops-so}
 use Rattle.machine.specs.Turns.{state, coreOf}
-use Rattle.model.specs.declared.machine.Core.{Core}
+use Rattle.types.specs.declared.machine.Core.{Core}
 use Rattle.model.specs.Run.{Ran, played}
 use Rattle.model.specs.Memory.{memory}
 use native.Mathlib.Omega.{arith}

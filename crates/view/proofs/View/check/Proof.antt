@@ -32,7 +32,7 @@ use denote.Enum.Laws as EL
 use denote.Triple.Bound.{Bound}
 use denote.Triple.Statement.{Contract, Triple}
 use denote.Triple.Table.{cited}
-use Rattle.model.specs.declared.rules.Verdict.{Verdict}
+use Rattle.types.specs.declared.rules.Verdict.{Verdict}
 use Rattle.model.specs.Verdict.{verdict}
 use Rattle.model.proofs.rules.Verdict as R
 use Rattle.model.proofs.rules.Verdict.Laws as R′

@@ -38,7 +38,7 @@ use denote.Triple.Entry.{alive}
 use denote.Triple.Spec.{Back}
 use denote.Triple.Statement.{Contract, Triple}
 use denote.Triple.Table.{cited}
-use Rattle.model.specs.declared.rules.Verdict.{Verdict}
+use Rattle.types.specs.declared.rules.Verdict.{Verdict}
 use Rattle.model.specs.Image.{startCount}
 use Rattle.model.specs.Verdict.{verdict}
 use Rattle.model.proofs.rules.Verdict as R

@@ -1,6 +1,6 @@
 // Why a call is refused: document 01, 'Numbers', 1 to 15.
 ghost use mathlib.Core.Path.{_≡_};
-ghost use Rattle.model.specs.Refusals as spec;
+ghost use Rattle.types.specs.Refusals as spec;
 
 // By the paper's words.
 pub enum Refusal {

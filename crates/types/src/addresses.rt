@@ -1,7 +1,7 @@
 // Addresses: numbers of 24 bits, a bank and 16 bits in it.
 ghost use mathlib.Core.Path.{_≡_};
 ghost use Prim.Native.Nat.{_%_, _<_};
-ghost use Rattle.model.specs.Image.{bankSize, addressLimit, inBankOf};
+ghost use Rattle.types.specs.Addresses.{bankSize, addressLimit, inBankOf};
 
 // The limits of specs/Image.antt.
 pub const BANK_SIZE: u32 = 65_536;

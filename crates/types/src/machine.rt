@@ -2,7 +2,7 @@
 
 ghost use mathlib.Core.Path.{_≡_};
 ghost use Prim.Native.Nat.{_≤_};
-ghost use Rattle.model.specs.Status.{statusOf, numberOf};
+ghost use Rattle.types.specs.Status.{statusOf, numberOf};
 ghost use Rattle.prelude.specs.Choice.{bit};
 
 // The processor status register, a field for each flag and one for its high byte: the interrupt priority level, and
