@@ -1,10 +1,10 @@
 -- The three conditions. What is said of a call's result is said of the numbers of its answer (Calls.antt), and of
--- these it is model's theorems: what a run of bytes leaves, `accepts-exactly`, `refused-means`, the round trips, and
--- the guarantee of a list of runs. For the last, the state that a call's bytes say is the one that the run before
--- left, by induction over the list.
+-- these it is model's theorems: what a run of bytes leaves, `accepts-exactly`, `refused-means`, the grounds of refusal,
+-- the round trips, and the guarantee of a list of runs. For the last, the state that a call's bytes say is the one that
+-- the run before left, by induction over the list.
 -- Assumes nothing.
 use mathlib.Core.Path.{_≡_, refl, sym, ap, _∙_}
-use mathlib.Core.Logic.{_↔_, _⊎_, inl, inr}
+use mathlib.Core.Logic.{_⊎_, inl, inr}
 use mathlib.Core.List.{List, [], _∷_, _++_}
 use Prim.Native.Nat.{ℕ, _≤_, _<_}
 use native.Mathlib.Omega.{arith}
@@ -23,12 +23,12 @@ use Rattle.types.specs.declared.lists.ListRead.{ListRead}
 use Rattle.types.specs.declared.lists.ListRead.the-variants.{NotRead, Read}
 use Rattle.types.specs.declared.lists.ListWritten.{ListWritten}
 use Rattle.types.specs.declared.lists.ListWritten.the-variants.{NotWritten, Written}
-use Rattle.types.specs.declared.refusals.Refusal.the-variants as refusal
 use Rattle.types.specs.declared.refusals.TestResult.{TestResult}
 use Rattle.types.specs.declared.refusals.TestResult.the-variants.{Passed, Failed}
 use Rattle.types.specs.declared.runs.RunAnswer.{RunAnswer}
 use Rattle.types.specs.declared.runs.RunAnswer.the-variants.{NotRun, Ended}
-use Rattle.model.specs.ListForm.{IsMarkList}
+use Rattle.types.specs.Refusals.{refusalNumber}
+use Rattle.model.specs.Grounds.{AnswersBy, WrongBytes, runGrounds, readGrounds, writeGrounds}
 use Rattle.model.specs.MarkList.{marksBy, marksRead, pageBy, pageWritten}
 use Rattle.model.specs.Memory.{memory}
 use Rattle.model.specs.Step.{stopNumber, step}
@@ -40,8 +40,9 @@ use Rattle.model.specs.Guarantee.{Every, EndsWell, done, stopped, Accounted, ad
 use Rattle.model.proofs.CodeMap.{carried-length}
 use Rattle.model.proofs.Verdict.{accepts-exactly}
 use Rattle.model.proofs.Meaning.{refused-means}
-use Rattle.model.proofs.TestResults.{refusal-range, same-refusal}
-use Rattle.model.proofs.ListForm.{not-a-list-exactly}
+use Rattle.model.proofs.TestResults.{refusal-range}
+use Rattle.model.proofs.FirstGround.{numbers-by}
+use Rattle.model.proofs.Grounds.{run-bytes-answers, read-answers, write-answers}
 use Rattle.model.proofs.RoundTrips.{read-then-written, written-then-read}
 use Rattle.model.proofs.Run.{stops-leave, played-one}
 use Rattle.model.proofs.RunBytes.{bytes-ran, said-left, long-left, taken, refused-leaves, none-leaves}
@@ -207,18 +208,27 @@ module _ (c : RunCall) (zero : numbers c .refusal ≡ 0) where
         promised c .ram ∙ ap (λ r. r .ram) stepped,
       ))
 
--- 14 is the number of one answer alone
-list-number : (a : ListRead) → listReadNumbers a .number ≡ 14 → a ≡ NotRead refusal.List
-list-number (NotRead why) e = ap NotRead (same-refusal why refusal.List e)
-list-number (Read h) e = absurd (omega (arith, e))
+run-refuses : (c : RunCall)
+    → AnswersBy (runGrounds (memoryOf c) (WrongBytes (holds (c .state))) (c .steps)) refusalNumber 0
+    (numbers c .refusal)
+run-refuses c =
+    rw (ap (λ n. n .refusal) (run-numbers c))
+    (numbers-by (λ a. answerNumbers a .refusal) (run-bytes-answers (memoryOf c) (holds (c .state)) (c .steps))
+    (λ why. refl) refl)
 
-not-a-list : (c : ReadCall) → (readNumbers (c .result) .number ≡ 14) ↔ (IsMarkList (holds (c .text)) → ⊥)
-not-a-list c =
-    let exactly = not-a-list-exactly (holds (c .text)) (holds (c .marks)) in
-    let told = ap (λ n. n .number) (read-numbers c) in (
-      λ is. exactly .0 (list-number (readOf c) (sym told ∙ is)),
-      λ none. told ∙ ap (λ a. listReadNumbers a .number) (exactly .1 none),
-    )
+read-refuses : (c : ReadCall)
+    → AnswersBy (readGrounds (holds (c .text)) (holds (c .marks))) refusalNumber 0 (readNumbers (c .result) .number)
+read-refuses c =
+    rw (ap (λ n. n .number) (read-numbers c))
+    (numbers-by (λ a. listReadNumbers a .number) (read-answers (holds (c .text)) (holds (c .marks))) (λ why. refl) refl)
+
+write-refuses : (c : WriteCall)
+    → AnswersBy (writeGrounds (holds (c .marks)) (c .base) (c .reset) (holds (c .page))) refusalNumber 0
+    (writtenNumbers (c .result) .number)
+write-refuses c =
+    rw (ap (λ n. n .number) (written-numbers c))
+    (numbers-by (λ a. listWrittenNumbers a .number)
+    (write-answers (holds (c .marks)) (c .base) (c .reset) (holds (c .page))) (λ why. refl) refl)
 
 read-written : (r : ReadCall) (w : WriteCall) → readNumbers (r .result) .number ≡ 0
     → holds (w .marks) ≡ r .marks-left → w .base ≡ readNumbers (r .result) .base
@@ -274,7 +284,9 @@ demand-2 = record {
   one-step = λ c one zero. one-step c zero one;
   each-step = by-history;
   lengths = λ page code m x carried. let l = carried-length page code m x carried in (omega (arith, l .0), l .1);
-  not-a-list = not-a-list;
+  run-refuses = run-refuses;
+  read-refuses = read-refuses;
+  write-refuses = write-refuses;
   read-written = read-written;
   written-read = written-read;
   check-numbers = check-numbers;

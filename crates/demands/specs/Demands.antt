@@ -6,9 +6,9 @@
 -- what a buffer holds when it is given, `..-left` what it holds after the call. The numbers that the functions of
 -- m7700.h take out of a result are `checkNumbers`, `readNumbers`, `writtenNumbers` and, of a run, `numbers`
 -- (packing/specs/Packed.antt). Every other notion is document 01's, in model/specs: `Accepts` (Rules), what a number
--- means, `Breaks` (Meaning), which texts are mark lists, `IsMarkList` (ListForm), the answers `verdict`, `readList`,
--- `writeList`, `ranBytes` (Verdict, MarkList, RunBytes), `step` (Step), histories and lists of runs (Run), `Safe` and
--- `Begins` (Guarantee).
+-- means, `Breaks` (Meaning) and the grounds of refusal (Grounds), the answers `verdict`, `readList`, `writeList`,
+-- `ranBytes` (Verdict, MarkList, RunBytes), `step` (Step), histories and lists of runs (Run), `Safe` and `Begins`
+-- (Guarantee).
 -- Assumes nothing.
 use mathlib.Core.Path.{_≡_}
 use mathlib.Core.Logic.{_↔_, _⊎_}
@@ -26,7 +26,7 @@ use Rattle.model.specs.Rules.{Accepts}
 use Rattle.model.specs.Verdict.{verdict}
 use Rattle.model.specs.Meaning.{Breaks}
 use Rattle.model.specs.MarkList.{readList, marksRead, writeList, pageWritten}
-use Rattle.model.specs.ListForm.{IsMarkList}
+use Rattle.model.specs.Grounds.{AnswersBy, WrongBytes, runGrounds, readGrounds, writeGrounds}
 use Rattle.model.specs.Memory.{memory}
 use Rattle.model.specs.Step.{step}
 use Rattle.model.specs.Run.{isCompleted, Event, endOf, completedSteps, callsAmong, stateLeft, ramLeft, oneStep}
@@ -107,8 +107,16 @@ pub record Demand2 : Type 0 where
   -- 01: 'a carried code has 1 to 6 bytes at each of the four widths'
   pub lengths : (page code m x : ℕ) → entryAt page code .carried ≡ true
       → (1 ≤ lengthAt (entryAt page code) m x) × (lengthAt (entryAt page code) m x ≤ 6)
-  -- 01: 14, 'text is not a mark list'
-  pub not-a-list : (c : ReadCall) → (readNumbers (c .result) .number ≡ 14) ↔ (IsMarkList (holds (c .text)) → ⊥)
+  -- 01: 'Run: 1, 2, 11, 12, 13. Reader: 14, 1, 2, 3. Writer: 1, 2, 4, 3, 15.' The number given is that of the first of
+  -- these grounds that holds, and 0 where none holds: 14 exactly where the text is no mark list (`IsMarkList`).
+  pub run-refuses : (c : RunCall)
+      → AnswersBy (runGrounds (memoryOf c) (WrongBytes (holds (c .state))) (c .steps)) refusalNumber 0
+      (numbers c .refusal)
+  pub read-refuses : (c : ReadCall)
+      → AnswersBy (readGrounds (holds (c .text)) (holds (c .marks))) refusalNumber 0 (readNumbers (c .result) .number)
+  pub write-refuses : (c : WriteCall)
+      → AnswersBy (writeGrounds (holds (c .marks)) (c .base) (c .reset) (holds (c .page))) refusalNumber 0
+      (writtenNumbers (c .result) .number)
   -- 'a mark list read, and written again to a page long enough, is the same list, and marks written and read again are
   -- the same marks'
   pub read-written : (r : ReadCall) (w : WriteCall) → readNumbers (r .result) .number ≡ 0

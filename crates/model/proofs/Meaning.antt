@@ -130,7 +130,7 @@ module _ (image marks : List ℕ) (base at : ℕ) where
 
 -- ---- the refusals
 
-found-at : (test : ℕ → Bool) (n : ℕ) → eqb (firstFrom test 0 n) n ≡ false
+pub found-at : (test : ℕ → Bool) (n : ℕ) → eqb (firstFrom test 0 n) n ≡ false
     → (firstFrom test 0 n < n) × (test (firstFrom test 0 n) ≡ true) × ((k : ℕ) → k < firstFrom test 0 n → test k ≡
     false)
 found-at test n h =

@@ -56,7 +56,7 @@ is-text h text e =
     rw (length-marks-of h text) (ap (headerText h ++_) whole ∙ sym split)
 
 -- all marks of a list are in form
-formed-marks : (h : Header) (text : List ℕ) → allFormed (marksOf h text) ≡ true
+pub formed-marks : (h : Header) (text : List ℕ) → allFormed (marksOf h text) ≡ true
 unfolding badMark marksOf
 formed-marks h text =
     let marks = marksOf h text in

@@ -20,3 +20,4 @@ pub mod StateBytes
 pub mod Run
 pub mod Guarantee
 pub mod RunBytes
+pub mod Grounds
