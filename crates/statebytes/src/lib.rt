@@ -9,7 +9,7 @@ use types::machine::ENTRY_UNIT;
 use types::machine::Registers;
 use types::machine::Status;
 ghost use mathlib.Core.Path.{_≡_};
-ghost use Prim.Native.Nat.{_+_, _*_, _≤_, _<_};
+ghost use Prim.Native.Nat.{_≤_};
 ghost use lib.ListN.{length};
 ghost use Rattle.model.specs.Run.{ramFits, callFits, callsFit, stateFits};
 ghost use Rattle.model.specs.Step.{callLimit};
