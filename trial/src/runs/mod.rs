@@ -45,7 +45,7 @@ pub const LIST_NUMBERS: [Named; 10] = [
 ];
 
 /// Each number has to occur so often.
-const LEAST: u64 = 100;
+const LEAST: u64 = 10;
 /// Single runs for each list of runs.
 const ALONE: u64 = 5;
 
