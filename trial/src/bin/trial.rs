@@ -6,34 +6,28 @@ use std::process::ExitCode;
 use trial7700::tally::Tally;
 use trial7700::{check, faults, lists, runs, steps};
 
-/// A trial with its name, and its cases if no number is given.
-type Trial = (&'static str, u64, fn(u64, u64) -> Vec<Tally>);
+/// A trial with its name.
+type Trial = (&'static str, fn(u64, u64) -> Vec<Tally>);
 
 const TRIALS: [Trial; 4] = [
-    ("check", 1_000_000, |cases, seed| {
-        vec![check::trial(cases, seed)]
-    }),
-    ("lists", 1_000_000, |cases, seed| {
-        lists::trial(cases, seed).into()
-    }),
-    ("steps", 1_000_000, |cases, seed| {
-        steps::trial(cases, seed).into()
-    }),
-    ("runs", 500_000, |cases, seed| {
-        runs::trial(cases, seed).into()
-    }),
+    ("check", |cases, seed| vec![check::trial(cases, seed)]),
+    ("lists", |cases, seed| lists::trial(cases, seed).into()),
+    ("steps", |cases, seed| steps::trial(cases, seed).into()),
+    ("runs", |cases, seed| runs::trial(cases, seed).into()),
 ];
+/// If no number is given.
+const CASES: u64 = 100_000;
 const SEED: u64 = 7700;
 
 fn main() -> ExitCode {
     let args: Vec<String> = env::args().skip(1).collect();
-    let Some(((_, usual, trial), cases, seed)) = wanted(&args) else {
+    let Some(((_, trial), cases, seed)) = wanted(&args) else {
         eprintln!("usage: trial check|lists|steps|runs [CASES] [SEED]");
         return ExitCode::from(2);
     };
     faults::report();
     let tallies = trial(cases, seed);
-    let whole = cases >= usual;
+    let whole = cases >= CASES;
     let passed = tallies.iter().filter(|tally| passes(tally, whole)).count();
     if passed == tallies.len() {
         ExitCode::SUCCESS
@@ -50,7 +44,7 @@ fn wanted(args: &[String]) -> Option<(Trial, u64, u64)> {
     let trial = *TRIALS
         .iter()
         .find(|trial| args.first().is_some_and(|name| name == trial.0))?;
-    Some((trial, number(1, trial.1)?, number(2, SEED)?))
+    Some((trial, number(1, CASES)?, number(2, SEED)?))
 }
 
 /// Prints a tally. A trial of the usual size or more has to meet all that can

@@ -128,6 +128,7 @@ pub fn read_sweeps(mut visit: impl FnMut(&ReadCase)) {
         }
     }
     every_head(&mut visit);
+    longest_order(&mut visit);
 }
 
 /// Each byte changed to each other, each put in at each place, and the text
@@ -229,6 +230,32 @@ fn every_first_start(base: &str, length: &str, reset: &str, visit: &mut impl FnM
             });
         }
     }
+}
+
+/// Bytes of a start's line.
+const LINE: usize = 15;
+
+/// The longest list, then with two lines exchanged and with one in its next
+/// one's place: at its beginning, around powers of two and at its end.
+fn longest_order(visit: &mut impl FnMut(&ReadCase)) {
+    let text = every_start(&mut Rng::new(1), MAX_IMAGE).list();
+    let mut visit = |text| {
+        visit(&ReadCase {
+            text,
+            marks_len: MAX_IMAGE,
+        })
+    };
+    let first = text.len() - LINE * MAX_IMAGE;
+    for line in [0, 255, 4_095, 4_368, 8_191, MAX_IMAGE - 2] {
+        let at = first + LINE * line;
+        let mut exchanged = text.clone();
+        exchanged[at..at + 2 * LINE].rotate_left(LINE);
+        visit(exchanged);
+        let mut twice = text.clone();
+        twice.copy_within(at..at + LINE, at + LINE);
+        visit(twice);
+    }
+    visit(text);
 }
 
 /// Hands each case of the writer's sweeps to `visit`.

@@ -6,8 +6,33 @@ use crate::steps::random;
 use sim7700::codes::entry_of;
 use sim7700::generate::{refused_by, run_case, stopped_by, Rng, RunCase};
 use sim7700::numbers::MAX_STEPS;
-use sim7700::state::{self, Registers};
+use sim7700::state::{self, Registers, STATE_BYTES};
 use sim7700::vectors::RUN_NUMBERS;
+
+/// The most steps that can be asked for, with 400,000 calls of both kinds.
+pub fn longest() -> RunCase {
+    let mut case = RunCase {
+        image: vec![
+            0x20, 0x09, 0xC0, // JSR
+            0x22, 0x0A, 0xC0, 0x00, // JSR long
+            0x80, 0xF7, // BRA to the first
+            0x60, // RTS
+            0x6B, // RTL
+        ],
+        base: 0xC000,
+        state: vec![0; STATE_BYTES],
+        ram: vec![0; 16],
+        fill: (0, 0),
+        steps: MAX_STEPS,
+    };
+    let registers = Registers {
+        s: 15,
+        pc: case.base,
+        ..Registers::default()
+    };
+    registers.write(&mut case.state);
+    case
+}
 
 /// A run: of the generator, aimed at one of the numbers, or random.
 pub fn drawn(rng: &mut Rng, noise: &Noise) -> RunCase {

@@ -45,7 +45,7 @@ pub const LIST_NUMBERS: [Named; 10] = [
 ];
 
 /// Each number has to occur so often.
-const LEAST: u64 = 100;
+const LEAST: u64 = 10;
 /// Single runs for each list of runs.
 const ALONE: u64 = 5;
 
@@ -54,13 +54,15 @@ pub fn trial(count: u64, seed: u64) -> [Tally; 2] {
     tried(Lister::new(m7700_check, m7700_step, m7700_run), count, seed)
 }
 
-/// Compares a machine with the simulator's: `count` runs, and a list of runs
-/// over an accepted program for every fifth. The tallies of both.
+/// Compares a machine with the simulator's: the longest run, `count` drawn
+/// ones, and a list of runs over an accepted program for every fifth. The
+/// tallies of runs alone and in lists.
 pub fn tried(mut lister: Lister, count: u64, seed: u64) -> [Tally; 2] {
     let mut rng = Rng::new(seed);
     let noise = Noise::new(&mut rng);
     let mut alone = Tally::of("runs alone", &NUMBERS, LEAST);
     let mut listed = Tally::of("runs in lists", &LIST_NUMBERS, LEAST);
+    alone.note(lister.alone(&alone::longest()));
     for turn in 0..count {
         alone.note(lister.alone(&alone::drawn(&mut rng, &noise)));
         if turn % ALONE == 0 {

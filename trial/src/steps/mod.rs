@@ -33,7 +33,7 @@ pub const NUMBERS: [Named; 13] = [
 
 /// Each number, and each carried code at each pair of widths, has to occur so
 /// often.
-const LEAST: u64 = 100;
+const LEAST: u64 = 10;
 
 /// Compares the library with the simulator: the tallies of `tried`.
 pub fn trial(count: u64, seed: u64) -> [Tally; 2] {

@@ -4,11 +4,13 @@ use crate::stand_in::WrongRun;
 use sim7700::generate::RunCase;
 use sim7700::state::accept;
 
-pub const FAULTS: [(&str, WrongRun); 18] = [
+pub const FAULTS: [(&str, WrongRun); 20] = [
     ("drops a step", drops_step),
     ("invents a step", invents_step),
     ("drops a call", drops_call),
     ("invents a call", invents_call),
+    ("steps counted in 16 bits", steps_of_16_bits),
+    ("calls counted in 16 bits", calls_of_16_bits),
     ("one step too many", one_more),
     ("one step too few", one_less),
     ("works only in step one", first_step_only),
@@ -74,6 +76,14 @@ fn drops_call(lent: &mut RunCase) -> u64 {
 fn invents_call(lent: &mut RunCase) -> u64 {
     let answer = right(lent);
     answer + if completed(answer) > 5 { CALL } else { 0 }
+}
+
+fn steps_of_16_bits(lent: &mut RunCase) -> u64 {
+    right(lent) & !(0xFF << 32)
+}
+
+fn calls_of_16_bits(lent: &mut RunCase) -> u64 {
+    right(lent) & !(0xFF << 56)
 }
 
 fn one_more(lent: &mut RunCase) -> u64 {
