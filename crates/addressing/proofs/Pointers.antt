@@ -9,22 +9,17 @@ use native.Mathlib.Omega.{arith}
 use denote.Enum.Declared.{tagOf}
 use types.Run.{OneOf}
 use Rattle.addressing.specs.declared.reach.AddressRead.{AddressRead}
-use Rattle.addressing.specs.declared.reach.AddressRead.the-variants.{At, Unmapped as NoAddress}
-use Rattle.addressing.specs.declared.reach.DataRead.the-variants.{Found, Unmapped as NoData}
+use Rattle.addressing.specs.declared.reach.DataRead.{DataRead}
 use Rattle.addressing.specs.Found.{addressRead, dataRead, aloneOf, isAddress, residenceBy, reachedBy, foundAt}
 use Rattle.memory.specs.declared.reads.WordRead.{WordRead}
-use Rattle.memory.specs.declared.reads.WordRead.the-variants.{Word, Unmapped as NoWord}
 use Rattle.memory.specs.declared.reads.LongRead.{LongRead}
-use Rattle.memory.specs.declared.reads.LongRead.the-variants.{Long, Unmapped as NoLong}
 use Rattle.memory.specs.Reads.{wordRead, longRead}
 use Rattle.memory.proofs.Views.{word-done, word-unmapped, long-done, long-unmapped}
 use Rattle.types.specs.declared.code.Accumulator.{Accumulator as Named}
 use Rattle.types.specs.declared.code.Mode.{Mode}
 use Rattle.types.specs.declared.machine.Access.{Access}
-use Rattle.types.specs.declared.machine.Access.the-variants.{Operand, Addend, Address, Pull, DirectWord}
 use Rattle.types.specs.declared.machine.Registers.{Registers}
 use Rattle.types.specs.declared.machine.Residence.{Residence}
-use Rattle.types.specs.declared.machine.Residence.the-variants.{Memory as InMemory, Instruction, Register}
 use Rattle.model.specs.Memory.{Memory, Act, ret, _>>=_, Outcome, done, unmapped, come}
 use Rattle.model.specs.Memory.{readWord, readLong, readData}
 use Rattle.anywidth.specs.AnyWidth.{size, low}
@@ -44,39 +39,43 @@ indexed short wanted v x r e e′ h = (rw (← e, ← e′) (h .0), omega (arith
 
 module _ (m : Memory) (at : ℕ) (f : ℕ → ℕ) where
   module _ (w : WordRead) (e : w ≡ wordRead (come m (readWord at))) where
-    pub word-found : (v : ℕ) → w ≡ Word v → At (f v) ≡ addressRead (come m (readWord at >>= (λ p. ret (f p))))
+    pub word-found : (v : ℕ) → w ≡ WordRead.Word v
+        → AddressRead.At (f v) ≡ addressRead (come m (readWord at >>= (λ p. ret (f p))))
     word-found v e′ =
         ap addressRead
         (sym (after-done m (readWord at) (λ p. ret (f p)) v (word-done (come m (readWord at)) w v e e′)))
 
-    pub word-missing : w ≡ NoWord → NoAddress ≡ addressRead (come m (readWord at >>= (λ p. ret (f p))))
+    pub word-missing : w ≡ WordRead.Unmapped
+        → AddressRead.Unmapped ≡ addressRead (come m (readWord at >>= (λ p. ret (f p))))
     word-missing e′ =
         ap addressRead
         (sym (after-unmapped m (readWord at) (λ p. ret (f p)) (word-unmapped (come m (readWord at)) w e e′)))
 
   module _ (w : LongRead) (e : w ≡ longRead (come m (readLong at))) where
-    pub long-found : (v : ℕ) → w ≡ Long v → At (f v) ≡ addressRead (come m (readLong at >>= (λ p. ret (f p))))
+    pub long-found : (v : ℕ) → w ≡ LongRead.Long v
+        → AddressRead.At (f v) ≡ addressRead (come m (readLong at >>= (λ p. ret (f p))))
     long-found v e′ =
         ap addressRead
         (sym (after-done m (readLong at) (λ p. ret (f p)) v (long-done (come m (readLong at)) w v e e′)))
 
-    pub long-missing : w ≡ NoLong → NoAddress ≡ addressRead (come m (readLong at >>= (λ p. ret (f p))))
+    pub long-missing : w ≡ LongRead.Unmapped
+        → AddressRead.Unmapped ≡ addressRead (come m (readLong at >>= (λ p. ret (f p))))
     long-missing e′ =
         ap addressRead
         (sym (after-unmapped m (readLong at) (λ p. ret (f p)) (long-unmapped (come m (readLong at)) w e e′)))
 
 module _ (m : Memory) (at : ℕ) (w : LongRead) (e : w ≡ longRead (come m (readLong at))) where
-  pub long-itself : (v : ℕ) → w ≡ Long v → At v ≡ addressRead (come m (readLong at))
+  pub long-itself : (v : ℕ) → w ≡ LongRead.Long v → AddressRead.At v ≡ addressRead (come m (readLong at))
   long-itself v e′ = ap addressRead (sym (long-done (come m (readLong at)) w v e e′))
 
-  pub long-nowhere : w ≡ NoLong → NoAddress ≡ addressRead (come m (readLong at))
+  pub long-nowhere : w ≡ LongRead.Unmapped → AddressRead.Unmapped ≡ addressRead (come m (readLong at))
   long-nowhere e′ = ap addressRead (sym (long-unmapped (come m (readLong at)) w e e′))
 
-address-done : (o : Outcome ℕ) (a : AddressRead) (v : ℕ) → a ≡ addressRead o → a ≡ At v → o ≡ done v
+address-done : (o : Outcome ℕ) (a : AddressRead) (v : ℕ) → a ≡ addressRead o → a ≡ AddressRead.At v → o ≡ done v
 address-done (done u) a v e e′ = cc
 address-done unmapped a v e e′ = cc
 
-address-unmapped : (o : Outcome ℕ) (a : AddressRead) → a ≡ addressRead o → a ≡ NoAddress → o ≡ unmapped
+address-unmapped : (o : Outcome ℕ) (a : AddressRead) → a ≡ addressRead o → a ≡ AddressRead.Unmapped → o ≡ unmapped
 address-unmapped (done u) a e e′ = cc
 address-unmapped unmapped a e e′ = cc
 
@@ -88,25 +87,25 @@ module _ (m : Memory) (act : Act ℕ) (short : Bool) (a : AddressRead) (e : a �
   abbrev then : ℕ → Act Data
   then at = readData short at >>= (λ v. ret (dataAt at v))
 
-  alone-nowhere : a ≡ NoAddress → NoData ≡ dataRead (come m (act >>= itself))
+  alone-nowhere : a ≡ AddressRead.Unmapped → DataRead.Unmapped ≡ dataRead (come m (act >>= itself))
   alone-nowhere e′ = ap dataRead (sym (after-unmapped m act itself (address-unmapped (come m act) a e e′)))
 
-  alone-found : (at : ℕ) → a ≡ At at → Found (dataAt at 0) ≡ dataRead (come m (act >>= itself))
+  alone-found : (at : ℕ) → a ≡ AddressRead.At at → DataRead.Found (dataAt at 0) ≡ dataRead (come m (act >>= itself))
   alone-found at e′ = ap dataRead (sym (after-done m act itself at (address-done (come m act) a at e e′)))
 
-  there-nowhere : a ≡ NoAddress → NoData ≡ dataRead (come m (act >>= then))
+  there-nowhere : a ≡ AddressRead.Unmapped → DataRead.Unmapped ≡ dataRead (come m (act >>= then))
   there-nowhere e′ = ap dataRead (sym (after-unmapped m act then (address-unmapped (come m act) a e e′)))
 
-  module _ (at : ℕ) (e′ : a ≡ At at) (w : WordRead) (read : w ≡ wordRead (come m (readData short at))) where
+  module _ (at : ℕ) (e′ : a ≡ AddressRead.At at) (w : WordRead) (read : w ≡ wordRead (come m (readData short at))) where
     reached : come m (act >>= then) ≡ come m (then at)
     reached = after-done m act then at (address-done (come m act) a at e e′)
 
-    there-found : (v : ℕ) → w ≡ Word v → Found (dataAt at v) ≡ dataRead (come m (act >>= then))
+    there-found : (v : ℕ) → w ≡ WordRead.Word v → DataRead.Found (dataAt at v) ≡ dataRead (come m (act >>= then))
     there-found v e″ =
         ap dataRead (sym (reached ∙ after-done m (readData short at) (λ u. ret (dataAt at u)) v
         (word-done (come m (readData short at)) w v read e″)))
 
-    there-missing : w ≡ NoWord → NoData ≡ dataRead (come m (act >>= then))
+    there-missing : w ≡ WordRead.Unmapped → DataRead.Unmapped ≡ dataRead (come m (act >>= then))
     there-missing e″ =
         ap dataRead (sym (reached ∙ after-unmapped m (readData short at) (λ u. ret (dataAt at u))
         (word-unmapped (come m (readData short at)) w read e″)))
@@ -117,24 +116,25 @@ module _ (m : Memory) (mode : Mode) (r : Registers) (short : Bool) (operand : �
   act = addressOf mode r operand
 
   module _ (a : AddressRead) (e : a ≡ addressRead (come m act)) where
-    pub data-nowhere : (alone : Bool) → a ≡ NoAddress
-        → NoData ≡ dataRead (come m (reachedBy alone mode r short operand))
+    pub data-nowhere : (alone : Bool) → a ≡ AddressRead.Unmapped
+        → DataRead.Unmapped ≡ dataRead (come m (reachedBy alone mode r short operand))
     data-nowhere true e′ = alone-nowhere m act short a e e′
     data-nowhere false e′ = there-nowhere m act short a e e′
 
-    pub address-found : (alone : Bool) → alone ≡ true → (at : ℕ) → a ≡ At at
-        → Found (dataAt at 0) ≡ dataRead (come m (reachedBy alone mode r short operand))
+    pub address-found : (alone : Bool) → alone ≡ true → (at : ℕ) → a ≡ AddressRead.At at
+        → DataRead.Found (dataAt at 0) ≡ dataRead (come m (reachedBy alone mode r short operand))
     address-found true t at e′ = alone-found m act short a e at e′
     address-found false t at e′ = cc
 
-    module _ (at : ℕ) (e′ : a ≡ At at) (w : WordRead) (read : w ≡ wordRead (come m (readData short at))) where
-      pub data-found : (alone : Bool) → alone ≡ false → (v : ℕ) → w ≡ Word v
-          → Found (dataAt at v) ≡ dataRead (come m (reachedBy alone mode r short operand))
+    module _ (at : ℕ) (e′ : a ≡ AddressRead.At at) (w : WordRead)
+        (read : w ≡ wordRead (come m (readData short at))) where
+      pub data-found : (alone : Bool) → alone ≡ false → (v : ℕ) → w ≡ WordRead.Word v
+          → DataRead.Found (dataAt at v) ≡ dataRead (come m (reachedBy alone mode r short operand))
       data-found true t v e″ = cc
       data-found false t v e″ = there-found m act short a e at e′ w read v e″
 
-      pub data-missing : (alone : Bool) → alone ≡ false → w ≡ NoWord
-          → NoData ≡ dataRead (come m (reachedBy alone mode r short operand))
+      pub data-missing : (alone : Bool) → alone ≡ false → w ≡ WordRead.Unmapped
+          → DataRead.Unmapped ≡ dataRead (come m (reachedBy alone mode r short operand))
       data-missing true t e″ = cc
       data-missing false t e″ = there-missing m act short a e at e′ w read e″
 
@@ -146,19 +146,19 @@ module _ (mode : Mode) (register : Named) (r : Registers) (short : Bool) (operan
   operand-found : (place : Residence)
       → operandBy place mode register r short operand ≡ foundAt place false mode register r short operand
   unfolding operandBy
-  operand-found InMemory = refl
-  operand-found Instruction = refl
-  operand-found Register = refl
+  operand-found Residence.Memory = refl
+  operand-found Residence.Instruction = refl
+  operand-found Residence.Register = refl
 
   pub asked : (access : Access) → OneOf (0 ∷ 1 ∷ 2 ∷ []) (tagOf the-type access)
       → dataOf access mode register r short operand
       ≡ foundAt (residenceBy (isAddress access) mode) (isAddress access) mode register r short operand
   unfolding dataOf
-  asked Operand h = operand-found (residenceOf mode)
-  asked Addend h = operand-found (residenceOf mode)
-  asked Address h = refl
-  asked Pull h = absurd (past-keys 3 (omega arith) h)
-  asked DirectWord h = absurd (past-keys 4 (omega arith) h)
+  asked Access.Operand h = operand-found (residenceOf mode)
+  asked Access.Addend h = operand-found (residenceOf mode)
+  asked Access.Address h = refl
+  asked Access.Pull h = absurd (past-keys 3 (omega arith) h)
+  asked Access.DirectWord h = absurd (past-keys 4 (omega arith) h)
 
 -- data alone, as its action comes to it
 pub value-only : (m : Memory) (act : Act ℕ)

@@ -10,8 +10,8 @@ use borrow.Author.Tests.{le-leb, lt-leb}
 use lib.ListN.{length}
 use Rattle.types.specs.declared.lists.Header.{Header}
 use Rattle.types.specs.declared.refusals.Refusal.{Refusal}
-use Rattle.types.specs.declared.lists.ListRead.the-variants.{NotRead, Read}
-use Rattle.types.specs.declared.rules.Verdict.the-variants.{Accepted}
+use Rattle.types.specs.declared.lists.ListRead.{ListRead}
+use Rattle.types.specs.declared.rules.Verdict.{Verdict}
 use Rattle.model.specs.Image.{imageLimit, isStart, startCount}
 use Rattle.model.specs.Verdict.{verdict}
 use Rattle.model.specs.MarkList.{readList, marksRead, marksBy}
@@ -19,7 +19,6 @@ use Rattle.prelude.proofs.Choice.{one-or-none}
 use Rattle.model.proofs.Image.{right-length}
 use Rattle.model.proofs.Verdict.{accepted-rules}
 use Rattle.answer.specs.declared.answers.Answer.{Answer}
-use Rattle.answer.specs.declared.answers.Answer.the-variants.{Unread, Refused}
 use Rattle.answer.specs.AnswerLine.{listLimit, verdictAnswer, answerOf, listAnswer, answerFor}
 
 starts-most : (marks : List ℕ) → startCount marks ≤ length marks
@@ -27,29 +26,30 @@ unfolding startCount
 starts-most [] = omega arith
 starts-most (mark ∷ marks) = omega (arith, one-or-none (isStart mark), starts-most marks)
 
-pub accepted-few : (image marks : List ℕ) (base reset : ℕ) → verdict image marks base reset ≡ Accepted
+pub accepted-few : (image marks : List ℕ) (base reset : ℕ) → verdict image marks base reset ≡ Verdict.Accepted
     → startCount marks < 4_294_967_296
 accepted-few image marks base reset e =
     let fits = right-length (length image) (length marks) (accepted-rules image marks base reset e .right-length) in
     omega (arith, starts-most marks, fits .few, fits .same)
 
 module _ (image text marks : List ℕ) (alike : length marks ≡ length image) where
-  pub list-refused : (why : Refusal) → readList text marks ≡ NotRead why → Refused why 0 ≡ listAnswer image text
+  pub list-refused : (why : Refusal) → readList text marks ≡ ListRead.NotRead why
+      → Answer.Refused why 0 ≡ listAnswer image text
   unfolding listAnswer answerOf readList
   list-refused why e = rw (← alike, e)
 
-  pub list-taken : (h : Header) → readList text marks ≡ Read h
+  pub list-taken : (h : Header) → readList text marks ≡ ListRead.Read h
       → verdictAnswer image (marksRead text marks) (h .base) (h .reset) ≡ listAnswer image text
   unfolding listAnswer answerOf readList marksRead marksBy
   list-taken h e = rw (← alike, e)
 
 module _ (image text : List ℕ) where
-  pub long-list : listLimit < length text → Unread ≡ answerFor image text
+  pub long-list : listLimit < length text → Answer.Unread ≡ answerFor image text
   unfolding answerFor
   long-list h = rw (lt-leb (length text) listLimit h)
 
   module _ (short : length text ≤ listLimit) where
-    pub long-image : imageLimit < length image → Unread ≡ answerFor image text
+    pub long-image : imageLimit < length image → Answer.Unread ≡ answerFor image text
     unfolding answerFor
     long-image h = rw (le-leb (length text) listLimit short, lt-leb (length image) imageLimit h)
 

@@ -6,9 +6,8 @@ use mathlib.Core.Path.{_≡_}
 use mathlib.Core.List.{List, [], _∷_, _++_}
 use lib.Dec.{leb}
 use lib.ListN.{length, drop}
-use Rattle.types.specs.declared.rules.Verdict as verdicts
+use Rattle.types.specs.declared.rules.Verdict.{Verdict}
 use Rattle.types.specs.declared.lists.ListRead.{ListRead}
-use Rattle.types.specs.declared.lists.ListRead.the-variants.{NotRead, Read}
 use Rattle.prelude.specs.Choice.{pick}
 use Rattle.text.specs.Digits.{digits}
 use Rattle.types.specs.Refusals.{refusalNumber}
@@ -16,24 +15,23 @@ use Rattle.model.specs.Image.{imageLimit, startCount}
 use Rattle.model.specs.Verdict.{verdict}
 use Rattle.model.specs.MarkList.{tab, lineEnd, decimalDigits, headerShown, marksOf, readAs}
 use Rattle.answer.specs.declared.answers.Answer.{Answer}
-use Rattle.answer.specs.declared.answers.Answer.the-variants.{Unread, Accepted, Refused}
 
 -- 'A list file over 61,440 bytes'
 abbrev pub listLimit : ℕ
 listLimit = 61_440
 
 -- 'A and the number of starts', or 'R, number, offset'
-unfoldable pub answerBy : verdicts.Verdict → List ℕ → Answer
-answerBy verdicts.the-variants.Accepted marks = Accepted (startCount marks)
-answerBy (verdicts.the-variants.Refused why offset) marks = Refused why offset
+unfoldable pub answerBy : Verdict → List ℕ → Answer
+answerBy Verdict.Accepted marks = Answer.Accepted (startCount marks)
+answerBy (Verdict.Refused why offset) marks = Answer.Refused why offset
 
 unfoldable pub verdictAnswer : List ℕ → List ℕ → ℕ → ℕ → Answer
 verdictAnswer image marks base reset = answerBy (verdict image marks base reset) marks
 
 -- a list that is refused has no offset ('0 where none is given'); else its marks, base and reset are the check's
 unfoldable pub answerOf : ListRead → List ℕ → List ℕ → Answer
-answerOf (NotRead why) image text = Refused why 0
-answerOf (Read h) image text = verdictAnswer image (marksOf h text) (h .base) (h .reset)
+answerOf (ListRead.NotRead why) image text = Answer.Refused why 0
+answerOf (ListRead.Read h) image text = verdictAnswer image (marksOf h text) (h .base) (h .reset)
 
 -- the list is read for as many marks as the image has bytes
 unfoldable pub listAnswer : List ℕ → List ℕ → Answer
@@ -42,7 +40,7 @@ listAnswer image text = answerOf (readAs (headerShown text) text (length image))
 -- 'A list file over 61,440 bytes, an image file over the limit', before all else
 unfoldable pub answerFor : List ℕ → List ℕ → Answer
 answerFor image text =
-    pick (leb (length text) listLimit && leb (length image) imageLimit) (listAnswer image text) Unread
+    pick (leb (length text) listLimit && leb (length image) imageLimit) (listAnswer image text) Answer.Unread
 
 -- a number in decimal without a leading zero, and the byte that closes its field; no number here has over five digits
 unfoldable pub numberField : ℕ → ℕ → List ℕ
@@ -61,9 +59,9 @@ unreadLine = 0x4C ∷ lineEnd ∷ []
 
 -- the line of an answer
 unfoldable pub lineFor : Answer → List ℕ
-lineFor Unread = unreadLine
-lineFor (Accepted count) = letterField 0x41 count lineEnd
-lineFor (Refused why offset) = refusedLine (refusalNumber why) offset
+lineFor Answer.Unread = unreadLine
+lineFor (Answer.Accepted count) = letterField 0x41 count lineEnd
+lineFor (Answer.Refused why offset) = refusedLine (refusalNumber why) offset
 
 -- the line for the bytes of an image file and of a list file
 unfoldable pub answerLine : List ℕ → List ℕ → List ℕ

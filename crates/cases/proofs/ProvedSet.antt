@@ -13,9 +13,9 @@ use lib.Dec.{eqb, ltb}
 use lib.ListN.{length, getD, set}
 use lib.Seq.{getD-set-same}
 use Rattle.types.specs.declared.machine.State.{State}
-use Rattle.types.specs.declared.machine.Answer.the-variants.{Completed, Called, Stopped}
-use Rattle.types.specs.declared.machine.Stop.the-variants.{Halt}
-use Rattle.types.specs.declared.refusals.TestResult.the-variants.{Passed}
+use Rattle.types.specs.declared.machine.Answer.{Answer}
+use Rattle.types.specs.declared.machine.Stop.{Stop}
+use Rattle.types.specs.declared.refusals.TestResult.{TestResult}
 use Rattle.model.specs.CodePages.{plain, pages}
 use Rattle.model.specs.CodeMap.{entryAt}
 use Rattle.model.specs.Decode.{judged, decodeOn, decode}
@@ -78,7 +78,7 @@ module _ (r : Row) where
 
   -- no run from a state and RAM is refused but for its steps
   abbrev Taken : State → List ℕ → Type 0
-  Taken s ram = (n : ℕ) → n ≤ stepLimit → admission (on ram) s n ≡ Passed
+  Taken s ram = (n : ℕ) → n ≤ stepLimit → admission (on ram) s n ≡ TestResult.Passed
 
   -- what is computed for a claim
   abbrev Computes : Claim → Type 0
@@ -87,7 +87,7 @@ module _ (r : Row) where
       Taken s ram × (asked ≤ stepLimit) × RanTo s ram (played (on ram) s asked) 0 asked calls after
   Computes (stops s ram stop steps calls after) =
       Taken s ram × ((k : ℕ) → RanTo s ram (played (on ram) s (more steps (suc k))) stop steps calls after)
-  Computes (returns s ram) = Taken s ram × (step (on ram) s ≡ stepped Completed s ram)
+  Computes (returns s ram) = Taken s ram × (step (on ram) s ≡ stepped Answer.Completed s ram)
 
   ran-so : (s : State) (ram : List ℕ) (n end steps calls : ℕ) (after : List Named) → Taken s ram → n ≤ stepLimit
       → RanTo s ram (played (on ram) s n) end steps calls after → RanTo s ram (ran (on ram) s n) end steps calls after
@@ -215,17 +215,17 @@ module _ (v : Silent) where
       (rw (length-list-of callLimit (v .entries)) (v .fewer-below)))
 
   jsr : step (on (case6 v) (ram v 512)) (begun v 0xC000 0x01FF (v .fewer))
-      ≡ stepped Called (since 0xC004 0x01FD (v .fewer + 1)) pushed
+      ≡ stepped Answer.Called (since 0xC004 0x01FD (v .fewer + 1)) pushed
   unfolding computed
   jsr = rw (room, same-m, same-x)
 
   rts : step (on (case6 v) pushed) (since 0xC004 0x01FD (v .fewer + 1))
-      ≡ stepped Completed (since 0xC003 0x01FF (v .fewer + 1 - 1)) pushed
+      ≡ stepped Answer.Completed (since 0xC003 0x01FF (v .fewer + 1 - 1)) pushed
   unfolding computed
   rts = rw (lt-ltb 0 (v .fewer + 1) (omega arith), last-opened, same-m, same-x)
 
   stp : step (on (case6 v) pushed) (since 0xC003 0x01FF (v .fewer + 1 - 1))
-      ≡ stepped (Stopped Halt) (since 0xC003 0x01FF (v .fewer + 1 - 1)) pushed
+      ≡ stepped (Answer.Stopped Stop.Halt) (since 0xC003 0x01FF (v .fewer + 1 - 1)) pushed
   unfolding computed
   stp = refl
 

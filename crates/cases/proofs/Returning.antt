@@ -9,10 +9,10 @@ use Prim.Native.Nat.{ℕ, zero, suc, _≤_}
 use native.Mathlib.Omega.{arith}
 use lib.ListN.{replicate}
 use Rattle.types.specs.declared.machine.State.{State}
-use Rattle.types.specs.declared.machine.Answer.the-variants.{Completed}
-use Rattle.types.specs.declared.refusals.TestResult.the-variants.{Passed}
-use Rattle.types.specs.declared.runs.End.the-variants.{Done}
-use Rattle.types.specs.declared.runs.RunAnswer.the-variants.{Ended}
+use Rattle.types.specs.declared.machine.Answer.{Answer}
+use Rattle.types.specs.declared.refusals.TestResult.{TestResult}
+use Rattle.types.specs.declared.runs.End.{End}
+use Rattle.types.specs.declared.runs.RunAnswer.{RunAnswer}
 use Rattle.model.specs.Memory.{Memory}
 use Rattle.model.specs.Step.{Stepped, stepped, step}
 use Rattle.model.specs.Run.{stepLimit, isCompleted, Event, withRam, history, completedSteps, callsAmong, endOf}
@@ -43,13 +43,13 @@ module _ (m : Memory) (s : State) (n : ℕ) (r : Stepped) (is : step m s ≡ r) 
 module _ (m : Memory) (s : State) where
   -- the event of such a step
   abbrev still : Event
-  still = known m s (stepped Completed s (m .ram))
+  still = known m s (stepped Answer.Completed s (m .ram))
 
   begins : (n : ℕ) → Every (λ e. (e .state ≡ s) × (e .ram ≡ m .ram)) (replicate n still)
   begins zero = tt
   begins (suc n) = ((refl, refl), begins n)
 
-  ends : (n : ℕ) → endOf (replicate n still) ≡ Done
+  ends : (n : ℕ) → endOf (replicate n still) ≡ End.Done
   ends zero = refl
   ends (suc n) = ends n
 
@@ -69,19 +69,19 @@ module _ (m : Memory) (s : State) where
   ram-back zero = refl
   ram-back (suc n) = ram-back n
 
-  module _ (same : step m s ≡ stepped Completed s (m .ram)) where
+  module _ (same : step m s ≡ stepped Answer.Completed s (m .ram)) where
     repeated : (n : ℕ) → history m s n ≡ replicate n still
     unfolding history
     repeated zero = refl
-    repeated (suc n) = goes-by m s n (stepped Completed s (m .ram)) same refl (replicate n still) (repeated n)
+    repeated (suc n) = goes-by m s n (stepped Answer.Completed s (m .ram)) same refl (replicate n still) (repeated n)
 
     -- a run that is not refused
-    run-back : (n : ℕ) → admission m s n ≡ Passed
-        → ran m s n ≡ record { answer = Ended Done n 0; state = s; ram = m .ram }
+    run-back : (n : ℕ) → admission m s n ≡ TestResult.Passed
+        → ran m s n ≡ record { answer = RunAnswer.Ended End.Done n 0; state = s; ram = m .ram }
     run-back n a =
         admitted-ran m s n a .1 ∙ rw (repeated n, ends n, completes n, calls-none n, state-back n, ram-back n) refl
 
-    pub returning : ((n : ℕ) → n ≤ stepLimit → admission m s n ≡ Passed) → (n : ℕ) → Returns m s n
+    pub returning : ((n : ℕ) → n ≤ stepLimit → admission m s n ≡ TestResult.Passed) → (n : ℕ) → Returns m s n
     returning admitted n = record {
       begins = rw (repeated n) (begins n);
       end = rw (repeated n) (ends n);

@@ -8,16 +8,14 @@ use Prim.Native.String.{String, len, charAt}
 use mathlib.Core.Bool.{true}
 use mathlib.Core.List.{List, [], _∷_, _++_}
 use lib.ListN.{length, getD, drop}
-use Rattle.types.specs.declared.lists.ListRead.the-variants.{Read}
-use Rattle.types.specs.declared.lists.ListWritten.the-variants.{Written}
+use Rattle.types.specs.declared.lists.ListRead.{ListRead}
+use Rattle.types.specs.declared.lists.ListWritten.{ListWritten}
 use Rattle.types.specs.declared.rules.Verdict.{Verdict}
-use Rattle.types.specs.declared.rules.Verdict.the-variants.{Accepted, Refused}
 use Rattle.types.specs.declared.machine.Registers.{Registers}
 use Rattle.types.specs.declared.machine.Core.{Core}
 use Rattle.types.specs.declared.machine.State.{State}
-use Rattle.types.specs.declared.runs.End.the-variants.{Done}
+use Rattle.types.specs.declared.runs.End.{End}
 use Rattle.types.specs.declared.runs.RunAnswer.{RunAnswer}
-use Rattle.types.specs.declared.runs.RunAnswer.the-variants.{NotRun, Ended}
 use Rattle.types.specs.Refusals.{refusalNumber}
 use Rattle.model.specs.Verdict.{verdict}
 use Rattle.model.specs.MarkList.{readList, marksRead, writeList, pageWritten}
@@ -98,16 +96,16 @@ pub record Row : Type 0 where
 
 -- a verdict with its number
 abbrev pub judgedAs : Verdict → Judged
-judgedAs Accepted = accepted
-judgedAs (Refused why offset) = refused (refusalNumber why) offset
+judgedAs Verdict.Accepted = accepted
+judgedAs (Verdict.Refused why offset) = refused (refusalNumber why) offset
 
 -- the list is written for the marks, into every page that has room, and read as them, base and reset
 pub record Listed (r : Row) (text : List ℕ) : Type 0 where
   pub written : (page : List ℕ) → length text ≤ length page
-      → (writeList (r .marks) (r .base) (r .reset) page ≡ Written (length text))
+      → (writeList (r .marks) (r .base) (r .reset) page ≡ ListWritten.Written (length text))
       × (pageWritten (r .marks) (r .base) (r .reset) page ≡ text ++ drop (length text) page)
   pub read : (lent : List ℕ) → length lent ≡ length (r .marks)
-      → (readList text lent ≡ Read (record { base = r .base; length = length (r .marks); reset = r .reset }))
+      → (readList text lent ≡ ListRead.Read (record { base = r .base; length = length (r .marks); reset = r .reset }))
       × (marksRead text lent ≡ r .marks)
 
 -- from state `s` and RAM `ram` the machine came to `t` and `left`
@@ -118,8 +116,8 @@ Shows s ram t left unchanged = (t ≡ s) × (left ≡ ram)
 
 -- the numbers of an answer; a refused run has none of them
 abbrev pub Answers : RunAnswer → ℕ → ℕ → ℕ → Type 0
-Answers (NotRun why) end steps calls = ⊥
-Answers (Ended e k c) end steps calls = (endNumber e ≡ end) × (k ≡ steps) × (c ≡ calls)
+Answers (RunAnswer.NotRun why) end steps calls = ⊥
+Answers (RunAnswer.Ended e k c) end steps calls = (endNumber e ≡ end) × (k ≡ steps) × (c ≡ calls)
 
 abbrev pub RanTo : State → List ℕ → Ran → ℕ → ℕ → ℕ → List Named → Type 0
 RanTo s ram r end steps calls after =
@@ -129,12 +127,12 @@ RanTo s ram r end steps calls after =
 -- which stops or calls, state and RAM are as given; a run of n steps, where that is not too many, answers so.
 pub record Returns (m : Memory) (s : State) (n : ℕ) : Type 0 where
   pub begins : Every (λ e. (e .state ≡ s) × (e .ram ≡ m .ram)) (history m s n)
-  pub end : endOf (history m s n) ≡ Done
+  pub end : endOf (history m s n) ≡ End.Done
   pub completed : completedSteps (history m s n) ≡ n
   pub calls : callsAmong (history m s n) ≡ 0
   pub state : stateLeft s (history m s n) ≡ s
   pub ram : ramLeft (m .ram) (history m s n) ≡ m .ram
-  pub run : n ≤ stepLimit → ran m s n ≡ record { answer = Ended Done n 0; state = s; ram = m .ram }
+  pub run : n ≤ stepLimit → ran m s n ≡ record { answer = RunAnswer.Ended End.Done n 0; state = s; ram = m .ram }
 
 abbrev pub Claimed : Row → Claim → Type 0
 Claimed r (listed text) = Listed r text

@@ -14,13 +14,11 @@ use Rattle.codepages.proofs.Unpacked.{kept-effect}
 use Rattle.types.specs.declared.code.Kind.{Kind}
 use Rattle.types.specs.declared.code.WidthEffect.{WidthEffect}
 use Rattle.types.specs.declared.code.Flow.{Flow}
-use Rattle.types.specs.declared.code.Flow.the-variants.{Next, Branch, Jump, Call, Return, Halt}
 use Rattle.types.specs.declared.code.Instruction.{Instruction}
-use Rattle.types.specs.declared.refusals.Refusal.the-variants as refusal
+use Rattle.types.specs.declared.refusals.Refusal.{Refusal}
 use Rattle.types.specs.declared.refusals.TestResult.{TestResult}
 use Rattle.types.specs.declared.rules.Want.{Want}
 use Rattle.types.specs.declared.rules.Owed.{Owed}
-use Rattle.types.specs.declared.rules.Owed.the-variants.{Nothing, One, Two}
 use Rattle.prelude.specs.Choice.{pick}
 use Rattle.types.specs.Addresses.{addressLimit}
 use Rattle.model.specs.Image.{isStart, markM, markX, markKind, returnM, returnX, markOf, markAt}
@@ -82,7 +80,8 @@ module _ (marks : List ℕ) (base : ℕ) where
   unfolding wantsMark wantsStart
   one-start w odd h = rw (eqb-true (markAt marks base (w .address)) (w .mark) h) odd
 
-  two-starts : (v w : Want) → isStart (v .mark) ≡ true → isStart (w .mark) ≡ true → MarksOfStarts marks base (Two v w)
+  two-starts : (v w : Want) → isStart (v .mark) ≡ true → isStart (w .mark) ≡ true
+      → MarksOfStarts marks base (Owed.Two v w)
   unfolding allMarks allStarts
   two-starts v w odd odd′ h =
       let both = both-true (wantsMark marks base v) (wantsMark marks base w) h in
@@ -91,13 +90,13 @@ module _ (marks : List ℕ) (base : ℕ) where
   owes-starts : (flow : Flow) (mark after next to there : ℕ) → isStart after ≡ true
       → MarksOfStarts marks base (owedBy flow mark after next to there)
   unfolding owedBy allMarks allStarts
-  owes-starts Next mark after next to there odd h = one-start _ odd h
-  owes-starts Branch mark after next to there odd h = two-starts _ _ odd odd h
-  owes-starts Jump mark after next to there odd h = one-start _ odd h
-  owes-starts (Call kind) mark after next to there odd h =
+  owes-starts Flow.Next mark after next to there odd h = one-start _ odd h
+  owes-starts Flow.Branch mark after next to there odd h = two-starts _ _ odd odd h
+  owes-starts Flow.Jump mark after next to there odd h = one-start _ odd h
+  owes-starts (Flow.Call kind) mark after next to there odd h =
       two-starts _ _ (routine-start kind mark there) (return-start mark there) h
-  owes-starts (Return kind) mark after next to there odd h = refl
-  owes-starts Halt mark after next to there odd h = refl
+  owes-starts (Flow.Return kind) mark after next to there odd h = refl
+  owes-starts Flow.Halt mark after next to there odd h = refl
 
   pub marks-of-starts : (i : Instruction) (address mark : ℕ)
       → MarksOfStarts marks base (owedAt marks base i address mark)
@@ -109,19 +108,19 @@ module _ (marks : List ℕ) (base : ℕ) where
 
 -- whether something is owed
 abbrev pub owes : Owed → Bool
-owes Nothing = false
-owes (One w) = true
-owes (Two v w) = true
+owes Owed.Nothing = false
+owes (Owed.One w) = true
+owes (Owed.Two v w) = true
 
 by-flow : (flow : Flow) (mark after next to there : ℕ) → owes (owedBy flow mark after next to there) ≡ true
     → returnFits flow mark ≡ true
 unfolding owedBy returnFits
-by-flow Next mark after next to there e = refl
-by-flow Branch mark after next to there e = refl
-by-flow Jump mark after next to there e = refl
-by-flow (Call kind) mark after next to there e = refl
-by-flow (Return kind) mark after next to there e = let z : _≡_ {A = ℕ} 0 1 = cc in absurd (omega arith)
-by-flow Halt mark after next to there e = refl
+by-flow Flow.Next mark after next to there e = refl
+by-flow Flow.Branch mark after next to there e = refl
+by-flow Flow.Jump mark after next to there e = refl
+by-flow (Flow.Call kind) mark after next to there e = refl
+by-flow (Flow.Return kind) mark after next to there e = let z : _≡_ {A = ℕ} 0 1 = cc in absurd (omega arith)
+by-flow Flow.Halt mark after next to there e = refl
 
 module _ (marks : List ℕ) (base : ℕ) (i : Instruction) (address mark : ℕ) where
   abbrev flow : Flow
@@ -139,12 +138,12 @@ module _ (marks : List ℕ) (base : ℕ) (i : Instruction) (address mark : ℕ) 
   unfolding firstRefusal
   something-owed e s = rw (no-return e) s
 
-  pub nothing-owed : {so : TestResult} → owed ≡ Nothing → so ≡ firstRefusal (returnTests flow mark)
+  pub nothing-owed : {so : TestResult} → owed ≡ Owed.Nothing → so ≡ firstRefusal (returnTests flow mark)
       → so ≡ firstRefusal (returnTests flow mark ++ owedTests marks base owed)
   unfolding firstRefusal allStarts allMarks
   nothing-owed {so} e s = rw e (by (returnFits flow mark) s)
     where
-      by : (b : Bool) → so ≡ firstRefusal ((b, refusal.Return) ∷ [])
-          → so ≡ firstRefusal ((b, refusal.Return) ∷ (true, refusal.Flow) ∷ (true, refusal.Widths) ∷ [])
+      by : (b : Bool) → so ≡ firstRefusal ((b, Refusal.Return) ∷ [])
+          → so ≡ firstRefusal ((b, Refusal.Return) ∷ (true, Refusal.Flow) ∷ (true, Refusal.Widths) ∷ [])
       by true s = s
       by false s = s

@@ -10,9 +10,7 @@ use borrow.Author.Tests.{ltb-true, ltb-false}
 use lib.Dec.{ltb}
 use lib.ListN.{getD, drop}
 use Rattle.types.specs.declared.code.Decoded.{Decoded}
-use Rattle.types.specs.declared.code.Decoded.the-variants.{Whole, NotCarried, CutOff}
 use Rattle.types.specs.declared.refusals.TestResult.{TestResult}
-use Rattle.types.specs.declared.refusals.TestResult.the-variants.{Passed as NoneFailed}
 use Rattle.prelude.specs.Choice.{pick}
 use Rattle.model.specs.Image.{markM, markX}
 use Rattle.model.specs.Rules.{instructionAt, StartRules}
@@ -32,14 +30,14 @@ module _ (image marks : List ℕ) (at : ℕ) where
   bytes-few = by decoded-here refl
     where
       by : (d : Decoded) → decoded-here ≡ d → (1 ≤ bytesOf d) × (bytesOf d ≤ 6)
-      by (Whole i) e =
+      by (Decoded.Whole i) e =
           let d = decodes (drop at image) (markM (getD marks at 0)) (markX (getD marks at 0)) i e in (
             d .at-least,
             d
                 .at-most,
           )
-      by NotCarried e = (omega arith, omega arith)
-      by CutOff e = (omega arith, omega arith)
+      by Decoded.NotCarried e = (omega arith, omega arith)
+      by Decoded.CutOff e = (omega arith, omega arith)
 
   pub step-bytes : (1 ≤ bytesAt image marks at) × (bytesAt image marks at ≤ 6)
   unfolding bytesAt
@@ -53,14 +51,14 @@ module _ (image marks : List ℕ) (base at : ℕ) where
   abbrev broken : ℕ → Bool
   broken = brokenAt image marks base
 
-  not-broken : startResult image marks base at ≡ NoneFailed → broken at ≡ false
+  not-broken : startResult image marks base at ≡ TestResult.Passed → broken at ≡ false
   not-broken h = rw h refl
 
   at-no-start : (k : ℕ) → startAt marks k ≡ false → broken k ≡ false
   unfolding startResult
   at-no-start k h = rw h refl
 
-  over : StartRules image marks base at → startResult image marks base at ≡ NoneFailed → Passed broken 0 at
+  over : StartRules image marks base at → startResult image marks base at ≡ TestResult.Passed → Passed broken 0 at
       → Passed broken 0 (at + bytesOf (decoded-here image marks at))
   over r h p = rw (r .whole) (omega arith, λ k low high. by k high (ltb k at) (ltb at k) refl refl)
     where
@@ -71,7 +69,7 @@ module _ (image marks : List ℕ) (base at : ℕ) where
           let here : k ≡ at = omega (arith, ltb-false k at below, ltb-false at k above) in
           rw here (not-broken h)
 
-  pub stepped : startResult image marks base at ≡ NoneFailed
+  pub stepped : startResult image marks base at ≡ TestResult.Passed
       → Passed broken 0 at → Passed broken 0 (at + bytesAt image marks at)
   unfolding bytesAt
   stepped h p = by (startAt marks at) refl
@@ -94,6 +92,6 @@ module _ (image marks : List ℕ) (base at : ℕ) (s : Step) (e : s ≡ stepAt i
   few-bytes = rw e (step-bytes image marks at)
 
   -- the search goes on behind a step that breaks no rule
-  pub goes-on : s .result ≡ NoneFailed → Passed (brokenAt image marks base) 0 at
+  pub goes-on : s .result ≡ TestResult.Passed → Passed (brokenAt image marks base) 0 at
       → Passed (brokenAt image marks base) 0 (at + s .bytes)
   goes-on none p = rw e (stepped image marks base at (step-result none) p)

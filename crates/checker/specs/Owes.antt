@@ -5,7 +5,7 @@ use Prim.Native.Nat.{ℕ}
 use mathlib.Core.Bool.{true}
 use mathlib.Core.List.{List, [], _∷_}
 use Rattle.types.specs.declared.code.Flow.{Flow}
-use Rattle.types.specs.declared.refusals.Refusal.the-variants as refusal
+use Rattle.types.specs.declared.refusals.Refusal.{Refusal}
 use Rattle.types.specs.declared.rules.Owed.{Owed}
 use Rattle.types.specs.Refusals.{Tests}
 use Rattle.model.specs.Rules.{returnFits}
@@ -13,12 +13,12 @@ use Rattle.model.specs.Verdict.{allStarts, allMarks}
 
 -- 10
 abbrev pub returnTests : Flow → ℕ → Tests
-returnTests flow mark = (returnFits flow mark, refusal.Return) ∷ []
+returnTests flow mark = (returnFits flow mark, Refusal.Return) ∷ []
 
 -- 8, 9
 abbrev pub owedTests : List ℕ → ℕ → Owed → Tests
 owedTests marks base owed =
-    (allStarts marks base owed, refusal.Flow) ∷ (allMarks marks base owed, refusal.Widths) ∷ []
+    (allStarts marks base owed, Refusal.Flow) ∷ (allMarks marks base owed, Refusal.Widths) ∷ []
 
 -- the marks that are wanted are those of starts: where all stand there, all are starts
 abbrev pub MarksOfStarts : List ℕ → ℕ → Owed → Type 0

@@ -4,7 +4,6 @@
 use Prim.Native.Nat.{ℕ}
 use mathlib.Core.List.{List}
 use Rattle.types.specs.declared.code.Decoded.{Decoded}
-use Rattle.types.specs.declared.code.Decoded.the-variants.{Whole, NotCarried, CutOff}
 use Rattle.prelude.specs.Choice.{pick}
 use Rattle.model.specs.Rules.{instructionAt}
 use Rattle.model.specs.Verdict.{startAt, decodedResult, startResult}
@@ -12,9 +11,9 @@ use Rattle.checker.specs.declared.start.Step.{Step}
 
 -- how many bytes are stepped over
 abbrev pub bytesOf : Decoded → ℕ
-bytesOf (Whole i) = i .length
-bytesOf NotCarried = 1
-bytesOf CutOff = 1
+bytesOf (Decoded.Whole i) = i .length
+bytesOf Decoded.NotCarried = 1
+bytesOf Decoded.CutOff = 1
 
 unfoldable pub bytesAt : List ℕ → List ℕ → ℕ → ℕ
 bytesAt image marks at =

@@ -22,7 +22,7 @@ ghost use Prim.Native.Nat.{_+_, _-_, _*_, _/_, _%_, _≤_, _<_};
 ghost use lib.ListN.{length, drop};
 ghost use Rattle.types.specs.Addresses.{addressLimit};
 ghost use Rattle.model.specs.Image.{markOf, markAt};
-ghost use Rattle.types.specs.declared.code.Flow.the-variants.{Call};
+ghost use Rattle.types.specs.declared.code.Flow.{Flow};
 ghost use Rattle.model.specs.Decode.{operandOf};
 ghost use Rattle.model.specs.Rules as rules;
 ghost use Rattle.codepages.specs.Packing.{unpacked};
@@ -116,7 +116,7 @@ fn mark_on_return(mark: u8, there: u8) -> u8
 // What a call at an address with a mark owes, by its target and the address after it.
 fn owed_by_call(marks: &[u8], base: u32, kind: Kind, mark: u8, next: u32, to: u32) -> Owed
     requires { ⌜ base + length (now marks) ≤ addressLimit ⌝ }
-    ensures { λ r. ⌜ r ≡ rules.owedBy (Call kind) mark 0 next to (markAt (now (marks .entry)) base to) ⌝ }
+    ensures { λ r. ⌜ r ≡ rules.owedBy (Flow.Call kind) mark 0 next to (markAt (now (marks .entry)) base to) ⌝ }
 {
     let there = mark_in(marks, base, to);
     Owed::Two(

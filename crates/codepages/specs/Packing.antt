@@ -6,32 +6,15 @@ use mathlib.Core.Bool.{Bool, true, false}
 use mathlib.Core.List.{List, [], _∷_, map}
 use lib.Dec.{eqb}
 use lib.ListN.{getD}
-use Rattle.types.specs.declared.code.Operation.the-variants.{Unassigned}
+use Rattle.types.specs.declared.code.Operation.{Operation}
 use Rattle.types.specs.declared.code.Mode.{Mode}
-use Rattle.types.specs.declared.code.Mode.the-variants.{Implied, Immediate, Accumulator as ACC, Direct}
-use Rattle.types.specs.declared.code.Mode.the-variants.{DirectBit, DirectIndexedX, DirectIndexedY}
-use Rattle.types.specs.declared.code.Mode.the-variants.{DirectIndirect, DirectIndexedXIndirect}
-use Rattle.types.specs.declared.code.Mode.the-variants.{DirectIndirectIndexedY, DirectIndirectLong}
-use Rattle.types.specs.declared.code.Mode.the-variants.{DirectIndirectLongIndexedY, Absolute, AbsoluteBit}
-use Rattle.types.specs.declared.code.Mode.the-variants.{AbsoluteIndexedX, AbsoluteIndexedY, AbsoluteLong}
-use Rattle.types.specs.declared.code.Mode.the-variants.{AbsoluteLongIndexedX, AbsoluteIndirect}
-use Rattle.types.specs.declared.code.Mode.the-variants.{AbsoluteIndirectLong, AbsoluteIndexedXIndirect, Stack}
-use Rattle.types.specs.declared.code.Mode.the-variants.{Relative, DirectBitRelative, AbsoluteBitRelative}
-use Rattle.types.specs.declared.code.Mode.the-variants.{StackPointerRelative}
-use Rattle.types.specs.declared.code.Mode.the-variants.{StackPointerRelativeIndirectIndexedY, BlockTransfer}
 use Rattle.types.specs.declared.code.Accumulator.{Accumulator}
-use Rattle.types.specs.declared.code.Accumulator.the-variants.{Unnamed, A, B}
-use Rattle.types.specs.declared.code.Kind.the-variants.{ByRts, ByRtl}
+use Rattle.types.specs.declared.code.Kind.{Kind}
 use Rattle.types.specs.declared.code.Flow.{Flow}
-use Rattle.types.specs.declared.code.Flow.the-variants.{Next, Branch, Jump, Call, Return, Halt}
 use Rattle.types.specs.declared.code.Target.{Target}
-use Rattle.types.specs.declared.code.Target.the-variants.{NoTarget, Offset8, Offset16, Address16, Address24}
 use Rattle.types.specs.declared.code.WidthEffect.{WidthEffect}
-use Rattle.types.specs.declared.code.WidthEffect.the-variants.{KeepWidths, SetM, ClearM, SetBits, ClearBits}
 use Rattle.types.specs.declared.code.LengthRule.{LengthRule}
-use Rattle.types.specs.declared.code.LengthRule.the-variants.{Fixed, MoreByM, MoreByX}
 use Rattle.types.specs.declared.code.DataWidth.{DataWidth}
-use Rattle.types.specs.declared.code.DataWidth.the-variants.{NoData, ByM, ByX, Byte, Word}
 use Rattle.types.specs.declared.code.Entry.{Entry}
 use Rattle.model.specs.Operations.{place}
 pub use Rattle.model.specs.Operations.{operations}
@@ -41,121 +24,125 @@ use Rattle.model.specs.CodeMap.{entryOf}
 -- each field's values in the order of their numbers
 abbrev pub modes : List Mode
 modes =
-    Implied ∷ Immediate ∷ ACC ∷ Direct ∷ DirectBit ∷ DirectIndexedX ∷ DirectIndexedY ∷
-    DirectIndirect ∷ DirectIndexedXIndirect ∷ DirectIndirectIndexedY ∷ DirectIndirectLong ∷
-    DirectIndirectLongIndexedY ∷ Absolute ∷ AbsoluteBit ∷ AbsoluteIndexedX ∷ AbsoluteIndexedY ∷
-    AbsoluteLong ∷ AbsoluteLongIndexedX ∷ AbsoluteIndirect ∷ AbsoluteIndirectLong ∷
-    AbsoluteIndexedXIndirect ∷ Stack ∷ Relative ∷ DirectBitRelative ∷ AbsoluteBitRelative ∷
-    StackPointerRelative ∷ StackPointerRelativeIndirectIndexedY ∷ BlockTransfer ∷ []
+    Mode.Implied ∷ Mode.Immediate ∷ Mode.Accumulator ∷ Mode.Direct ∷ Mode.DirectBit ∷ Mode.DirectIndexedX ∷
+    Mode.DirectIndexedY ∷ Mode.DirectIndirect ∷ Mode.DirectIndexedXIndirect ∷ Mode.DirectIndirectIndexedY ∷
+    Mode.DirectIndirectLong ∷ Mode.DirectIndirectLongIndexedY ∷ Mode.Absolute ∷ Mode.AbsoluteBit ∷
+    Mode.AbsoluteIndexedX ∷ Mode.AbsoluteIndexedY ∷ Mode.AbsoluteLong ∷ Mode.AbsoluteLongIndexedX ∷
+    Mode.AbsoluteIndirect ∷ Mode.AbsoluteIndirectLong ∷ Mode.AbsoluteIndexedXIndirect ∷ Mode.Stack ∷ Mode.Relative ∷
+    Mode.DirectBitRelative ∷ Mode.AbsoluteBitRelative ∷ Mode.StackPointerRelative ∷
+    Mode.StackPointerRelativeIndirectIndexedY ∷ Mode.BlockTransfer ∷ []
 
 abbrev pub accumulators : List Accumulator
-accumulators = Unnamed ∷ A ∷ B ∷ []
+accumulators = Accumulator.Unnamed ∷ Accumulator.A ∷ Accumulator.B ∷ []
 
 abbrev pub flows : List Flow
-flows = Next ∷ Branch ∷ Jump ∷ Call ByRts ∷ Call ByRtl ∷ Return ByRts ∷ Return ByRtl ∷ Halt ∷ []
+flows =
+    Flow.Next ∷ Flow.Branch ∷ Flow.Jump ∷ Flow.Call Kind.ByRts ∷ Flow.Call Kind.ByRtl ∷ Flow.Return Kind.ByRts ∷
+    Flow.Return Kind.ByRtl ∷ Flow.Halt ∷ []
 
 abbrev pub targets : List Target
-targets = NoTarget ∷ Offset8 ∷ Offset16 ∷ Address16 ∷ Address24 ∷ []
+targets = Target.NoTarget ∷ Target.Offset8 ∷ Target.Offset16 ∷ Target.Address16 ∷ Target.Address24 ∷ []
 
 abbrev pub effects : List WidthEffect
-effects = KeepWidths ∷ SetM ∷ ClearM ∷ SetBits ∷ ClearBits ∷ []
+effects =
+    WidthEffect.KeepWidths ∷ WidthEffect.SetM ∷ WidthEffect.ClearM ∷ WidthEffect.SetBits ∷ WidthEffect.ClearBits ∷ []
 
 abbrev pub rules : List LengthRule
-rules = Fixed ∷ MoreByM ∷ MoreByX ∷ []
+rules = LengthRule.Fixed ∷ LengthRule.MoreByM ∷ LengthRule.MoreByX ∷ []
 
 abbrev pub widths : List DataWidth
-widths = NoData ∷ ByM ∷ ByX ∷ Byte ∷ Word ∷ []
+widths = DataWidth.NoData ∷ DataWidth.ByM ∷ DataWidth.ByX ∷ DataWidth.Byte ∷ DataWidth.Word ∷ []
 
 -- the entry that a number keeps
 unfoldable pub unpacked : ℕ → Entry
 unpacked n = record {
-  operation = getD operations (n % 128) Unassigned;
-  mode = getD modes (n / 128 % 32) Implied;
-  accumulator = getD accumulators (n / 4096 % 4) Unnamed;
+  operation = getD operations (n % 128) Operation.Unassigned;
+  mode = getD modes (n / 128 % 32) Mode.Implied;
+  accumulator = getD accumulators (n / 4096 % 4) Accumulator.Unnamed;
   carried = eqb (n / 16384 % 2) 1;
-  flow = getD flows (n / 32768 % 8) Next;
-  target = getD targets (n / 262144 % 8) NoTarget;
-  effect = getD effects (n / 2097152 % 8) KeepWidths;
+  flow = getD flows (n / 32768 % 8) Flow.Next;
+  target = getD targets (n / 262144 % 8) Target.NoTarget;
+  effect = getD effects (n / 2097152 % 8) WidthEffect.KeepWidths;
   bytes = n / 16777216 % 8;
-  rule = getD rules (n / 134217728 % 4) Fixed;
-  width = getD widths (n / 536870912) NoData;
+  rule = getD rules (n / 134217728 % 4) LengthRule.Fixed;
+  width = getD widths (n / 536870912) DataWidth.NoData;
 }
 
 -- the place of each field's value in its list
 abbrev pub modePlace : Mode → ℕ
-modePlace Implied = 0
-modePlace Immediate = 1
-modePlace ACC = 2
-modePlace Direct = 3
-modePlace DirectBit = 4
-modePlace DirectIndexedX = 5
-modePlace DirectIndexedY = 6
-modePlace DirectIndirect = 7
-modePlace DirectIndexedXIndirect = 8
-modePlace DirectIndirectIndexedY = 9
-modePlace DirectIndirectLong = 10
-modePlace DirectIndirectLongIndexedY = 11
-modePlace Absolute = 12
-modePlace AbsoluteBit = 13
-modePlace AbsoluteIndexedX = 14
-modePlace AbsoluteIndexedY = 15
-modePlace AbsoluteLong = 16
-modePlace AbsoluteLongIndexedX = 17
-modePlace AbsoluteIndirect = 18
-modePlace AbsoluteIndirectLong = 19
-modePlace AbsoluteIndexedXIndirect = 20
-modePlace Stack = 21
-modePlace Relative = 22
-modePlace DirectBitRelative = 23
-modePlace AbsoluteBitRelative = 24
-modePlace StackPointerRelative = 25
-modePlace StackPointerRelativeIndirectIndexedY = 26
-modePlace BlockTransfer = 27
+modePlace Mode.Implied = 0
+modePlace Mode.Immediate = 1
+modePlace Mode.Accumulator = 2
+modePlace Mode.Direct = 3
+modePlace Mode.DirectBit = 4
+modePlace Mode.DirectIndexedX = 5
+modePlace Mode.DirectIndexedY = 6
+modePlace Mode.DirectIndirect = 7
+modePlace Mode.DirectIndexedXIndirect = 8
+modePlace Mode.DirectIndirectIndexedY = 9
+modePlace Mode.DirectIndirectLong = 10
+modePlace Mode.DirectIndirectLongIndexedY = 11
+modePlace Mode.Absolute = 12
+modePlace Mode.AbsoluteBit = 13
+modePlace Mode.AbsoluteIndexedX = 14
+modePlace Mode.AbsoluteIndexedY = 15
+modePlace Mode.AbsoluteLong = 16
+modePlace Mode.AbsoluteLongIndexedX = 17
+modePlace Mode.AbsoluteIndirect = 18
+modePlace Mode.AbsoluteIndirectLong = 19
+modePlace Mode.AbsoluteIndexedXIndirect = 20
+modePlace Mode.Stack = 21
+modePlace Mode.Relative = 22
+modePlace Mode.DirectBitRelative = 23
+modePlace Mode.AbsoluteBitRelative = 24
+modePlace Mode.StackPointerRelative = 25
+modePlace Mode.StackPointerRelativeIndirectIndexedY = 26
+modePlace Mode.BlockTransfer = 27
 
 abbrev pub accumulatorPlace : Accumulator → ℕ
-accumulatorPlace Unnamed = 0
-accumulatorPlace A = 1
-accumulatorPlace B = 2
+accumulatorPlace Accumulator.Unnamed = 0
+accumulatorPlace Accumulator.A = 1
+accumulatorPlace Accumulator.B = 2
 
 abbrev pub carriedPlace : Bool → ℕ
 carriedPlace false = 0
 carriedPlace true = 1
 
 abbrev pub flowPlace : Flow → ℕ
-flowPlace Next = 0
-flowPlace Branch = 1
-flowPlace Jump = 2
-flowPlace (Call ByRts) = 3
-flowPlace (Call ByRtl) = 4
-flowPlace (Return ByRts) = 5
-flowPlace (Return ByRtl) = 6
-flowPlace Halt = 7
+flowPlace Flow.Next = 0
+flowPlace Flow.Branch = 1
+flowPlace Flow.Jump = 2
+flowPlace (Flow.Call Kind.ByRts) = 3
+flowPlace (Flow.Call Kind.ByRtl) = 4
+flowPlace (Flow.Return Kind.ByRts) = 5
+flowPlace (Flow.Return Kind.ByRtl) = 6
+flowPlace Flow.Halt = 7
 
 abbrev pub targetPlace : Target → ℕ
-targetPlace NoTarget = 0
-targetPlace Offset8 = 1
-targetPlace Offset16 = 2
-targetPlace Address16 = 3
-targetPlace Address24 = 4
+targetPlace Target.NoTarget = 0
+targetPlace Target.Offset8 = 1
+targetPlace Target.Offset16 = 2
+targetPlace Target.Address16 = 3
+targetPlace Target.Address24 = 4
 
 abbrev pub effectPlace : WidthEffect → ℕ
-effectPlace KeepWidths = 0
-effectPlace SetM = 1
-effectPlace ClearM = 2
-effectPlace SetBits = 3
-effectPlace ClearBits = 4
+effectPlace WidthEffect.KeepWidths = 0
+effectPlace WidthEffect.SetM = 1
+effectPlace WidthEffect.ClearM = 2
+effectPlace WidthEffect.SetBits = 3
+effectPlace WidthEffect.ClearBits = 4
 
 abbrev pub rulePlace : LengthRule → ℕ
-rulePlace Fixed = 0
-rulePlace MoreByM = 1
-rulePlace MoreByX = 2
+rulePlace LengthRule.Fixed = 0
+rulePlace LengthRule.MoreByM = 1
+rulePlace LengthRule.MoreByX = 2
 
 abbrev pub widthPlace : DataWidth → ℕ
-widthPlace NoData = 0
-widthPlace ByM = 1
-widthPlace ByX = 2
-widthPlace Byte = 3
-widthPlace Word = 4
+widthPlace DataWidth.NoData = 0
+widthPlace DataWidth.ByM = 1
+widthPlace DataWidth.ByX = 2
+widthPlace DataWidth.Byte = 3
+widthPlace DataWidth.Word = 4
 
 -- the number that keeps an entry
 abbrev pub packed : Entry → ℕ

@@ -39,7 +39,7 @@ ghost use mathlib.Core.Path.{_≡_};
 ghost use Prim.Native.Nat.{_≤_, _<_};
 ghost use Rattle.model.specs.Addressing.{bits, residenceOf};
 ghost use Rattle.types.specs.Status.{statusOf};
-ghost use Rattle.cpu.specs.File.{registersOf, fileSize};
+ghost use Rattle.cpu.specs.File.{fileSize};
 ghost use Rattle.cpu.specs.Rows as rows;
 ghost use Rattle.cpu.specs.View.{Makes, seen};
 

@@ -14,7 +14,7 @@ ghost use mathlib.Core.Path.{_≡_};
 ghost use mathlib.Core.Bool.{false};
 ghost use Prim.Native.Nat.{_+_, _-_, _%_};
 ghost use Rattle.memory.specs.Listed.{listed};
-ghost use Rattle.memory.specs.declared.stores.Stores.the-variants.{None};
+ghost use Rattle.memory.specs.declared.stores.Stores.{Stores};
 ghost use Rattle.model.specs.Addressing as addressing;
 ghost use Rattle.model.specs.Effects as spec;
 ghost use Rattle.types.specs.Addresses.{bankSize};
@@ -90,7 +90,7 @@ pub(crate) fn bytes(short: bool) -> u16
 
 // Two registers and the status.
 pub(crate) fn puts_both(first: usize, value: u16, second: usize, other: u16, status: u16) -> Effect
-    ensures { λ r. ⌜ r ≡ kept first value second other status None false ⌝ }
+    ensures { λ r. ⌜ r ≡ kept first value second other status Stores.None false ⌝ }
 {
     Effect {
         first,
@@ -105,21 +105,21 @@ pub(crate) fn puts_both(first: usize, value: u16, second: usize, other: u16, sta
 
 // A register and the status.
 pub fn puts(place: usize, value: u16, status: u16) -> Effect
-    ensures { λ r. ⌜ r ≡ kept place value 7 0 status None false ⌝ }
+    ensures { λ r. ⌜ r ≡ kept place value 7 0 status Stores.None false ⌝ }
 {
     puts_both(place, value, PS, 0, status)
 }
 
 // The status alone.
 pub fn leaves(status: u16) -> Effect
-    ensures { λ r. ⌜ r ≡ kept 7 0 7 0 status None false ⌝ }
+    ensures { λ r. ⌜ r ≡ kept 7 0 7 0 status Stores.None false ⌝ }
 {
     puts(PS, 0, status)
 }
 
 // The status, and whether a branch is taken.
 pub fn branches_if(taken: bool, status: u16) -> Effect
-    ensures { λ r. ⌜ r ≡ kept 7 0 7 0 status None taken ⌝ }
+    ensures { λ r. ⌜ r ≡ kept 7 0 7 0 status Stores.None taken ⌝ }
 {
     Effect {
         first: PS,

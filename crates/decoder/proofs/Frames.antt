@@ -12,7 +12,7 @@ use lib.Dec.{eqb, ltb, leb}
 use lib.ListN.{length, getD, drop, length-drop}
 use lib.Seq.{getD-drop}
 use Rattle.types.specs.declared.code.Instruction.{Instruction}
-use Rattle.types.specs.declared.code.Decoded.the-variants.{Whole, NotCarried, CutOff}
+use Rattle.types.specs.declared.code.Decoded.{Decoded}
 use Rattle.prelude.specs.Choice.{pick}
 use Rattle.model.specs.CodeMap.{prefixBytes, lengthAt}
 use Rattle.model.specs.CodePages.{plain}
@@ -23,15 +23,13 @@ use Rattle.codepages.specs.Packing.{unpacked, numbers, numberAt}
 use Rattle.codepages.proofs.Unpacked.{unpacked-at}
 use Rattle.decoder.specs.declared.Frame.{Frame}
 use Rattle.decoder.specs.declared.Framed.{Framed}
-use Rattle.decoder.specs.declared.Framed.the-variants.{Fits, Uncarried, Short}
 use Rattle.decoder.specs.declared.Looked.{Looked}
-use Rattle.decoder.specs.declared.Looked.the-variants.{Code, Uncarried as NoCode, Short as Missing}
 use Rattle.decoder.specs.Frame.{fitted, framedOn, framed, codeOn, coded, framedBy, instructionOf, decodedOf}
 use Rattle.decoder.specs.Frame.{Fitting, FittingIn}
 
 chosen : (bytes : List ℕ) (f : Frame) (a b c : Bool)
-    → pick a (pick b (pick c (Whole (instructionOf bytes f)) CutOff) NotCarried) CutOff
-    ≡ decodedOf bytes (pick a (pick b (pick c (Fits f) Short) Uncarried) Short)
+    → pick a (pick b (pick c (Decoded.Whole (instructionOf bytes f)) Decoded.CutOff) Decoded.NotCarried) Decoded.CutOff
+    ≡ decodedOf bytes (pick a (pick b (pick c (Framed.Fits f) Framed.Short) Framed.Uncarried) Framed.Short)
 chosen bytes f true true true = refl
 chosen bytes f true true false = refl
 chosen bytes f true false c = refl
@@ -62,7 +60,8 @@ module _ (page : ℕ) (bytes : List ℕ) (m x : ℕ) where
       by (ltb prefix (length bytes)) (unpacked at-code .carried) (leb long (length bytes)) refl refl
     where
       by : (a b c : Bool) → unpacked at-code .carried ≡ b → leb long (length bytes) ≡ c
-          → FittingIn (length bytes) (pick a (pick b (pick c (Fits the-frame) Short) Uncarried) Short)
+          → FittingIn (length bytes)
+          (pick a (pick b (pick c (Framed.Fits the-frame) Framed.Short) Framed.Uncarried) Framed.Short)
       by true true true carried inside =
           let same = unpacked-at page (getD bytes prefix 0) in
           let rule = carried-length page (getD bytes prefix 0) m x (rw same at carried) in
@@ -81,7 +80,7 @@ pub fitting : (bytes : List ℕ) (m x : ℕ) → FittingIn (length bytes) (frame
 unfolding framed
 fitting bytes m x = fitting-on (pageOf (getD bytes 0 0)) bytes m x
 
-framed-nothing : (bytes : List ℕ) (m x : ℕ) → length bytes ≡ 0 → Short ≡ framed bytes m x
+framed-nothing : (bytes : List ℕ) (m x : ℕ) → length bytes ≡ 0 → Framed.Short ≡ framed bytes m x
 unfolding framed framedOn
 framed-nothing [] m x h = refl
 framed-nothing (b ∷ bs) m x h = absurd (omega arith)
@@ -92,23 +91,23 @@ module _ (image : List ℕ) (at m x : ℕ) (framed-here : Framed) (is-framed : f
     pub fits-in : FittingIn (length image - at) framed-here
     fits-in = rw (is-framed, ← length-drop at image) (fitting (drop at image) m x)
 
-    pub fits-at : (f : Frame) → framed-here ≡ Fits f → Fitting (length image - at) f
+    pub fits-at : (f : Frame) → framed-here ≡ Framed.Fits f → Fitting (length image - at) f
     fits-at f e = rw e at fits-in
 
-    pub decoded-fits : (f : Frame) (i : Instruction) → framed-here ≡ Fits f → i ≡ instructionOf (drop at image) f
-        → Whole i ≡ decode (drop at image) m x
+    pub decoded-fits : (f : Frame) (i : Instruction) → framed-here ≡ Framed.Fits f → i ≡ instructionOf (drop at image) f
+        → Decoded.Whole i ≡ decode (drop at image) m x
     decoded-fits f i e same = rw (decoded-framed (drop at image) m x, ← is-framed, e, same)
 
-    pub decoded-uncarried : framed-here ≡ Uncarried → NotCarried ≡ decode (drop at image) m x
+    pub decoded-uncarried : framed-here ≡ Framed.Uncarried → Decoded.NotCarried ≡ decode (drop at image) m x
     decoded-uncarried e = rw (decoded-framed (drop at image) m x, ← is-framed, e)
 
-    pub decoded-short : framed-here ≡ Short → CutOff ≡ decode (drop at image) m x
+    pub decoded-short : framed-here ≡ Framed.Short → Decoded.CutOff ≡ decode (drop at image) m x
     decoded-short e = rw (decoded-framed (drop at image) m x, ← is-framed, e)
 
 -- a frame goes by its code
 framed-by : (left n prefix m x : ℕ) (a b : Bool)
-    → pick a (pick b (framedBy left (Code n prefix) m x) Uncarried) Short
-    ≡ framedBy left (pick a (pick b (Code n prefix) NoCode) Missing) m x
+    → pick a (pick b (framedBy left (Looked.Code n prefix) m x) Framed.Uncarried) Framed.Short
+    ≡ framedBy left (pick a (pick b (Looked.Code n prefix) Looked.Uncarried) Looked.Short) m x
 framed-by left n prefix m x true true = refl
 framed-by left n prefix m x true false = refl
 framed-by left n prefix m x false b = refl
@@ -139,7 +138,7 @@ one-prefix page h = rw (ne-eqb page 0 h)
 
 -- The definition's cases, a law each, for the code that walks them.
 module _ (image : List ℕ) (at : ℕ) where
-  pub framed-past : (m x : ℕ) → length image ≤ at → Short ≡ framed (drop at image) m x
+  pub framed-past : (m x : ℕ) → length image ≤ at → Framed.Short ≡ framed (drop at image) m x
   framed-past m x h = framed-nothing (drop at image) m x (rw length-drop (omega arith))
 
   pub framed-at : (looked : Looked) (m x : ℕ) (here : Framed) → looked ≡ coded (drop at image)
@@ -157,31 +156,32 @@ module _ (image : List ℕ) (at : ℕ) where
       rw same e
 
   module _ (page prefix : ℕ) (at-prefix : prefix ≡ prefixBytes page) (at-page : pageOf first ≡ page) where
-    pub coded-short : length image - at ≤ prefix → Missing ≡ coded (drop at image)
+    pub coded-short : length image - at ≤ prefix → Looked.Short ≡ coded (drop at image)
     unfolding codeOn
     coded-short few =
-        coded-on page Missing at-page (rw (length-drop, ← at-prefix, le-ltb prefix (length image - at) few) refl)
+        coded-on page Looked.Short at-page (rw (length-drop, ← at-prefix, le-ltb prefix (length image - at) few) refl)
 
     module _ (n : ℕ) (some : prefix < length image - at)
         (at-code : n ≡ numberAt numbers page (getD image (at + prefix) 0))
       where
-        by-carried : (b : Bool) → unpacked n .carried ≡ b → pick b (Code n prefix) NoCode ≡ codeOn page (drop at image)
+        by-carried : (b : Bool) → unpacked n .carried ≡ b
+            → pick b (Looked.Code n prefix) Looked.Uncarried ≡ codeOn page (drop at image)
         unfolding codeOn
         by-carried b e =
             rw (length-drop, ← at-prefix, lt-ltb prefix (length image - at) some, getD-drop, ← at-code, e) refl
 
-        pub coded-carried : unpacked n .carried ≡ true → Code n prefix ≡ coded (drop at image)
-        coded-carried e = coded-on page (Code n prefix) at-page (by-carried true e)
+        pub coded-carried : unpacked n .carried ≡ true → Looked.Code n prefix ≡ coded (drop at image)
+        coded-carried e = coded-on page (Looked.Code n prefix) at-page (by-carried true e)
 
-        pub coded-uncarried : unpacked n .carried ≡ false → NoCode ≡ coded (drop at image)
-        coded-uncarried e = coded-on page NoCode at-page (by-carried false e)
+        pub coded-uncarried : unpacked n .carried ≡ false → Looked.Uncarried ≡ coded (drop at image)
+        coded-uncarried e = coded-on page Looked.Uncarried at-page (by-carried false e)
 
   pub coded-plain : (n : ℕ) → at < length image → n ≡ numberAt numbers 0 first → unpacked n .carried ≡ true
-      → Code n 0 ≡ coded (drop at image)
+      → Looked.Code n 0 ≡ coded (drop at image)
   coded-plain n inside at-code e =
       coded-carried 0 0 refl (plain-page first (rw (← at-code) e)) n (omega arith) (rw add-zero at-code) e
 
   pub coded-nothing : (page : ℕ) → page ≡ pageOf first → page ≡ 0 → at < length image
-      → unpacked (numberAt numbers 0 first) .carried ≡ false → NoCode ≡ coded (drop at image)
+      → unpacked (numberAt numbers 0 first) .carried ≡ false → Looked.Uncarried ≡ coded (drop at image)
   coded-nothing page is-page zero inside e =
       coded-uncarried 0 0 refl (sym is-page ∙ zero) (numberAt numbers 0 first) (omega arith) (rw add-zero refl) e

@@ -6,14 +6,14 @@ use native.Mathlib.Nat.{mod-lt}
 use native.Mathlib.Omega.{arith}
 use lib.Dec.{eqb}
 use lib.ListN.{getD}
-use Rattle.types.specs.declared.code.LengthRule.the-variants.{Fixed}
+use Rattle.types.specs.declared.code.LengthRule.{LengthRule}
 use Rattle.prelude.specs.Choice.{pick}
 use Rattle.model.specs.CodeMap.{moreBytes, lengthAt}
 use Rattle.prelude.proofs.Choice.{one-or-none}
 use Rattle.codepages.specs.Packing.{rules, unpacked}
 
 bit-of-rule : (m x r : ℕ) → r < 4
-    → (2 * pick (eqb m 0) 1 0 + 4 * pick (eqb x 0) 1 0) / 2 ^ r % 2 ≡ moreBytes (getD rules r Fixed) m x
+    → (2 * pick (eqb m 0) 1 0 + 4 * pick (eqb x 0) 1 0) / 2 ^ r % 2 ≡ moreBytes (getD rules r LengthRule.Fixed) m x
 bit-of-rule m x zero h = omega (arith, one-or-none (eqb m 0), one-or-none (eqb x 0))
 bit-of-rule m x (suc zero) h = omega (arith, one-or-none (eqb m 0), one-or-none (eqb x 0))
 bit-of-rule m x (suc (suc zero)) h = omega (arith, one-or-none (eqb m 0), one-or-none (eqb x 0))

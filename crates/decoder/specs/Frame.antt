@@ -7,23 +7,20 @@ use lib.Dec.{ltb, leb}
 use lib.ListN.{length, getD}
 use Rattle.types.specs.declared.code.Instruction.{Instruction}
 use Rattle.types.specs.declared.code.Decoded.{Decoded}
-use Rattle.types.specs.declared.code.Decoded.the-variants.{Whole, NotCarried, CutOff}
 use Rattle.prelude.specs.Choice.{pick}
 use Rattle.model.specs.CodeMap.{prefixBytes, lengthAt}
 use Rattle.model.specs.Decode.{pageOf, operandOf}
 use Rattle.codepages.specs.Packing.{unpacked, numbers, numberAt}
 use Rattle.decoder.specs.declared.Frame.{Frame}
 use Rattle.decoder.specs.declared.Framed.{Framed}
-use Rattle.decoder.specs.declared.Framed.the-variants.{Fits, Uncarried, Short}
 use Rattle.decoder.specs.declared.Looked.{Looked}
-use Rattle.decoder.specs.declared.Looked.the-variants.{Code, Uncarried as NoCode, Short as Missing}
 
 -- the code is there, behind the prefix; so many bytes are left
 unfoldable pub fitted : ℕ → ℕ → ℕ → ℕ → Framed
 fitted left prefix n long =
     pick (unpacked n .carried)
-    (pick (leb long left) (Fits (record { number = n; prefix = prefix; length = long })) Short)
-    Uncarried
+    (pick (leb long left) (Framed.Fits (record { number = n; prefix = prefix; length = long })) Framed.Short)
+    Framed.Uncarried
 
 -- what the bytes begin with, its code behind the prefix bytes of a page
 unfoldable pub framedOn : ℕ → List ℕ → ℕ → ℕ → Framed
@@ -31,7 +28,7 @@ framedOn page bytes m x =
     pick (ltb (prefixBytes page) (length bytes))
     (fitted (length bytes) (prefixBytes page) (numberAt numbers page (getD bytes (prefixBytes page) 0))
     (lengthAt (unpacked (numberAt numbers page (getD bytes (prefixBytes page) 0))) m x))
-    Short
+    Framed.Short
 
 -- what the bytes begin with, at the widths m and x
 unfoldable pub framed : List ℕ → ℕ → ℕ → Framed
@@ -42,19 +39,19 @@ unfoldable pub codeOn : ℕ → List ℕ → Looked
 codeOn page bytes =
     pick (ltb (prefixBytes page) (length bytes))
     (pick (unpacked (numberAt numbers page (getD bytes (prefixBytes page) 0)) .carried)
-    (Code (numberAt numbers page (getD bytes (prefixBytes page) 0)) (prefixBytes page)) NoCode)
-    Missing
+    (Looked.Code (numberAt numbers page (getD bytes (prefixBytes page) 0)) (prefixBytes page)) Looked.Uncarried)
+    Looked.Short
 
 unfoldable pub coded : List ℕ → Looked
 coded bytes = codeOn (pageOf (getD bytes 0 0)) bytes
 
 -- the frame of a code, among so many bytes
 abbrev pub framedBy : ℕ → Looked → ℕ → ℕ → Framed
-framedBy left (Code n prefix) m x =
+framedBy left (Looked.Code n prefix) m x =
     pick (leb (lengthAt (unpacked n) m x) left)
-    (Fits (record { number = n; prefix = prefix; length = lengthAt (unpacked n) m x })) Short
-framedBy left NoCode m x = Uncarried
-framedBy left Missing m x = Short
+    (Framed.Fits (record { number = n; prefix = prefix; length = lengthAt (unpacked n) m x })) Framed.Short
+framedBy left Looked.Uncarried m x = Framed.Uncarried
+framedBy left Looked.Short m x = Framed.Short
 
 -- the instruction of a frame
 abbrev pub instructionOf : List ℕ → Frame → Instruction
@@ -65,15 +62,15 @@ instructionOf bytes f = record {
 }
 
 abbrev pub decodedOf : List ℕ → Framed → Decoded
-decodedOf bytes (Fits f) = Whole (instructionOf bytes f)
-decodedOf bytes Uncarried = NotCarried
-decodedOf bytes Short = CutOff
+decodedOf bytes (Framed.Fits f) = Decoded.Whole (instructionOf bytes f)
+decodedOf bytes Framed.Uncarried = Decoded.NotCarried
+decodedOf bytes Framed.Short = Decoded.CutOff
 
 -- the bounds that every frame keeps among so many bytes
 abbrev pub Fitting : ℕ → Frame → Type 0
 Fitting left f = (f .prefix ≤ 1) × (f .prefix < f .length) × (f .length ≤ 6) × (f .length ≤ left)
 
 abbrev pub FittingIn : ℕ → Framed → Type 0
-FittingIn left (Fits f) = Fitting left f
-FittingIn left Uncarried = Unit {0}
-FittingIn left Short = Unit {0}
+FittingIn left (Framed.Fits f) = Fitting left f
+FittingIn left Framed.Uncarried = Unit {0}
+FittingIn left Framed.Short = Unit {0}

@@ -21,7 +21,7 @@ ghost use Rattle.prelude.specs.Choice.{pick};
 ghost use Rattle.model.specs.CodeMap.{entryAt, moreBytes, lengthAt};
 ghost use Rattle.model.specs.Decode as spec;
 ghost use Rattle.codepages.specs.Packing.{numbers, numberAt, unpacked};
-ghost use Rattle.decoder.specs.declared.Looked.the-variants.{Code};
+ghost use Rattle.decoder.specs.declared.Looked.{Looked};
 ghost use Rattle.decoder.specs.Frame.{framed, coded, framedBy, instructionOf, Fitting};
 
 // What a code and the widths decide of an instruction, before its operand is read: the number of its entry, how many
@@ -92,7 +92,7 @@ fn length_of(number: u32, m: u8, x: u8) -> u8
 
 // The frame of a carried code, where so many bytes are left.
 fn fit(left: usize, prefix: u8, number: u32, m: u8, x: u8) -> Framed
-    ensures { λ r. ⌜ r ≡ framedBy left (Code number prefix) m x ⌝ }
+    ensures { λ r. ⌜ r ≡ framedBy left (Looked.Code number prefix) m x ⌝ }
 {
     let length = length_of(number, m, x);
     if left < length as usize {

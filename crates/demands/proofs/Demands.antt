@@ -17,16 +17,11 @@ use Rattle.loader.proofs.m7700_step.Met as StepMet
 use Rattle.packing.specs.Packed.{packedVerdict, verdictNumbers, checkNumbers, listReadNumbers, readNumbers}
 use Rattle.packing.specs.Packed.{listWrittenNumbers, writtenNumbers, answerNumbers}
 use Rattle.types.specs.declared.rules.Verdict.{Verdict}
-use Rattle.types.specs.declared.rules.Verdict.the-variants.{Accepted, Refused}
 use Rattle.types.specs.declared.lists.Header.{Header}
 use Rattle.types.specs.declared.lists.ListRead.{ListRead}
-use Rattle.types.specs.declared.lists.ListRead.the-variants.{NotRead, Read}
 use Rattle.types.specs.declared.lists.ListWritten.{ListWritten}
-use Rattle.types.specs.declared.lists.ListWritten.the-variants.{NotWritten, Written}
 use Rattle.types.specs.declared.refusals.TestResult.{TestResult}
-use Rattle.types.specs.declared.refusals.TestResult.the-variants.{Passed, Failed}
 use Rattle.types.specs.declared.runs.RunAnswer.{RunAnswer}
-use Rattle.types.specs.declared.runs.RunAnswer.the-variants.{NotRun, Ended}
 use Rattle.types.specs.Refusals.{refusalNumber}
 use Rattle.model.specs.Grounds.{AnswersBy, WrongBytes, runGrounds, readGrounds, writeGrounds}
 use Rattle.model.specs.MarkList.{marksBy, marksRead, pageBy, pageWritten}
@@ -65,8 +60,8 @@ read-refused c some = by (readOf c) (c .kept .1) (read-numbers c)
         → readNumbers (c .result) ≡ listReadNumbers a
         → (c .marks-left ≡ holds (c .marks))
         × (readNumbers (c .result) .base ≡ 0) × (readNumbers (c .result) .reset ≡ 0)
-    by (NotRead why) left told = (left, ap (λ n. n .base) told, ap (λ n. n .reset) told)
-    by (Read h) left told = absurd (omega (arith, ap (λ n. n .number) told))
+    by (ListRead.NotRead why) left told = (left, ap (λ n. n .base) told, ap (λ n. n .reset) told)
+    by (ListRead.Read h) left told = absurd (omega (arith, ap (λ n. n .number) told))
 
 write-refused : (c : WriteCall) → 0 < writtenNumbers (c .result) .number
     → (c .page-left ≡ holds (c .page)) × (writtenNumbers (c .result) .length ≡ 0)
@@ -76,8 +71,8 @@ write-refused c some = by (writtenOf c) (c .kept .1) (written-numbers c)
     by : (a : ListWritten) → c .page-left ≡ pageBy a (holds (c .marks)) (c .base) (c .reset) (holds (c .page))
         → writtenNumbers (c .result) ≡ listWrittenNumbers a
         → (c .page-left ≡ holds (c .page)) × (writtenNumbers (c .result) .length ≡ 0)
-    by (NotWritten why) left told = (left, ap (λ n. n .length) told)
-    by (Written n) left told = absurd (omega (arith, ap (λ n. n .number) told))
+    by (ListWritten.NotWritten why) left told = (left, ap (λ n. n .length) told)
+    by (ListWritten.Written n) left told = absurd (omega (arith, ap (λ n. n .number) told))
 
 module _ (c : RunCall) where
   untouched : (ranOf c .state ≡ holds (c .state)) × (ranOf c .ram ≡ holds (c .ram)) → Untouched c
@@ -89,31 +84,31 @@ module _ (c : RunCall) where
     where
       by : (a : RunAnswer) → ranOf c .answer ≡ a → numbers c ≡ answerNumbers a
           → Untouched c × (numbers c .end ≡ 0) × (numbers c .steps ≡ 0) × (numbers c .calls ≡ 0)
-      by (NotRun why) e told = (
+      by (RunAnswer.NotRun why) e told = (
         untouched (refused-leaves (memoryOf c) (holds (c .state)) (c .steps) why e),
         ap (λ n. n .end) told,
         ap (λ n. n .steps) told,
         ap (λ n. n .calls) told,
       )
-      by (Ended end steps calls) e told = absurd (omega (arith, ap (λ n. n .refusal) told))
+      by (RunAnswer.Ended end steps calls) e told = absurd (omega (arith, ap (λ n. n .refusal) told))
 
   step-stopped : Every Undone (historyOf c)
   unfolding admittedHistory
   step-stopped = by (admission (memoryOf c) (stateGiven c) (c .steps))
     where
       by : (a : TestResult) → Every Undone (admittedHistory a (memoryOf c) (stateGiven c) (c .steps))
-      by Passed = stops-leave (c .steps) (memoryOf c) (stateGiven c)
-      by (Failed why) = tt
+      by TestResult.Passed = stops-leave (c .steps) (memoryOf c) (stateGiven c)
+      by (TestResult.Failed why) = tt
 
   run-stopped : numbers c .steps ≡ 0 → Untouched c
   run-stopped none = by (ranOf c .answer) refl (run-numbers c)
     where
       by : (a : RunAnswer) → ranOf c .answer ≡ a → numbers c ≡ answerNumbers a → Untouched c
-      by (NotRun why) e told = untouched (refused-leaves (memoryOf c) (holds (c .state)) (c .steps) why e)
-      by (Ended end steps calls) e told =
+      by (RunAnswer.NotRun why) e told = untouched (refused-leaves (memoryOf c) (holds (c .state)) (c .steps) why e)
+      by (RunAnswer.Ended end steps calls) e told =
           let zero : steps ≡ 0 = sym (ap (λ n. n .steps) told) ∙ none in
           untouched (none-leaves (memoryOf c) (holds (c .state)) (c .steps) (c .state .bytes) end calls
-          (e ∙ ap (λ n. Ended end n calls) zero))
+          (e ∙ ap (λ n. RunAnswer.Ended end n calls) zero))
 
 pub demand-1 : Demand1
 demand-1 = record {
@@ -154,19 +149,19 @@ demand-1 = record {
 
 -- ---- 2
 
-zero-accepted : (c : CheckCall) → c .result ≡ 0 → verdictOf c ≡ Accepted
+zero-accepted : (c : CheckCall) → c .result ≡ 0 → verdictOf c ≡ Verdict.Accepted
 zero-accepted c zero = by (verdictOf c) refl (check-numbers c)
   where
-    by : (v : Verdict) → verdictOf c ≡ v → checkNumbers (c .result) ≡ verdictNumbers v → verdictOf c ≡ Accepted
-    by Accepted e told = e
-    by (Refused why at) e told = absurd (omega (arith, zero, ap (λ n. n .number) told, refusal-range why .0))
+    by : (v : Verdict) → verdictOf c ≡ v → checkNumbers (c .result) ≡ verdictNumbers v → verdictOf c ≡ Verdict.Accepted
+    by Verdict.Accepted e told = e
+    by (Verdict.Refused why at) e told = absurd (omega (arith, zero, ap (λ n. n .number) told, refusal-range why .0))
 
 refuses : (c : CheckCall) → 0 < c .result → RefusedCheck c
 refuses c some = by (verdictOf c) refl (check-numbers c)
   where
     by : (v : Verdict) → verdictOf c ≡ v → checkNumbers (c .result) ≡ verdictNumbers v → RefusedCheck c
-    by Accepted e told = absurd (omega (arith, some, ap (λ n. n .number) told, ap (λ n. n .offset) told))
-    by (Refused why at) e told = record {
+    by Verdict.Accepted e told = absurd (omega (arith, some, ap (λ n. n .number) told, ap (λ n. n .offset) told))
+    by (Verdict.Refused why at) e told = record {
       why = why;
       number = ap (λ n. n .number) told;
       breaks =
@@ -182,8 +177,8 @@ module _ (c : RunCall) (zero : numbers c .refusal ≡ 0) where
   when-taken {P} shows = by (ranOf c .answer) refl (run-numbers c)
     where
       by : (a : RunAnswer) → ranOf c .answer ≡ a → numbers c ≡ answerNumbers a → P
-      by (NotRun why) e told = absurd (omega (arith, zero, ap (λ n. n .refusal) told, refusal-range why .0))
-      by (Ended end steps calls) e told =
+      by (RunAnswer.NotRun why) e told = absurd (omega (arith, zero, ap (λ n. n .refusal) told, refusal-range why .0))
+      by (RunAnswer.Ended end steps calls) e told =
           let t = taken (memoryOf c) (holds (c .state)) (c .steps) end steps calls e in
           shows (t .history-is) (t .ran-is)
 
@@ -240,14 +235,14 @@ read-written r w zero marks base reset room = by (readOf r) refl (read-numbers r
     by : (a : ListRead) → readOf r ≡ a → readNumbers (r .result) ≡ listReadNumbers a
         → (writtenNumbers (w .result) ≡ record { number = 0; length = length (holds (r .text)) })
         × (w .page-left ≡ holds (r .text) ++ drop (length (holds (r .text))) (holds (w .page)))
-    by (NotRead why) e told = absurd (omega (arith, ap (λ n. n .number) told, refusal-range why .0))
-    by (Read h) e told =
+    by (ListRead.NotRead why) e told = absurd (omega (arith, ap (λ n. n .number) told, refusal-range why .0))
+    by (ListRead.Read h) e told =
         let same = read-then-written (holds (r .text)) (holds (r .marks)) (holds (w .page)) h e room in
         let marks′ : holds (w .marks) ≡ marksRead (holds (r .text)) (holds (r .marks)) = marks ∙ r .kept .1 in
         let base′ : w .base ≡ h .base = base ∙ ap (λ n. n .base) told in
         let reset′ : w .reset ≡ h .reset = reset ∙ ap (λ n. n .reset) told in
         let text = holds (r .text) in
-        let written : writtenOf w ≡ Written (length text) = rw (marks′, base′, reset′) (same .0) in
+        let written : writtenOf w ≡ ListWritten.Written (length text) = rw (marks′, base′, reset′) (same .0) in
         let page : pageWritten (holds (w .marks)) (w .base) (w .reset) (holds (w .page))
         ≡ text ++ drop (length text) (holds (w .page)) = rw (marks′, base′, reset′) (same .1) in
         (written-numbers w ∙ ap listWrittenNumbers written, w .kept .1 ∙ page)
@@ -262,14 +257,14 @@ written-read w r zero text long = by (writtenOf w) refl (written-numbers w)
     by : (a : ListWritten) → writtenOf w ≡ a → writtenNumbers (w .result) ≡ listWrittenNumbers a
         → (readNumbers (r .result) ≡ record { number = 0; base = w .base; reset = w .reset })
         × (r .marks-left ≡ holds (w .marks))
-    by (NotWritten why) e told = absurd (omega (arith, ap (λ n. n .number) told, refusal-range why .0))
-    by (Written n) e told =
+    by (ListWritten.NotWritten why) e told = absurd (omega (arith, ap (λ n. n .number) told, refusal-range why .0))
+    by (ListWritten.Written n) e told =
         let given = holds (w .marks) in
         let same = written-then-read given (w .base) (w .reset) n (holds (w .page)) (holds (r .marks)) e long in
         let text′ : holds (r .text) ≡ take n (pageWritten given (w .base) (w .reset) (holds (w .page))) =
         text ∙ ap (λ k. take k (w .page-left)) (ap (λ n. n .length) told) ∙ ap (take n) (w .kept .1) in
         let h : Header = record { base = w .base; length = length given; reset = w .reset } in
-        let read : readOf r ≡ Read h = rw text′ (same .0) in
+        let read : readOf r ≡ ListRead.Read h = rw text′ (same .0) in
         let marks : marksRead (holds (r .text)) (holds (r .marks)) ≡ given = rw text′ (same .1) in
         (read-numbers r ∙ ap listReadNumbers read, r .kept .1 ∙ marks)
 
@@ -331,7 +326,7 @@ told c whole (admitted a kept) =
     h : List Event
     h = history (memoryOf c) (stateGiven c) (c .steps)
 
-    answer : numbers c ≡ answerNumbers (Ended (endOf h) (completedSteps h) (callsAmong h))
+    answer : numbers c ≡ answerNumbers (RunAnswer.Ended (endOf h) (completedSteps h) (callsAmong h))
     answer = left c whole .answer ∙ ap answerNumbers (kept .answer)
 
     by : EndsWell h (c .steps)

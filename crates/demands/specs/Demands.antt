@@ -19,7 +19,7 @@ use lib.ListN.{length, take, drop}
 use Rattle.packing.specs.Packed.{verdictNumbers, checkNumbers, listReadNumbers, readNumbers, listWrittenNumbers}
 use Rattle.packing.specs.Packed.{writtenNumbers, answerNumbers}
 use Rattle.types.specs.declared.refusals.Refusal.{Refusal}
-use Rattle.types.specs.declared.runs.RunAnswer.the-variants.{Ended}
+use Rattle.types.specs.declared.runs.RunAnswer.{RunAnswer}
 use Rattle.types.specs.Refusals.{refusalNumber}
 use Rattle.model.specs.CodeMap.{entryAt, lengthAt}
 use Rattle.model.specs.Rules.{Accepts}
@@ -85,7 +85,7 @@ pub record RefusedCheck (c : CheckCall) : Type 0 where
 -- its calls ..; it leaves the state and RAM as they are after the last completed step, or as given if there is none.'
 pub record ByHistory (c : RunCall) : Type 0 where
   pub answer : numbers c
-      ≡ answerNumbers (Ended (endOf (historyOf c)) (completedSteps (historyOf c)) (callsAmong (historyOf c)))
+      ≡ answerNumbers (RunAnswer.Ended (endOf (historyOf c)) (completedSteps (historyOf c)) (callsAmong (historyOf c)))
   pub state : c .state-left ≡ bytesOf (stateLeft (stateGiven c) (historyOf c))
   pub ram : c .ram-left ≡ ramLeft (holds (c .ram)) (historyOf c)
 

@@ -15,13 +15,13 @@ ghost use mathlib.Core.Path.{_≡_};
 ghost use Prim.Native.Nat.{_/_, _%_, _≤_};
 ghost use lib.Dec.{eqb};
 ghost use lib.ListN.{getD};
-ghost use Rattle.types.specs.declared.code.Accumulator.the-variants.{Unnamed};
-ghost use Rattle.types.specs.declared.code.DataWidth.the-variants.{NoData};
-ghost use Rattle.types.specs.declared.code.Flow.the-variants.{Next};
-ghost use Rattle.types.specs.declared.code.LengthRule.the-variants.{Fixed};
-ghost use Rattle.types.specs.declared.code.Mode.the-variants.{Implied};
-ghost use Rattle.types.specs.declared.code.Target.the-variants.{NoTarget};
-ghost use Rattle.types.specs.declared.code.WidthEffect.the-variants.{KeepWidths};
+ghost use Rattle.types.specs.declared.code.Accumulator.{Accumulator};
+ghost use Rattle.types.specs.declared.code.DataWidth.{DataWidth};
+ghost use Rattle.types.specs.declared.code.Flow.{Flow};
+ghost use Rattle.types.specs.declared.code.LengthRule.{LengthRule};
+ghost use Rattle.types.specs.declared.code.Mode.{Mode};
+ghost use Rattle.types.specs.declared.code.Target.{Target};
+ghost use Rattle.types.specs.declared.code.WidthEffect.{WidthEffect};
 ghost use Rattle.codepages.specs.Packing.{
   modes,
   accumulators,
@@ -34,7 +34,7 @@ ghost use Rattle.codepages.specs.Packing.{
 };
 
 fn mode_at(n: u32) -> Mode
-    ensures { λ r. ⌜ r ≡ getD modes n Implied ⌝ }
+    ensures { λ r. ⌜ r ≡ getD modes n Mode.Implied ⌝ }
 {
     match n {
         1 => Mode::Immediate,
@@ -69,7 +69,7 @@ fn mode_at(n: u32) -> Mode
 }
 
 fn accumulator_at(n: u32) -> Accumulator
-    ensures { λ r. ⌜ r ≡ getD accumulators n Unnamed ⌝ }
+    ensures { λ r. ⌜ r ≡ getD accumulators n Accumulator.Unnamed ⌝ }
 {
     match n {
         1 => Accumulator::A,
@@ -79,7 +79,7 @@ fn accumulator_at(n: u32) -> Accumulator
 }
 
 fn flow_at(n: u32) -> Flow
-    ensures { λ r. ⌜ r ≡ getD flows n Next ⌝ }
+    ensures { λ r. ⌜ r ≡ getD flows n Flow.Next ⌝ }
 {
     match n {
         1 => Flow::Branch,
@@ -94,7 +94,7 @@ fn flow_at(n: u32) -> Flow
 }
 
 fn target_at(n: u32) -> Target
-    ensures { λ r. ⌜ r ≡ getD targets n NoTarget ⌝ }
+    ensures { λ r. ⌜ r ≡ getD targets n Target.NoTarget ⌝ }
 {
     match n {
         1 => Target::Offset8,
@@ -106,7 +106,7 @@ fn target_at(n: u32) -> Target
 }
 
 fn effect_at(n: u32) -> WidthEffect
-    ensures { λ r. ⌜ r ≡ getD effects n KeepWidths ⌝ }
+    ensures { λ r. ⌜ r ≡ getD effects n WidthEffect.KeepWidths ⌝ }
 {
     match n {
         1 => WidthEffect::SetM,
@@ -118,7 +118,7 @@ fn effect_at(n: u32) -> WidthEffect
 }
 
 fn rule_at(n: u32) -> LengthRule
-    ensures { λ r. ⌜ r ≡ getD rules n Fixed ⌝ }
+    ensures { λ r. ⌜ r ≡ getD rules n LengthRule.Fixed ⌝ }
 {
     match n {
         1 => LengthRule::MoreByM,
@@ -128,7 +128,7 @@ fn rule_at(n: u32) -> LengthRule
 }
 
 fn width_at(n: u32) -> DataWidth
-    ensures { λ r. ⌜ r ≡ getD widths n NoData ⌝ }
+    ensures { λ r. ⌜ r ≡ getD widths n DataWidth.NoData ⌝ }
 {
     match n {
         1 => DataWidth::ByM,

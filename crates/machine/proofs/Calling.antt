@@ -12,25 +12,20 @@ use Rattle.cpu.specs.declared.effects.Effect.{Effect}
 use Rattle.cpu.specs.File.{registersOf}
 use Rattle.cpu.specs.View.{kept, viewed, Placed}
 use Rattle.memory.specs.declared.reads.LongRead.{LongRead}
-use Rattle.memory.specs.declared.reads.LongRead.the-variants.{Long, Unmapped as NoLong}
 use Rattle.memory.specs.declared.reads.WordRead.{WordRead}
 use Rattle.memory.specs.declared.stores.Stores.{Stores}
-use Rattle.memory.specs.declared.stores.Stores.the-variants.{None}
 use Rattle.memory.specs.Listed.{listed}
 use Rattle.memory.specs.Reads.{wordRead, longRead}
 use Rattle.memory.proofs.Views.{long-done, long-unmapped}
-use Rattle.types.specs.declared.code.Flow.the-variants.{Return}
+use Rattle.types.specs.declared.code.Flow.{Flow}
 use Rattle.types.specs.declared.code.Instruction.{Instruction}
 use Rattle.types.specs.declared.code.Kind.{Kind}
-use Rattle.types.specs.declared.code.Kind.the-variants.{ByRts, ByRtl}
-use Rattle.types.specs.declared.machine.Answer.the-variants.{Stopped, Called, Completed}
-use Rattle.types.specs.declared.machine.CallChange.the-variants.{Open, Close}
+use Rattle.types.specs.declared.machine.Answer.{Answer}
+use Rattle.types.specs.declared.machine.CallChange.{CallChange}
 use Rattle.types.specs.declared.machine.Core.{Core}
 use Rattle.types.specs.declared.machine.Registers.{Registers}
 use Rattle.types.specs.declared.machine.Served.{Served}
-use Rattle.types.specs.declared.machine.Served.the-variants.{All, Refused}
 use Rattle.types.specs.declared.machine.Stop.{Stop}
-use Rattle.types.specs.declared.machine.Stop.the-variants.{Unmapped, Astray, Deep}
 use Rattle.model.specs.Addressing.{pulledAt}
 use Rattle.model.specs.Arithmetic.{withS, withStatus}
 use Rattle.model.specs.Effects.{pushedAt}
@@ -68,7 +63,7 @@ module _ (m : Memory) (place depth : ℕ) (file : List ℕ) (i : Fetched) (s fir
     (r : LongRead) (is-s : s ≡ registersOf file .s) (is-first : first ≡ (s + 1) % bankSize)
     (is-second : second ≡ (s + 2) % bankSize)
   where
-    pub pulls-word : (w : WordRead) → place < addressLimit → kind ≡ ByRts
+    pub pulls-word : (w : WordRead) → place < addressLimit → kind ≡ Kind.ByRts
         → w ≡ wordRead (come m (wordFrom first second)) → r ≡ inOwnBank place w
         → r ≡ longRead (come m (spec.pullsReturn (coreOf place depth file) (instruction i) kind))
     pulls-word w h is-kind read e =
@@ -80,12 +75,13 @@ module _ (m : Memory) (place depth : ℕ) (file : List ℕ) (i : Fetched) (s fir
         (wordFrom (pulledAt (registersOf file) 1) (pulledAt (registersOf file) 2) >>= (λ a. ret (inBankOf p a)))))
         (sym (place-kept place depth file h)))
 
-    pub pulls-long : kind ≡ ByRtl → third ≡ (s + 3) % bankSize → r ≡ longRead (come m (longFrom first second third))
+    pub pulls-long : kind ≡ Kind.ByRtl → third ≡ (s + 3) % bankSize
+        → r ≡ longRead (come m (longFrom first second third))
         → r ≡ longRead (come m (spec.pullsReturn (coreOf place depth file) (instruction i) kind))
     pulls-long is-kind is-third e = rw (e, is-first, is-second, is-third, is-s, is-kind) refl
 
 -- S put into the file, and the status that was there
-module _ (e : Effect) (v status : ℕ) (is-effect : e ≡ kept 4 v 7 0 status None false) where
+module _ (e : Effect) (v status : ℕ) (is-effect : e ≡ kept 4 v 7 0 status Stores.None false) where
   pub placed : Placed e
   placed = rw is-effect (omega arith, omega arith)
 
@@ -104,31 +100,32 @@ module _ (c : Core) (i : Instruction) where
   abbrev r : Registers
   r = c .registers
 
-  deep : (kind : Kind) → callLimit ≤ c .depth → stops Deep ≡ spec.calls c i kind
+  deep : (kind : Kind) → callLimit ≤ c .depth → stops Stop.Deep ≡ spec.calls c i kind
   unfolding spec.calls
   deep kind h = rw (le-ltb (c .depth) callLimit h) refl
 
   called : (kind : Kind) (place address : ℕ) (stores : Stores) → c .depth < callLimit → place ≡ spec.target c i
       → address ≡ spec.next c i → listed stores ≡ spec.pushesReturn c i kind
       → changes
-      (change (withS (pushedAt r (returnBytes kind)) r) place (Open address (kindNumber kind)) (listed stores))
+      (change (withS (pushedAt r (returnBytes kind)) r) place (CallChange.Open address (kindNumber kind))
+      (listed stores))
       ≡ spec.calls c i kind
   unfolding spec.calls
   called kind place address stores h e e′ e″ = rw (lt-ltb (c .depth) callLimit h, e, e′, e″) refl
 
   module _ (opened : ℕ) (kind : Kind) (address : ℕ) where
-    none-open : c .depth ≡ 0 → stops Astray ≡ returnsTo c i opened kind address
+    none-open : c .depth ≡ 0 → stops Stop.Astray ≡ returnsTo c i opened kind address
     unfolding returnsTo
     none-open h = rw h refl
 
     module _ (n : ℕ) (is-kind : n ≡ kindNumber kind) where
-      other-kind : (kindOf opened ≡ n → ⊥) → stops Astray ≡ returnsTo c i opened kind address
+      other-kind : (kindOf opened ≡ n → ⊥) → stops Stop.Astray ≡ returnsTo c i opened kind address
       unfolding returnsTo
       other-kind h =
           rw (← is-kind, no-second (ltb 0 (c .depth)) (eqb (kindOf opened) n) (ne-eqb (kindOf opened) n h)) refl
 
       returned : 0 < c .depth → kindOf opened ≡ n → returnOf opened ≡ address
-          → changes (change (withS (pulledAt r (returnBytes kind)) r) address Close [])
+          → changes (change (withS (pulledAt r (returnBytes kind)) r) address CallChange.Close [])
           ≡ returnsTo c i opened kind address
       unfolding returnsTo
       returned deep same there =
@@ -138,7 +135,7 @@ module _ (c : Core) (i : Instruction) where
             eq-eqb (returnOf opened) address there,
           ) refl
 
-    other-address : (returnOf opened ≡ address → ⊥) → stops Astray ≡ returnsTo c i opened kind address
+    other-address : (returnOf opened ≡ address → ⊥) → stops Stop.Astray ≡ returnsTo c i opened kind address
     unfolding returnsTo
     other-address h =
         rw (no-second (ltb 0 (c .depth) && eqb (kindOf opened) (kindNumber kind)) (eqb (returnOf opened) address)
@@ -146,12 +143,12 @@ module _ (c : Core) (i : Instruction) where
 
   module _ (m : Memory) (opened : ℕ) (kind : Kind) (w : LongRead)
       (read : w ≡ longRead (come m (spec.pullsReturn c i kind))) where
-    return-unmapped : w ≡ NoLong → stops Unmapped ≡ planBy c i m opened (Return kind)
+    return-unmapped : w ≡ LongRead.Unmapped → stops Stop.Unmapped ≡ planBy c i m opened (Flow.Return kind)
     return-unmapped e =
         sym (pulls-first m c i opened kind (long-unmapped (come m (spec.pullsReturn c i kind)) w read e))
 
-    return-to : (address : ℕ) → w ≡ Long address
-        → returnsTo c i opened kind address ≡ planBy c i m opened (Return kind)
+    return-to : (address : ℕ) → w ≡ LongRead.Long address
+        → returnsTo c i opened kind address ≡ planBy c i m opened (Flow.Return kind)
     unfolding planBy
     return-to address e = rw (long-done (come m (spec.pullsReturn c i kind)) w address read e) refl
 
@@ -165,10 +162,10 @@ module _ (i : Fetched) (m : Memory) (place depth : ℕ) (file calls : List ℕ) 
 
   -- a call
   module _ (kind : Kind) where
-    pub stops-deep : (t : Turn) → t ≡ turn (Stopped Deep) place depth → callLimit ≤ depth
+    pub stops-deep : (t : Turn) → t ≡ turn (Answer.Stopped Stop.Deep) place depth → callLimit ≤ depth
         → left t file calls (m .ram) ≡ finished (spec.calls core (instruction i) kind) i m place depth file calls
     stops-deep t e h =
-        stops-so i m place depth file calls Deep (spec.calls core (instruction i) kind) t e
+        stops-so i m place depth file calls Stop.Deep (spec.calls core (instruction i) kind) t e
         (deep core (instruction i) kind h)
 
     module _ (next s : ℕ) (stores : Stores) (w : Served) (h : place < addressLimit) (below : depth < callLimit)
@@ -185,8 +182,8 @@ module _ (i : Fetched) (m : Memory) (place depth : ℕ) (file calls : List ℕ) 
         after = withS (pushedAt here (returnBytes kind)) here
 
         opened-so : (to : ℕ) → to ≡ targetAddress (instruction i) place
-            → finished (changes (change after to (Open next (kindNumber kind)) (listed stores))) i m place depth file
-            calls
+            → finished (changes (change after to (CallChange.Open next (kindNumber kind)) (listed stores))) i m place
+            depth file calls
             ≡ finished (spec.calls core (instruction i) kind) i m place depth file calls
         opened-so to e =
             ap (λ p. finished p i m place depth file calls)
@@ -194,20 +191,21 @@ module _ (i : Fetched) (m : Memory) (place depth : ℕ) (file calls : List ℕ) 
             (e ∙ ap (targetAddress (instruction i)) (sym (place-kept place depth file h))) next-kept
             (pushed place depth file i is-s next-kept))
 
-        pub stops-pushing : (stop : Stop) (t : Turn) → t ≡ turn (Stopped stop) place depth → w ≡ Refused stop
+        pub stops-pushing : (stop : Stop) (t : Turn) → t ≡ turn (Answer.Stopped stop) place depth
+            → w ≡ Served.Refused stop
             → left t file calls (m .ram) ≡ finished (spec.calls core (instruction i) kind) i m place depth file calls
         stops-pushing stop t e e′ =
             stops-at-stores i m place depth file calls after (targetAddress (instruction i) place)
-            (Open next (kindNumber kind)) (listed stores) stop t e (sym tested ∙ e′)
+            (CallChange.Open next (kindNumber kind)) (listed stores) stop t e (sym tested ∙ e′)
             ∙ opened-so (targetAddress (instruction i) place) refl
 
-        pub calls-so : (to entry : ℕ) (file′ ram′ : List ℕ) → to ≡ targetAddress (instruction i) place → w ≡ All
+        pub calls-so : (to entry : ℕ) (file′ ram′ : List ℕ) → to ≡ targetAddress (instruction i) place → w ≡ Served.All
             → entry ≡ entryOf next (kindNumber kind) → registersOf file′ ≡ widthsAfter (instruction i) here after
             → ram′ ≡ stored (listed stores) (m .ram)
-            → left (turn Called to (depth + 1)) file′ (set calls depth entry) ram′
+            → left (turn Answer.Called to (depth + 1)) file′ (set calls depth entry) ram′
             ≡ finished (spec.calls core (instruction i) kind) i m place depth file calls
         calls-so to entry file′ ram′ is-to all is-entry same is-ram =
-            completes i m place depth file calls after to (Open next (kindNumber kind)) (listed stores) file′
+            completes i m place depth file calls after to (CallChange.Open next (kindNumber kind)) (listed stores) file′
             (set calls depth entry) ram′ (sym tested ∙ all) same (ap (set calls depth) is-entry) is-ram
             ∙ opened-so to is-to
 
@@ -216,45 +214,48 @@ module _ (i : Fetched) (m : Memory) (place depth : ℕ) (file calls : List ℕ) 
     abbrev plan : Plan
     plan = returnsTo core (instruction i) opened kind address
 
-    pub stops-none-open : (t : Turn) → t ≡ turn (Stopped Astray) place depth → depth ≡ 0
+    pub stops-none-open : (t : Turn) → t ≡ turn (Answer.Stopped Stop.Astray) place depth → depth ≡ 0
         → left t file calls (m .ram) ≡ finished plan i m place depth file calls
     stops-none-open t e h =
-        stops-so i m place depth file calls Astray plan t e (none-open core (instruction i) opened kind address h)
+        stops-so i m place depth file calls Stop.Astray plan t e (none-open core (instruction i) opened kind address h)
 
-    pub stops-other-kind : (n : ℕ) (t : Turn) → n ≡ kindNumber kind → t ≡ turn (Stopped Astray) place depth
+    pub stops-other-kind : (n : ℕ) (t : Turn) → n ≡ kindNumber kind → t ≡ turn (Answer.Stopped Stop.Astray) place depth
         → (kindOf opened ≡ n → ⊥) → left t file calls (m .ram) ≡ finished plan i m place depth file calls
     stops-other-kind n t is-kind e h =
-        stops-so i m place depth file calls Astray plan t e
+        stops-so i m place depth file calls Stop.Astray plan t e
         (other-kind core (instruction i) opened kind address n is-kind h)
 
-    pub stops-other-address : (t : Turn) → t ≡ turn (Stopped Astray) place depth → (returnOf opened ≡ address → ⊥)
+    pub stops-other-address : (t : Turn) → t ≡ turn (Answer.Stopped Stop.Astray) place depth
+        → (returnOf opened ≡ address → ⊥)
         → left t file calls (m .ram) ≡ finished plan i m place depth file calls
     stops-other-address t e h =
-        stops-so i m place depth file calls Astray plan t e (other-address core (instruction i) opened kind address h)
+        stops-so i m place depth file calls Stop.Astray plan t e
+        (other-address core (instruction i) opened kind address h)
 
     pub returns-so : (n : ℕ) (file′ : List ℕ) → n ≡ kindNumber kind → 0 < depth → kindOf opened ≡ n
         → returnOf opened ≡ address
         → registersOf file′ ≡ widthsAfter (instruction i) here (withS (pulledAt here (returnBytes kind)) here)
-        → left (turn Completed address (depth - 1)) file′ calls (m .ram) ≡ finished plan i m place depth file calls
+        → left (turn Answer.Completed address (depth - 1)) file′ calls (m .ram)
+        ≡ finished plan i m place depth file calls
     returns-so n file′ is-kind below same there e =
-        completes i m place depth file calls (withS (pulledAt here (returnBytes kind)) here) address Close [] file′
-        calls (m .ram) refl e refl refl
+        completes i m place depth file calls (withS (pulledAt here (returnBytes kind)) here) address CallChange.Close []
+        file′ calls (m .ram) refl e refl refl
         ∙ ap (λ p. finished p i m place depth file calls)
         (returned core (instruction i) opened kind address n is-kind below same there)
 
   module _ (opened s : ℕ) (kind : Kind) (w : LongRead) (is-s : s ≡ here .s)
       (read : (depth : ℕ) (file : List ℕ) (i : Fetched) → s ≡ registersOf file .s
       → w ≡ longRead (come m (spec.pullsReturn (coreOf place depth file) (instruction i) kind))) where
-    pub stops-pulling : (t : Turn) → t ≡ turn (Stopped Unmapped) place depth → w ≡ NoLong
+    pub stops-pulling : (t : Turn) → t ≡ turn (Answer.Stopped Stop.Unmapped) place depth → w ≡ LongRead.Unmapped
         → left t file calls (m .ram)
-        ≡ finished (planBy core (instruction i) m opened (Return kind)) i m place depth file calls
+        ≡ finished (planBy core (instruction i) m opened (Flow.Return kind)) i m place depth file calls
     stops-pulling t e e′ =
-        stops-so i m place depth file calls Unmapped (planBy core (instruction i) m opened (Return kind)) t e
+        stops-so i m place depth file calls Stop.Unmapped (planBy core (instruction i) m opened (Flow.Return kind)) t e
         (return-unmapped core (instruction i) m opened kind w (read depth file i is-s) e′)
 
-    pub pulls-so : (address : ℕ) (after : Stepped) → w ≡ Long address
+    pub pulls-so : (address : ℕ) (after : Stepped) → w ≡ LongRead.Long address
         → after ≡ finished (returnsTo core (instruction i) opened kind address) i m place depth file calls
-        → after ≡ finished (planBy core (instruction i) m opened (Return kind)) i m place depth file calls
+        → after ≡ finished (planBy core (instruction i) m opened (Flow.Return kind)) i m place depth file calls
     pulls-so address after e is-after =
         is-after
         ∙ ap (λ p. finished p i m place depth file calls)

@@ -11,7 +11,6 @@ use Rattle.cpu.specs.File.{registersOf, put, fileSize}
 use Rattle.cpu.specs.View.{viewed, Placed}
 use Rattle.cpu.proofs.Files.{put-three}
 use Rattle.types.specs.declared.code.WidthEffect.{WidthEffect}
-use Rattle.types.specs.declared.code.WidthEffect.the-variants.{KeepWidths, SetM, ClearM, SetBits, ClearBits}
 use Rattle.model.specs.Arithmetic.{withStatus, withWidths}
 use Rattle.model.specs.Rules.{mAfter, xAfter}
 use Rattle.types.specs.Status.{maskM, maskX, isSet, statusOf}
@@ -23,19 +22,19 @@ use Rattle.machine.specs.Fetches.{instruction}
 
 pub m-at-most : (effect : WidthEffect) (m operand : ℕ) → m ≤ 1 → mAfter effect m operand ≤ 1
 unfolding mAfter
-m-at-most KeepWidths m operand h = h
-m-at-most SetM m operand h = omega arith
-m-at-most ClearM m operand h = omega arith
-m-at-most SetBits m operand h = one-of (eqb (operand / 32 % 2) 1) 1 m (omega arith) h
-m-at-most ClearBits m operand h = one-of (eqb (operand / 32 % 2) 1) 0 m (omega arith) h
+m-at-most WidthEffect.KeepWidths m operand h = h
+m-at-most WidthEffect.SetM m operand h = omega arith
+m-at-most WidthEffect.ClearM m operand h = omega arith
+m-at-most WidthEffect.SetBits m operand h = one-of (eqb (operand / 32 % 2) 1) 1 m (omega arith) h
+m-at-most WidthEffect.ClearBits m operand h = one-of (eqb (operand / 32 % 2) 1) 0 m (omega arith) h
 
 pub x-at-most : (effect : WidthEffect) (x operand : ℕ) → x ≤ 1 → xAfter effect x operand ≤ 1
 unfolding xAfter
-x-at-most KeepWidths x operand h = h
-x-at-most SetM x operand h = h
-x-at-most ClearM x operand h = h
-x-at-most SetBits x operand h = one-of (eqb (operand / 16 % 2) 1) 1 x (omega arith) h
-x-at-most ClearBits x operand h = one-of (eqb (operand / 16 % 2) 1) 0 x (omega arith) h
+x-at-most WidthEffect.KeepWidths x operand h = h
+x-at-most WidthEffect.SetM x operand h = h
+x-at-most WidthEffect.ClearM x operand h = h
+x-at-most WidthEffect.SetBits x operand h = one-of (eqb (operand / 16 % 2) 1) 1 x (omega arith) h
+x-at-most WidthEffect.ClearBits x operand h = one-of (eqb (operand / 16 % 2) 1) 0 x (omega arith) h
 
 -- two registers and then the status at the widths after its instruction
 pub put-settled : (file : List ℕ) (e : Effect) (i : Fetched) (n : ℕ) → length file ≡ fileSize → Placed e

@@ -8,13 +8,12 @@ use lib.ListN.{getD}
 use Rattle.actions.specs.Tasks.{unpackedTask}
 use Rattle.actions.specs.Works.{effectBy}
 use Rattle.addressing.specs.declared.reach.DataRead.{DataRead}
-use Rattle.addressing.specs.declared.reach.DataRead.the-variants.{Found, Unmapped as NoData}
 use Rattle.addressing.specs.Found.{dataRead}
 use Rattle.codepages.specs.Packing.{unpacked}
 use Rattle.cpu.specs.declared.effects.Effect.{Effect as Kept}
 use Rattle.cpu.specs.File.{registersOf}
 use Rattle.cpu.specs.View.{viewed, kept}
-use Rattle.memory.specs.declared.stores.Stores.the-variants.{None}
+use Rattle.memory.specs.declared.stores.Stores.{Stores}
 use Rattle.memory.specs.Listed.{listed}
 use Rattle.types.specs.declared.code.Accumulator.{Accumulator}
 use Rattle.types.specs.declared.code.DataWidth.{DataWidth}
@@ -24,9 +23,9 @@ use Rattle.types.specs.declared.machine.Access.{Access}
 use Rattle.types.specs.declared.machine.Core.{Core}
 use Rattle.types.specs.declared.machine.Data.{Data}
 use Rattle.types.specs.declared.machine.Registers.{Registers}
-use Rattle.types.specs.declared.machine.CallChange.the-variants.{Keep}
-use Rattle.types.specs.declared.machine.Stop.the-variants.{Unmapped, Decimal}
-use Rattle.types.specs.declared.machine.Answer.the-variants.{Completed, Stopped}
+use Rattle.types.specs.declared.machine.CallChange.{CallChange}
+use Rattle.types.specs.declared.machine.Stop.{Stop}
+use Rattle.types.specs.declared.machine.Answer.{Answer}
 use Rattle.model.specs.Addressing.{accessOf, isShort, dataOf}
 use Rattle.prelude.specs.Choice.{pick}
 use Rattle.model.specs.Effects.{Effect, effectOf}
@@ -50,17 +49,17 @@ pub not-taken : (branches taken : Bool) (target next to : ℕ) → taken ≡ fal
 not-taken true taken target next to h e = rw h e
 not-taken false taken target next to h e = e
 
-data-done : (o : Outcome Data) (w : DataRead) (d : Data) → w ≡ dataRead o → w ≡ Found d → o ≡ done d
+data-done : (o : Outcome Data) (w : DataRead) (d : Data) → w ≡ dataRead o → w ≡ DataRead.Found d → o ≡ done d
 data-done (done u) w d e e′ = cc
 data-done unmapped w d e e′ = cc
 
-data-unmapped : (o : Outcome Data) (w : DataRead) → w ≡ dataRead o → w ≡ NoData → o ≡ unmapped
+data-unmapped : (o : Outcome Data) (w : DataRead) → w ≡ dataRead o → w ≡ DataRead.Unmapped → o ≡ unmapped
 data-unmapped (done u) w e e′ = cc
 data-unmapped unmapped w e e′ = cc
 
 -- what an operation's effect comes to, with where it goes on
 abbrev plannedBy : (Bool → ℕ) → Effect → Plan
-plannedBy goes e = changes (change (e .registers) (goes (e .taken)) Keep (e .stores))
+plannedBy goes e = changes (change (e .registers) (goes (e .taken)) CallChange.Keep (e .stores))
 
 module _ (i : Fetched) (m : Memory) (place depth : ℕ) (file : List ℕ) where
   abbrev c : Core
@@ -81,10 +80,11 @@ module _ (i : Fetched) (m : Memory) (place depth : ℕ) (file : List ℕ) where
     is-tested : isDecimal (accessOf (entry .operation)) r ≡ decimal
     is-tested = ap (λ a. isDecimal a r) (sym asked-so) ∙ sym tested
 
-    pub stops-decimal : decimal ≡ true → (t : Turn) → t ≡ turn (Stopped Decimal) place depth → (calls : List ℕ)
+    pub stops-decimal : decimal ≡ true → (t : Turn) → t ≡ turn (Answer.Stopped Stop.Decimal) place depth
+        → (calls : List ℕ)
         → left t file calls (m .ram) ≡ finished (operates c (instruction i) m goes) i m place depth file calls
     stops-decimal h t is-turn calls =
-        stops-so i m place depth file calls Decimal (operates c (instruction i) m goes) t is-turn
+        stops-so i m place depth file calls Stop.Decimal (operates c (instruction i) m goes) t is-turn
         (sym (decimal-first m c (instruction i) goes (is-tested ∙ h)))
 
     module _ (h : decimal ≡ false) (width : DataWidth) (is-width : width ≡ entry .width)
@@ -104,16 +104,18 @@ module _ (i : Fetched) (m : Memory) (place depth : ℕ) (file : List ℕ) where
       again : w ≡ dataRead asked
       again = read ∙ rw (asked-so, is-mode, is-named, short-so) refl
 
-      unmapped-plan : w ≡ NoData → stops Unmapped ≡ operates c (instruction i) m goes
+      unmapped-plan : w ≡ DataRead.Unmapped → stops Stop.Unmapped ≡ operates c (instruction i) m goes
       unfolding operates
       unmapped-plan e = rw (is-tested, h, data-unmapped asked w again e) refl
 
-      pub stops-unmapped : w ≡ NoData → (t : Turn) → t ≡ turn (Stopped Unmapped) place depth → (calls : List ℕ)
+      pub stops-unmapped : w ≡ DataRead.Unmapped → (t : Turn) → t ≡ turn (Answer.Stopped Stop.Unmapped) place depth
+          → (calls : List ℕ)
           → left t file calls (m .ram) ≡ finished (operates c (instruction i) m goes) i m place depth file calls
       stops-unmapped e t is-turn calls =
-          stops-so i m place depth file calls Unmapped (operates c (instruction i) m goes) t is-turn (unmapped-plan e)
+          stops-so i m place depth file calls Stop.Unmapped (operates c (instruction i) m goes) t is-turn
+          (unmapped-plan e)
 
-      module _ (given : Data) (found : w ≡ Found given) (inside : place < addressLimit)
+      module _ (given : Data) (found : w ≡ DataRead.Found given) (inside : place < addressLimit)
           (next : ℕ) (is-next : next ≡ nextAddress place (i .length)) (e : Kept)
           (is-effect : viewed e r ≡ effectBy mode short (i .operand) next given file (unpackedTask task))
           (to : ℕ) (is-to : to ≡ goes (e .taken)) where
@@ -128,33 +130,33 @@ module _ (i : Fetched) (m : Memory) (place depth : ℕ) (file : List ℕ) where
             ∙ is-task .1 mode short (i .operand) next given file
             ∙ rw (is-mode, short-so, next-so) refl
 
-        works-so : changes (change (viewed e r .registers) to Keep (listed (e .stores)))
+        works-so : changes (change (viewed e r .registers) to CallChange.Keep (listed (e .stores)))
             ≡ spec.works c (instruction i) goes given
         works-so =
-            ap (λ n. changes (change (viewed e r .registers) n Keep (listed (e .stores)))) is-to
+            ap (λ n. changes (change (viewed e r .registers) n CallChange.Keep (listed (e .stores)))) is-to
             ∙ ap (plannedBy goes) effect-so
 
-        worked-plan : changes (change (viewed e r .registers) to Keep (listed (e .stores)))
+        worked-plan : changes (change (viewed e r .registers) to CallChange.Keep (listed (e .stores)))
             ≡ operates c (instruction i) m goes
         unfolding operates
         worked-plan = rw (is-tested, h, data-done asked w given again found) works-so
 
         pub works-on : (t : Turn) (file′ ram′ : List ℕ)
             → ((calls : List ℕ) → left t file′ calls ram′
-            ≡ finished (changes (change (viewed e r .registers) to Keep (listed (e .stores)))) i m place depth file
-            calls)
+            ≡ finished (changes (change (viewed e r .registers) to CallChange.Keep (listed (e .stores)))) i m place
+            depth file calls)
             → (calls : List ℕ)
             → left t file′ calls ram′ ≡ finished (operates c (instruction i) m goes) i m place depth file calls
         works-on t file′ ram′ finishes calls =
             finishes calls ∙ ap (λ p. finished p i m place depth file calls) worked-plan
 
   -- a jump leaves the registers but for the widths
-  pub jumped : (e : Kept) → e ≡ kept 7 0 7 0 (getD file 7 0) None false
+  pub jumped : (e : Kept) → e ≡ kept 7 0 7 0 (getD file 7 0) Stores.None false
       → (file′ : List ℕ) → registersOf file′ ≡ widthsAfter (instruction i) r (viewed e r .registers)
       → (to target : ℕ) → to ≡ target → (calls : List ℕ)
-      → left (turn Completed to depth) file′ calls (m .ram)
-      ≡ finished (changes (change r target Keep [])) i m place depth file calls
+      → left (turn Answer.Completed to depth) file′ calls (m .ram)
+      ≡ finished (changes (change r target CallChange.Keep [])) i m place depth file calls
   jumped e is-effect file′ same to target is-to calls =
-      ap (λ n. left (turn Completed n depth) file′ calls (m .ram)) is-to
-      ∙ completes i m place depth file calls r target Keep [] file′ calls (m .ram) refl
+      ap (λ n. left (turn Answer.Completed n depth) file′ calls (m .ram)) is-to
+      ∙ completes i m place depth file calls r target CallChange.Keep [] file′ calls (m .ram) refl
       (same ∙ ap (λ k. widthsAfter (instruction i) r (viewed k r .registers)) is-effect) refl refl

@@ -12,14 +12,13 @@ use denote.Enum.Declared.{tagOf}
 use Rattle.cpu.specs.File.{registersOf}
 use Rattle.model.proofs.code.Flow.{the-type}
 use Rattle.types.specs.declared.code.Kind.{Kind}
-use Rattle.types.specs.declared.code.Decoded.the-variants.{Whole}
+use Rattle.types.specs.declared.code.Decoded.{Decoded}
 use Rattle.types.specs.declared.code.Flow.{Flow}
-use Rattle.types.specs.declared.code.Flow.the-variants.{Next, Branch, Jump, Call, Return, Halt}
 use Rattle.types.specs.declared.code.Instruction.{Instruction}
-use Rattle.types.specs.declared.machine.CallChange.the-variants.{Keep}
+use Rattle.types.specs.declared.machine.CallChange.{CallChange}
 use Rattle.types.specs.declared.machine.Core.{Core}
-use Rattle.types.specs.declared.machine.Stop.the-variants.{Outside, Uncarried, Halt as Halted}
-use Rattle.types.specs.declared.machine.Answer.the-variants.{Stopped}
+use Rattle.types.specs.declared.machine.Stop.{Stop}
+use Rattle.types.specs.declared.machine.Answer.{Answer}
 use Rattle.prelude.specs.Choice.{pick}
 use Rattle.types.specs.Addresses.{addressLimit}
 use Rattle.model.specs.Memory.{Memory}
@@ -28,8 +27,6 @@ use Rattle.model.specs.Step.{Plan, Stepped, stops, changes, change, operates, c
 use Rattle.machine.specs.declared.commit.Turn.{Turn}
 use Rattle.machine.specs.declared.fetch.Fetched.{Fetched}
 use Rattle.machine.specs.declared.fetch.Fetch.{Fetch}
-use Rattle.machine.specs.declared.fetch.Fetch.the-variants.{Whole as Found}
-use Rattle.machine.specs.declared.fetch.Fetch.the-variants.{NotCarried as NoCode, CutOff as Nothing}
 use Rattle.machine.specs.Fetches.{instruction, decodedAs, isBranch}
 use Rattle.machine.specs.Turns.{state, coreOf, turn, left, finished, goesBy}
 use Rattle.machine.proofs.Turning.{place-kept, core-kept}
@@ -49,64 +46,68 @@ module _ (i : Fetched) (m : Memory) (place depth : ℕ) (file opens : List ℕ) 
 
   module _ (flow : Flow) (is-flow : flow ≡ there .entry .flow) (after : Stepped) where
     by-plan : (p : Plan) → after ≡ finished p i m place depth file opens → p ≡ planBy c there m opened flow
-        → after ≡ onDecoded (Whole there) m (state c opens)
+        → after ≡ onDecoded (Decoded.Whole there) m (state c opens)
     by-plan p e e′ = rw (e, e′, is-flow) refl
 
     -- an operation goes on at the next address, or by its target where it branches
     pub by-operation : OneOf (0 ∷ 1 ∷ []) (tagOf the-type flow) → (branches : Bool) → branches ≡ isBranch flow
         → after ≡ finished (operates c there m (goesBy branches i place)) i m place depth file opens
-        → after ≡ onDecoded (Whole there) m (state c opens)
+        → after ≡ onDecoded (Decoded.Whole there) m (state c opens)
     unfolding planBy
     by-operation h branches e e′ =
         by-plan (operates c there m (goesBy branches i place)) e′ (by flow h branches e)
       where
         by : (f : Flow) → OneOf (0 ∷ 1 ∷ []) (tagOf the-type f) → (b : Bool) → b ≡ isBranch f
             → operates c there m (goesBy b i place) ≡ planBy c there m opened f
-        by Next h b e =
+        by Flow.Next h b e =
             rw e
             (ap (λ p. operates c there m (λ taken. nextAddress p (i .length)))
             (sym (place-kept place depth file inside)))
-        by Branch h b e =
+        by Flow.Branch h b e =
             rw e
             (ap (λ p. operates c there m (λ taken. pick taken (targetAddress there p) (nextAddress p (i .length))))
             (sym (place-kept place depth file inside)))
-        by Jump h b e = absurd (past-keys 2 (omega arith) h)
-        by (Call kind) h b e = absurd (past-keys 3 (omega arith) h)
-        by (Return kind) h b e = absurd (past-keys 4 (omega arith) h)
-        by Halt h b e = absurd (past-keys 5 (omega arith) h)
+        by Flow.Jump h b e = absurd (past-keys 2 (omega arith) h)
+        by (Flow.Call kind) h b e = absurd (past-keys 3 (omega arith) h)
+        by (Flow.Return kind) h b e = absurd (past-keys 4 (omega arith) h)
+        by Flow.Halt h b e = absurd (past-keys 5 (omega arith) h)
 
-    pub by-jump : flow ≡ Jump
+    pub by-jump : flow ≡ Flow.Jump
         → after
-        ≡ finished (changes (change (registersOf file) (targetAddress there place) Keep [])) i m place depth file opens
-        → after ≡ onDecoded (Whole there) m (state c opens)
+        ≡ finished (changes (change (registersOf file) (targetAddress there place) CallChange.Keep [])) i m place depth
+        file opens
+        → after ≡ onDecoded (Decoded.Whole there) m (state c opens)
     unfolding planBy
     by-jump e e′ =
-        by-plan (changes (change (registersOf file) (targetAddress there place) Keep [])) e′ (rw e jumped)
+        by-plan (changes (change (registersOf file) (targetAddress there place) CallChange.Keep [])) e′ (rw e jumped)
       where
-        jumped : changes (change (registersOf file) (targetAddress there place) Keep []) ≡ planBy c there m opened Jump
+        jumped : changes (change (registersOf file) (targetAddress there place) CallChange.Keep [])
+            ≡ planBy c there m opened Flow.Jump
         jumped =
-            ap (λ p. changes (change (registersOf file) (targetAddress there p) Keep []))
+            ap (λ p. changes (change (registersOf file) (targetAddress there p) CallChange.Keep []))
             (sym (place-kept place depth file inside))
 
-    pub by-call : (kind : Kind) → flow ≡ Call kind → after ≡ finished (calls c there kind) i m place depth file opens
-        → after ≡ onDecoded (Whole there) m (state c opens)
+    pub by-call : (kind : Kind) → flow ≡ Flow.Call kind
+        → after ≡ finished (calls c there kind) i m place depth file opens
+        → after ≡ onDecoded (Decoded.Whole there) m (state c opens)
     unfolding planBy
     by-call kind e e′ = by-plan (calls c there kind) e′ (rw e called)
       where
-        called : calls c there kind ≡ planBy c there m opened (Call kind)
+        called : calls c there kind ≡ planBy c there m opened (Flow.Call kind)
         called = refl
 
-    pub by-return : (kind : Kind) (last : ℕ) → flow ≡ Return kind → last ≡ opened
-        → after ≡ finished (planBy c there m last (Return kind)) i m place depth file opens
-        → after ≡ onDecoded (Whole there) m (state c opens)
-    by-return kind last e e′ e″ = by-plan (planBy c there m last (Return kind)) e″ (rw (e, e′) refl)
+    pub by-return : (kind : Kind) (last : ℕ) → flow ≡ Flow.Return kind → last ≡ opened
+        → after ≡ finished (planBy c there m last (Flow.Return kind)) i m place depth file opens
+        → after ≡ onDecoded (Decoded.Whole there) m (state c opens)
+    by-return kind last e e′ e″ = by-plan (planBy c there m last (Flow.Return kind)) e″ (rw (e, e′) refl)
 
-    pub by-halt : (t : Turn) → flow ≡ Halt → t ≡ turn (Stopped Halted) place depth → after ≡ left t file opens (m .ram)
-        → after ≡ onDecoded (Whole there) m (state c opens)
+    pub by-halt : (t : Turn) → flow ≡ Flow.Halt → t ≡ turn (Answer.Stopped Stop.Halt) place depth
+        → after ≡ left t file opens (m .ram)
+        → after ≡ onDecoded (Decoded.Whole there) m (state c opens)
     unfolding planBy
-    by-halt t e e′ e″ = by-plan (stops Halted) (rw (e″, e′) refl) (rw e halted)
+    by-halt t e e′ e″ = by-plan (stops Stop.Halt) (rw (e″, e′) refl) (rw e halted)
       where
-        halted : stops Halted ≡ planBy c there m opened Halt
+        halted : stops Stop.Halt ≡ planBy c there m opened Flow.Halt
         halted = refl
 
 module _ (m : Memory) (place depth : ℕ) (file opens : List ℕ) (found : Fetch) where
@@ -121,14 +122,15 @@ module _ (m : Memory) (place depth : ℕ) (file opens : List ℕ) (found : Fetch
         e ∙ ap (λ d. onDecoded d m (state here opens)) is-fetched
         ∙ ap (λ c. onDecoded (fetched m c) m (state c opens)) (core-kept place depth file)
 
-    pub step-whole : (i : Fetched) → found ≡ Found i → after ≡ onDecoded (Whole (instruction i)) m (state here opens)
+    pub step-whole : (i : Fetched) → found ≡ Fetch.Whole i
+        → after ≡ onDecoded (Decoded.Whole (instruction i)) m (state here opens)
         → after ≡ step m (state (coreOf place depth file) opens)
     step-whole i e e′ = by-fetch (rw e e′)
 
-    pub step-uncarried : (t : Turn) → found ≡ NoCode → t ≡ turn (Stopped Uncarried) place depth
+    pub step-uncarried : (t : Turn) → found ≡ Fetch.NotCarried → t ≡ turn (Answer.Stopped Stop.Uncarried) place depth
         → after ≡ left t file opens (m .ram) → after ≡ step m (state (coreOf place depth file) opens)
     step-uncarried t e e′ e″ = by-fetch (rw (e, e″, e′, core-kept place depth file) refl)
 
-    pub step-outside : (t : Turn) → found ≡ Nothing → t ≡ turn (Stopped Outside) place depth
+    pub step-outside : (t : Turn) → found ≡ Fetch.CutOff → t ≡ turn (Answer.Stopped Stop.Outside) place depth
         → after ≡ left t file opens (m .ram) → after ≡ step m (state (coreOf place depth file) opens)
     step-outside t e e′ e″ = by-fetch (rw (e, e″, e′, core-kept place depth file) refl)

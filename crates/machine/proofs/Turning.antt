@@ -5,10 +5,10 @@ use mathlib.Core.List.{List}
 use Prim.Native.Nat.{ℕ, _/_, _%_, _<_}
 use native.Mathlib.Omega.{arith}
 use Rattle.cpu.specs.File.{registersOf}
-use Rattle.types.specs.declared.machine.Answer.the-variants.{Stopped}
+use Rattle.types.specs.declared.machine.Answer.{Answer}
 use Rattle.types.specs.declared.machine.CallChange.{CallChange}
 use Rattle.types.specs.declared.machine.Registers.{Registers}
-use Rattle.types.specs.declared.machine.Served.the-variants.{All, Refused}
+use Rattle.types.specs.declared.machine.Served.{Served}
 use Rattle.types.specs.declared.machine.Stop.{Stop}
 use Rattle.types.specs.declared.machine.Store.{Store}
 use Rattle.types.specs.Addresses.{addressLimit, bankSize}
@@ -30,18 +30,18 @@ core-kept place depth file =
 
 module _ (i : Fetched) (m : Memory) (place depth : ℕ) (file calls : List ℕ) where
   -- a plan that stops leaves all as it was
-  pub stops-so : (stop : Stop) (p : Plan) (t : Turn) → t ≡ turn (Stopped stop) place depth → stops stop ≡ p
+  pub stops-so : (stop : Stop) (p : Plan) (t : Turn) → t ≡ turn (Answer.Stopped stop) place depth → stops stop ≡ p
       → left t file calls (m .ram) ≡ finished p i m place depth file calls
   stops-so stop p t e e′ = rw (e, ← e′) refl
 
   module _ (after : Registers) (to : ℕ) (opens : CallChange) (stores : List Store) where
-    pub stops-at-stores : (stop : Stop) (t : Turn) → t ≡ turn (Stopped stop) place depth
-        → served m stores ≡ Refused stop
+    pub stops-at-stores : (stop : Stop) (t : Turn) → t ≡ turn (Answer.Stopped stop) place depth
+        → served m stores ≡ Served.Refused stop
         → left t file calls (m .ram) ≡ finished (changes (change after to opens stores)) i m place depth file calls
     stops-at-stores stop t e e′ = rw (e, e′) refl
 
     -- all parts of a change carried out
-    pub completes : (file′ calls′ ram′ : List ℕ) → served m stores ≡ All
+    pub completes : (file′ calls′ ram′ : List ℕ) → served m stores ≡ Served.All
         → registersOf file′ ≡ widthsAfter (instruction i) (registersOf file) after
         → calls′ ≡ callsAfter opens depth calls → ram′ ≡ stored stores (m .ram)
         → left (turn (answerOf opens) to (depthAfter opens depth)) file′ calls′ ram′

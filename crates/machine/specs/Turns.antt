@@ -8,9 +8,7 @@ use Rattle.machine.specs.declared.commit.Turn.{Turn}
 use Rattle.machine.specs.declared.fetch.Fetched.{Fetched}
 use Rattle.machine.specs.Fetches.{instruction}
 use Rattle.memory.specs.declared.reads.WordRead.{WordRead}
-use Rattle.memory.specs.declared.reads.WordRead.the-variants.{Word, Unmapped as NoWord}
 use Rattle.memory.specs.declared.reads.LongRead.{LongRead}
-use Rattle.memory.specs.declared.reads.LongRead.the-variants.{Long, Unmapped as NoLong}
 use Rattle.types.specs.declared.machine.Answer.{Answer}
 use Rattle.types.specs.declared.machine.Core.{Core}
 use Rattle.types.specs.declared.machine.State.{State}
@@ -50,5 +48,5 @@ goesBy branches i place taken =
 
 -- a word that was read, as an address of the bank of execution
 abbrev pub inOwnBank : ℕ → WordRead → LongRead
-inOwnBank place (Word address) = Long (inBankOf place address)
-inOwnBank place NoWord = NoLong
+inOwnBank place (WordRead.Word address) = LongRead.Long (inBankOf place address)
+inOwnBank place WordRead.Unmapped = LongRead.Unmapped

@@ -23,8 +23,8 @@ ghost use lib.ListN.{length};
 ghost use Rattle.cpu.specs.File.{registersOf, fileSize};
 ghost use Rattle.cpu.specs.View.{viewed, Placed};
 ghost use Rattle.memory.specs.Listed.{listed};
-ghost use Rattle.types.specs.declared.machine.Answer.the-variants.{Stopped};
-ghost use Rattle.types.specs.declared.machine.CallChange.the-variants.{Keep};
+ghost use Rattle.types.specs.declared.machine.Answer.{Answer};
+ghost use Rattle.types.specs.declared.machine.CallChange.{CallChange};
 ghost use Rattle.model.specs.Arithmetic.{withWidths};
 ghost use Rattle.model.specs.Memory.{memory};
 ghost use Rattle.model.specs.Rules.{mAfter, xAfter};
@@ -43,7 +43,7 @@ pub struct Turn {
 
 // A step that stopped.
 pub(crate) fn stopped(stop: Stop, place: u32, depth: usize) -> Turn
-    ensures { λ r. ⌜ r ≡ turn (Stopped stop) place depth ⌝ }
+    ensures { λ r. ⌜ r ≡ turn (Answer.Stopped stop) place depth ⌝ }
 {
     Turn {
         answer: Answer::Stopped(stop),
@@ -105,7 +105,7 @@ pub(crate) fn finish(
         ((calls : List ℕ) → left r (now (registers .exit)) calls (now (ram .exit))
         ≡ finished
         (spec.changes
-        (spec.change (viewed effect (registersOf (now (registers .entry))) .registers) to Keep
+        (spec.change (viewed effect (registersOf (now (registers .entry))) .registers) to CallChange.Keep
         (listed (effect .stores))))
         i (memory (now (ram .entry)) (now (image .entry)) base) place depth (now (registers .entry)) calls)
         × (length (now (registers .exit)) ≡ fileSize)

@@ -44,7 +44,7 @@ ghost use Prim.Native.Nat.{ℕ, _≤_, _<_};
 ghost use lib.ListN.{length};
 ghost use Rattle.cpu.specs.File.{registersOf, fileSize};
 ghost use Rattle.memory.specs.Listed.{listed};
-ghost use Rattle.types.specs.declared.machine.CallChange.the-variants.{Keep};
+ghost use Rattle.types.specs.declared.machine.CallChange.{CallChange};
 ghost use Rattle.types.specs.Addresses.{addressLimit};
 ghost use Rattle.model.specs.Memory.{Memory, memory};
 ghost use Rattle.model.specs.Rules.{targetAddress, kindNumber};
@@ -151,7 +151,7 @@ pub(crate) fn jumps(i: Fetched, place: u32, depth: usize, registers: &mut [u16; 
         ((m : Memory) (calls : List ℕ) → left r (now (registers .exit)) calls (m .ram)
         ≡ finished
         (spec.changes
-        (spec.change (registersOf (now (registers .entry))) (targetAddress (instruction i) place) Keep []))
+        (spec.change (registersOf (now (registers .entry))) (targetAddress (instruction i) place) CallChange.Keep []))
         i m place depth (now (registers .entry)) calls)
         × (length (now (registers .exit)) ≡ fileSize)
         ⌝ }

@@ -25,7 +25,7 @@ ghost use Prim.Native.Nat.{ℕ, _<_};
 ghost use lib.ListN.{length};
 ghost use Rattle.cpu.specs.File.{registersOf, fileSize};
 ghost use Rattle.memory.specs.Reads.{longRead};
-ghost use Rattle.types.specs.declared.code.Flow.the-variants.{Return};
+ghost use Rattle.types.specs.declared.code.Flow.{Flow};
 ghost use Rattle.types.specs.Addresses.{addressLimit};
 ghost use Rattle.model.specs.Memory.{Memory, memory, come};
 ghost use Rattle.model.specs.Step as spec;
@@ -118,7 +118,7 @@ pub(crate) fn returns(
         ((calls : List ℕ) → left r (now (registers .exit)) calls (now (ram .entry))
         ≡ finished
         (spec.planBy (coreOf place depth (now (registers .entry))) (instruction i)
-        (memory (now (ram .entry)) (now (image .entry)) base) opened (Return kind))
+        (memory (now (ram .entry)) (now (image .entry)) base) opened (Flow.Return kind))
         i (memory (now (ram .entry)) (now (image .entry)) base) place depth (now (registers .entry)) calls)
         × (length (now (registers .exit)) ≡ fileSize)
         ⌝ }

@@ -22,7 +22,7 @@ ghost use Prim.Native.Nat.{_+_, _-_, _≤_, _<_};
 ghost use lib.ListN.{length, getD};
 ghost use Rattle.codepages.specs.Packing.{numbers};
 ghost use Rattle.cpu.specs.File.{fileSize};
-ghost use Rattle.types.specs.declared.code.Decoded.the-variants.{Whole};
+ghost use Rattle.types.specs.declared.code.Decoded.{Decoded};
 ghost use Rattle.types.specs.Addresses.{addressLimit};
 ghost use Rattle.model.specs.Image.{imageLimit};
 ghost use Rattle.model.specs.Memory.{memory};
@@ -73,7 +73,7 @@ fn perform(
         ⌝ }
     ensures { λ r. ⌜
         (left r (now (registers .exit)) (now (calls .exit)) (now (ram .exit))
-        ≡ spec.onDecoded (Whole (instruction i)) (memory (now (ram .entry)) (now (image .entry)) base)
+        ≡ spec.onDecoded (Decoded.Whole (instruction i)) (memory (now (ram .entry)) (now (image .entry)) base)
         (state (coreOf place depth (now (registers .entry))) (now (calls .entry))))
         × (length (now (registers .exit)) ≡ fileSize)
         ⌝ }

@@ -12,8 +12,8 @@ use lib.Dec.{eqb, ltb}
 use lib.ListN.{length, getD, drop, length-drop, List·getD-eq-default}
 use Rattle.types.specs.declared.lists.Header.{Header}
 use Rattle.types.specs.declared.refusals.Refusal.{Refusal}
-use Rattle.types.specs.declared.refusals.TestResult.the-variants.{Passed, Failed}
-use Rattle.types.specs.declared.lists.ListRead.the-variants.{NotRead, Read}
+use Rattle.types.specs.declared.refusals.TestResult.{TestResult}
+use Rattle.types.specs.declared.lists.ListRead.{ListRead}
 use Rattle.types.specs.Refusals.{firstRefusal}
 use Rattle.text.specs.Text.{startsWith}
 use Rattle.types.specs.Addresses.{bankSize, inBankOf}
@@ -119,12 +119,12 @@ module _ (h : Header) (text : List ℕ) (small : h .reset < bankSize) (address :
 -- ---- the answer
 
 module _ (text marks : List ℕ) (h : Header) (headed-so : h ≡ headerShown text) where
-  pub refused : {why : Refusal} → Failed why ≡ firstRefusal (readTests h text (length marks))
-      → (NotRead why ≡ readList text marks) × (marks ≡ marksRead text marks)
+  pub refused : {why : Refusal} → TestResult.Failed why ≡ firstRefusal (readTests h text (length marks))
+      → (ListRead.NotRead why ≡ readList text marks) × (marks ≡ marksRead text marks)
   unfolding readList readAs marksRead marksBy
   refused e = (rw (← headed-so, ← e), rw (← headed-so, ← e))
 
-  pub is-read : Passed ≡ firstRefusal (readTests h text (length marks))
-      → (Read h ≡ readList text marks) × (marksOf h text ≡ marksRead text marks)
+  pub is-read : TestResult.Passed ≡ firstRefusal (readTests h text (length marks))
+      → (ListRead.Read h ≡ readList text marks) × (marksOf h text ≡ marksRead text marks)
   unfolding readList readAs marksRead marksBy
   is-read e = (rw (← headed-so, ← e), rw (← headed-so, ← e))

@@ -10,9 +10,8 @@ use lib.ListN.{length, take, drop, length-append}
 use borrow.Rule.Slice.PartMut.{putMid}
 use Rattle.types.specs.declared.lists.Header.{Header}
 use Rattle.types.specs.declared.refusals.Refusal.{Refusal}
-use Rattle.types.specs.declared.refusals.Refusal.the-variants as refusal
-use Rattle.types.specs.declared.refusals.TestResult.the-variants.{Passed, Failed}
-use Rattle.types.specs.declared.lists.ListWritten.the-variants.{NotWritten, Written}
+use Rattle.types.specs.declared.refusals.TestResult.{TestResult}
+use Rattle.types.specs.declared.lists.ListWritten.{ListWritten}
 use Rattle.types.specs.Addresses.{bankSize}
 use Rattle.types.specs.Refusals.{firstRefusal}
 use Rattle.model.specs.Verdict.{marksTests}
@@ -21,26 +20,27 @@ use Rattle.model.proofs.TestResults.{passes, fails, holds, goes-on}
 use Rattle.text.proofs.Pages.{Front, front-next}
 
 module _ (marks : List ℕ) (base reset : ℕ) (page : List ℕ) where
-  pub refused : {why : Refusal} → Failed why ≡ firstRefusal (writeTests marks base reset page)
-      → (NotWritten why ≡ writeList marks base reset page) × (page ≡ pageWritten marks base reset page)
+  pub refused : {why : Refusal} → TestResult.Failed why ≡ firstRefusal (writeTests marks base reset page)
+      → (ListWritten.NotWritten why ≡ writeList marks base reset page) × (page ≡ pageWritten marks base reset page)
   unfolding writeList pageWritten pageBy
   refused e = (rw (← e), rw (← e))
 
   abbrev pub first-line : Header
   first-line = record { base = base; length = length marks; reset = reset }
 
-  module _ (passed : Passed ≡ firstRefusal (marksTests (length marks) marks base reset)) (size : ℕ)
+  module _ (passed : TestResult.Passed ≡ firstRefusal (marksTests (length marks) marks base reset)) (size : ℕ)
       (s : size ≡ length (listText marks base reset)) where
-    pub short-page : length page < size → Failed refusal.Page ≡ firstRefusal (writeTests marks base reset page)
+    pub short-page : length page < size
+        → TestResult.Failed Refusal.Page ≡ firstRefusal (writeTests marks base reset page)
     short-page short =
         goes-on (marksTests (length marks) marks base reset) _ passed refl
         (fails {given = false} _ _ (sym (rw (← s) (lt-leb size (length page) short))) refl)
 
-    pub is-written : size ≤ length page → (Written size ≡ writeList marks base reset page)
+    pub is-written : size ≤ length page → (ListWritten.Written size ≡ writeList marks base reset page)
         × (listText marks base reset ++ drop size page ≡ pageWritten marks base reset page)
     unfolding writeList pageWritten pageBy
     is-written long =
-        let all : Passed ≡ firstRefusal (writeTests marks base reset page) =
+        let all : TestResult.Passed ≡ firstRefusal (writeTests marks base reset page) =
         goes-on (marksTests (length marks) marks base reset) _ passed refl
         (holds {given = true} _ _ (sym (rw (← s) (le-leb size (length page) long))) refl passes) in
         (rw (← all, s), rw (← all, s))

@@ -2,21 +2,19 @@
 -- Assumes nothing.
 use Prim.Native.Nat.{ℕ, _<_}
 use Rattle.memory.specs.declared.reads.WordRead.{WordRead}
-use Rattle.memory.specs.declared.reads.WordRead.the-variants.{Word, Unmapped as NoWord}
 use Rattle.memory.specs.declared.reads.LongRead.{LongRead}
-use Rattle.memory.specs.declared.reads.LongRead.the-variants.{Long, Unmapped as NoLong}
 use Rattle.types.specs.Addresses.{addressLimit}
 use Rattle.model.specs.Memory.{Outcome, done, unmapped}
 
 abbrev pub wordRead : Outcome ℕ → WordRead
-wordRead (done v) = Word v
-wordRead unmapped = NoWord
+wordRead (done v) = WordRead.Word v
+wordRead unmapped = WordRead.Unmapped
 
 abbrev pub longRead : Outcome ℕ → LongRead
-longRead (done v) = Long v
-longRead unmapped = NoLong
+longRead (done v) = LongRead.Long v
+longRead unmapped = LongRead.Unmapped
 
 -- three bytes make an address
 abbrev pub IsLong : LongRead → Type 0
-IsLong (Long v) = v < addressLimit
-IsLong NoLong = Unit {0}
+IsLong (LongRead.Long v) = v < addressLimit
+IsLong LongRead.Unmapped = Unit {0}

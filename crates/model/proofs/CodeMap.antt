@@ -10,17 +10,12 @@ use native.Mathlib.Omega.{arith}
 use lib.Dec.{T, leb, leb→le, ltb, eqb, eqb·suc-zero}
 use lib.ListN.{getD}
 use Rattle.types.specs.declared.code.Operation.{Operation}
-use Rattle.types.specs.declared.code.Operation.the-variants.{CLP, SEP}
 use Rattle.types.specs.declared.code.Entry.{Entry}
 use Rattle.types.specs.declared.code.Kind.{Kind}
 use Rattle.types.specs.declared.code.Flow.{Flow}
-use Rattle.types.specs.declared.code.Flow.the-variants.{Next, Branch, Jump, Call, Return, Halt}
 use Rattle.types.specs.declared.code.WidthEffect.{WidthEffect}
-use Rattle.types.specs.declared.code.WidthEffect.the-variants.{KeepWidths, SetM, ClearM, SetBits, ClearBits}
 use Rattle.types.specs.declared.code.LengthRule.{LengthRule}
-use Rattle.types.specs.declared.code.LengthRule.the-variants.{Fixed, MoreByM, MoreByX}
 use Rattle.types.specs.declared.machine.Residence.{Residence}
-use Rattle.types.specs.declared.machine.Residence.the-variants.{Memory, Instruction, Register}
 use Rattle.model.specs.Operations.{isIn}
 use Rattle.model.specs.Addressing.{residenceOf}
 use Rattle.model.specs.CodePages.{Form, none, plain, behind42, behind89, pages}
@@ -78,19 +73,19 @@ bytes-at-most page code = leb→le (entryAt page code .bytes) 6 (tested-at short
 
 -- 'Only SEM, CLM, SEP and CLP change them': no call and no return does
 abbrev keepsWidths : WidthEffect → Bool
-keepsWidths KeepWidths = true
-keepsWidths SetM = false
-keepsWidths ClearM = false
-keepsWidths SetBits = false
-keepsWidths ClearBits = false
+keepsWidths WidthEffect.KeepWidths = true
+keepsWidths WidthEffect.SetM = false
+keepsWidths WidthEffect.ClearM = false
+keepsWidths WidthEffect.SetBits = false
+keepsWidths WidthEffect.ClearBits = false
 
 abbrev keepsBy : Flow → WidthEffect → Bool
-keepsBy Next effect = true
-keepsBy Branch effect = true
-keepsBy Jump effect = true
-keepsBy (Call kind) effect = keepsWidths effect
-keepsBy (Return kind) effect = keepsWidths effect
-keepsBy Halt effect = true
+keepsBy Flow.Next effect = true
+keepsBy Flow.Branch effect = true
+keepsBy Flow.Jump effect = true
+keepsBy (Flow.Call kind) effect = keepsWidths effect
+keepsBy (Flow.Return kind) effect = keepsWidths effect
+keepsBy Flow.Halt effect = true
 
 abbrev keeping : ℕ → Entry → Bool
 keeping prefix e = keepsBy (e .flow) (e .effect)
@@ -99,12 +94,12 @@ all-keeping : T (every (page-test keeping) 0 pages)
 unfolding pages plain behind42 behind89
 all-keeping = tt
 
-kept : (effect : WidthEffect) → T (keepsWidths effect) → effect ≡ KeepWidths
-kept KeepWidths t = refl
-kept SetM t = absurd t
-kept ClearM t = absurd t
-kept SetBits t = absurd t
-kept ClearBits t = absurd t
+kept : (effect : WidthEffect) → T (keepsWidths effect) → effect ≡ WidthEffect.KeepWidths
+kept WidthEffect.KeepWidths t = refl
+kept WidthEffect.SetM t = absurd t
+kept WidthEffect.ClearM t = absurd t
+kept WidthEffect.SetBits t = absurd t
+kept WidthEffect.ClearBits t = absurd t
 
 module _ (page code : ℕ) (kind : Kind) where
   abbrev entry : Entry
@@ -113,32 +108,33 @@ module _ (page code : ℕ) (kind : Kind) where
   kept-by : (flow : Flow) → entry .flow ≡ flow → T (keepsBy flow (entry .effect))
   kept-by flow same = rw same at (tested-at keeping (λ p. tt) all-keeping page code)
 
-  pub call-keeps : entry .flow ≡ Call kind → entry .effect ≡ KeepWidths
-  call-keeps h = kept (entry .effect) (kept-by (Call kind) h)
+  pub call-keeps : entry .flow ≡ Flow.Call kind → entry .effect ≡ WidthEffect.KeepWidths
+  call-keeps h = kept (entry .effect) (kept-by (Flow.Call kind) h)
 
-  pub return-keeps : entry .flow ≡ Return kind → entry .effect ≡ KeepWidths
-  return-keeps h = kept (entry .effect) (kept-by (Return kind) h)
+  pub return-keeps : entry .flow ≡ Flow.Return kind → entry .effect ≡ WidthEffect.KeepWidths
+  return-keeps h = kept (entry .effect) (kept-by (Flow.Return kind) h)
 
 -- the data of SEP and CLP stands behind the code
 abbrev isBehind : Residence → Bool
-isBehind Memory = false
-isBehind Instruction = true
-isBehind Register = false
+isBehind Residence.Memory = false
+isBehind Residence.Instruction = true
+isBehind Residence.Register = false
 
 abbrev behindCode : ℕ → Entry → Bool
-behindCode prefix e = not (isIn (SEP ∷ CLP ∷ []) (e .operation)) || isBehind (residenceOf (e .mode))
+behindCode prefix e = not (isIn (Operation.SEP ∷ Operation.CLP ∷ []) (e .operation)) || isBehind (residenceOf (e .mode))
 
 all-behind : T (every (page-test behindCode) 0 pages)
 unfolding pages plain behind42 behind89
 all-behind = tt
 
-is-behind : (r : Residence) → T (isBehind r) → r ≡ Instruction
-is-behind Memory t = absurd t
-is-behind Instruction t = refl
-is-behind Register t = absurd t
+is-behind : (r : Residence) → T (isBehind r) → r ≡ Residence.Instruction
+is-behind Residence.Memory t = absurd t
+is-behind Residence.Instruction t = refl
+is-behind Residence.Register t = absurd t
 
 pub data-behind : (page code : ℕ) (operation : Operation) → entryAt page code .operation ≡ operation
-    → isIn (SEP ∷ CLP ∷ []) operation ≡ true → residenceOf (entryAt page code .mode) ≡ Instruction
+    → isIn (Operation.SEP ∷ Operation.CLP ∷ []) operation ≡ true
+    → residenceOf (entryAt page code .mode) ≡ Residence.Instruction
 data-behind page code operation same one =
     is-behind (residenceOf (entryAt page code .mode))
     (rw (same, one) at (tested-at behindCode (λ p. tt) all-behind page code))
@@ -150,11 +146,11 @@ narrow (suc n) = 1
 
 more-narrow : (r : LengthRule) (m x : ℕ) → moreBytes r m x ≡ moreBytes r (narrow m) (narrow x)
 unfolding narrow
-more-narrow Fixed m x = refl
-more-narrow MoreByM zero x = refl
-more-narrow MoreByM (suc m) x = rw eqb·suc-zero
-more-narrow MoreByX m zero = refl
-more-narrow MoreByX m (suc x) = rw eqb·suc-zero
+more-narrow LengthRule.Fixed m x = refl
+more-narrow LengthRule.MoreByM zero x = refl
+more-narrow LengthRule.MoreByM (suc m) x = rw eqb·suc-zero
+more-narrow LengthRule.MoreByX m zero = refl
+more-narrow LengthRule.MoreByX m (suc x) = rw eqb·suc-zero
 
 four : (a b c d : Bool) → T (a && b && c && d) → T a × T b × T c × T d
 four true true true true t = (tt, tt, tt, tt)
@@ -187,6 +183,6 @@ carried-length page code m x h =
 
 -- the widths add one byte at most
 pub more-at-most : (r : LengthRule) (m x : ℕ) → moreBytes r m x ≤ 1
-more-at-most Fixed m x = omega arith
-more-at-most MoreByM m x = one-or-none (eqb m 0)
-more-at-most MoreByX m x = one-or-none (eqb x 0)
+more-at-most LengthRule.Fixed m x = omega arith
+more-at-most LengthRule.MoreByM m x = one-or-none (eqb m 0)
+more-at-most LengthRule.MoreByX m x = one-or-none (eqb x 0)

@@ -5,32 +5,30 @@
 use mathlib.Core.Path.{_≡_, refl}
 use mathlib.Core.Bool.{Bool, true, false}
 use mathlib.Core.List.{List, [], _∷_}
-use Prim.Native.Nat.{ℕ, zero, suc, _+_, _-_, _^_, _≤_, _<_}
-use native.Mathlib.Nat.{pow-suc}
+use Prim.Native.Nat.{ℕ, _+_, _-_, _^_, _≤_, _<_}
 use native.Mathlib.Omega.{arith}
 use borrow.Author.Tests.{leb-true}
 use lib.Dec.{ltb, leb}
 use lib.ListN.{length, getD, take, drop, length-take, length-drop}
-use lib.Seq.{getD-drop, take-all}
+use lib.Seq.{take-all}
 use Rattle.prelude.proofs.Bytes.{bytes-take, bytes-drop}
 use Rattle.fields.proofs.Fields.{number-bound}
 use Rattle.types.specs.declared.code.Entry.{Entry}
 use Rattle.types.specs.declared.code.Instruction.{Instruction}
 use Rattle.types.specs.declared.code.Decoded.{Decoded}
-use Rattle.types.specs.declared.code.Decoded.the-variants.{Whole, NotCarried, CutOff}
 use Rattle.prelude.specs.Choice.{pick}
 use Rattle.model.specs.CodeMap.{prefixBytes, entryAt, lengthAt}
 use Rattle.prelude.specs.Bytes.{AllBytes}
-use Rattle.fields.specs.Fields.{number}
 use Rattle.model.specs.Decode.{pageOf, operandOf, judged, decodeOn, decode}
 use Rattle.model.proofs.CodeMap.{carried-length}
 
-passed-or-cut : (t : Bool) (d : Decoded) (i : Instruction) → pick t d CutOff ≡ Whole i → (t ≡ true) × (d ≡ Whole i)
+passed-or-cut : (t : Bool) (d : Decoded) (i : Instruction) → pick t d Decoded.CutOff ≡ Decoded.Whole i
+    → (t ≡ true) × (d ≡ Decoded.Whole i)
 passed-or-cut true d i h = (refl, h)
 passed-or-cut false d i h = let z : _≡_ {A = ℕ} 0 1 = cc in absurd (omega arith)
 
-passed-or-not-carried : (t : Bool) (d : Decoded) (i : Instruction) → pick t d NotCarried ≡ Whole i
-    → (t ≡ true) × (d ≡ Whole i)
+passed-or-not-carried : (t : Bool) (d : Decoded) (i : Instruction) → pick t d Decoded.NotCarried ≡ Decoded.Whole i
+    → (t ≡ true) × (d ≡ Decoded.Whole i)
 passed-or-not-carried true d i h = (refl, h)
 passed-or-not-carried false d i h = let z : _≡_ {A = ℕ} 0 1 = cc in absurd (omega arith)
 
@@ -42,7 +40,7 @@ pub record Passed (page : ℕ) (bytes : List ℕ) (m x : ℕ) (i : Instruction) 
   pub inside : i .length ≤ length bytes
   pub operand : i .operand ≡ operandOf bytes (prefixBytes page) (i .length)
 
-same-whole : (i j : Instruction) → Whole i ≡ Whole j → i ≡ j
+same-whole : (i j : Instruction) → Decoded.Whole i ≡ Decoded.Whole j → i ≡ j
 same-whole i j h = cc
 
 made : (page : ℕ) (bytes : List ℕ) (m x : ℕ) (e : Entry) (n : ℕ) → e ≡ entryAt page (getD bytes (prefixBytes page) 0)
@@ -57,7 +55,7 @@ made page bytes m x e n at-code at-widths carried inside =
       operand = refl;
     }
 
-passed : (page : ℕ) (bytes : List ℕ) (m x : ℕ) (i : Instruction) → decodeOn page bytes m x ≡ Whole i
+passed : (page : ℕ) (bytes : List ℕ) (m x : ℕ) (i : Instruction) → decodeOn page bytes m x ≡ Decoded.Whole i
     → Passed page bytes m x i
 unfolding decodeOn judged
 passed page bytes m x i h =
@@ -87,14 +85,14 @@ decodes-on page bytes m x i p =
       inside = p .inside;
     }
 
-pub decodes : (bytes : List ℕ) (m x : ℕ) (i : Instruction) → decode bytes m x ≡ Whole i → Decodes bytes i
+pub decodes : (bytes : List ℕ) (m x : ℕ) (i : Instruction) → decode bytes m x ≡ Decoded.Whole i → Decodes bytes i
 unfolding decode
 decodes bytes m x i h =
     let page = pageOf (getD bytes 0 0) in
     decodes-on page bytes m x i (passed page bytes m x i h)
 
 -- an instruction's entry is the code map's, and its length what the code map counts at these widths
-pub decoded-entry : (bytes : List ℕ) (m x : ℕ) (i : Instruction) → decode bytes m x ≡ Whole i
+pub decoded-entry : (bytes : List ℕ) (m x : ℕ) (i : Instruction) → decode bytes m x ≡ Decoded.Whole i
     → (i .entry ≡ entryAt (pageOf (getD bytes 0 0)) (getD bytes (prefixBytes (pageOf (getD bytes 0 0))) 0))
     × (i .length ≡ lengthAt (i .entry) m x)
 unfolding decode
@@ -106,7 +104,7 @@ part-length : (n k : ℕ) (bytes : List ℕ) → n ≤ length bytes → length (
 part-length n k bytes h = simp (length-take, length-drop) (omega arith)
 
 -- the operand is below the bound of its bytes
-pub operand-bound : (bytes : List ℕ) (m x : ℕ) (i : Instruction) → AllBytes bytes → decode bytes m x ≡ Whole i
+pub operand-bound : (bytes : List ℕ) (m x : ℕ) (i : Instruction) → AllBytes bytes → decode bytes m x ≡ Decoded.Whole i
     → i .operand < 256 ^ (i .length - (prefixBytes (pageOf (getD bytes 0 0)) + 1))
 unfolding decode
 operand-bound bytes m x i small h =
@@ -118,7 +116,7 @@ operand-bound bytes m x i small h =
     let below = number-bound part (bytes-take (n - k) (drop k bytes) (bytes-drop k bytes small)) in
     rw (p .operand) (rw (part-length n k bytes (p .inside)) at below)
 
-pub decode-nothing : (bytes : List ℕ) (m x : ℕ) → length bytes ≡ 0 → CutOff ≡ decode bytes m x
+pub decode-nothing : (bytes : List ℕ) (m x : ℕ) → length bytes ≡ 0 → Decoded.CutOff ≡ decode bytes m x
 unfolding decode decodeOn
 decode-nothing [] m x h = refl
 decode-nothing (b ∷ bs) m x h = absurd (omega arith)

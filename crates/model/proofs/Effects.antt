@@ -8,31 +8,19 @@ use native.Mathlib.Omega.{arith}
 use lib.ListN.{getD}
 use Rattle.types.specs.declared.code.Mode.{Mode}
 use Rattle.types.specs.declared.code.Accumulator.{Accumulator}
-use Rattle.types.specs.declared.code.Accumulator.the-variants.{Unnamed, A, B}
 use Rattle.types.specs.declared.code.Operation.{Operation}
-use Rattle.types.specs.declared.code.Operation.the-variants.{Unassigned}
-use Rattle.types.specs.declared.code.Operation.the-variants.{ADC, AND, ASL, BBC, BBS, BCC, BCS, BEQ, BMI}
-use Rattle.types.specs.declared.code.Operation.the-variants.{BNE, BPL, BRA, BRK, BVC, BVS, CLB, CLC, CLI}
-use Rattle.types.specs.declared.code.Operation.the-variants.{CLM, CLP, CLV, CMP, CPX, CPY, DEC, DEX, DEY}
-use Rattle.types.specs.declared.code.Operation.the-variants.{DIV, EOR, INC, INX, INY, JMP, JSR, LDA, LDM}
-use Rattle.types.specs.declared.code.Operation.the-variants.{LDT, LDX, LDY, LSR, MPY, MVN, MVP, NOP, ORA}
-use Rattle.types.specs.declared.code.Operation.the-variants.{PEA, PEI, PER, PHA, PHB, PHD, PHG, PHP, PHT}
-use Rattle.types.specs.declared.code.Operation.the-variants.{PHX, PHY, PLA, PLB, PLD, PLP, PLT, PLX, PLY}
-use Rattle.types.specs.declared.code.Operation.the-variants.{PSH, PUL, RLA, ROL, ROR, RTI, RTL, RTS, SBC}
-use Rattle.types.specs.declared.code.Operation.the-variants.{SEB, SEC, SEI, SEM, SEP, STA, STP, STX, STY}
-use Rattle.types.specs.declared.code.Operation.the-variants.{TAD, TAS, TAX, TAY, TBD, TBS, TBX, TBY, TDA}
-use Rattle.types.specs.declared.code.Operation.the-variants.{TDB, TSA, TSB, TSX, TXA, TXB, TXS, TXY, TYA}
-use Rattle.types.specs.declared.code.Operation.the-variants.{TYB, TYX, WIT, XAB}
+use Rattle.types.specs.declared.code.Operation.the-variants as ops
+use ops.{Unassigned, ADC, AND, ASL, BBC, BBS, BCC, BCS, BEQ, BMI, BNE, BPL, BRA, BRK, BVC, BVS, CLB, CLC, CLI, CLM}
+use ops.{CLP, CLV, CMP, CPX, CPY, DEC, DEX, DEY, DIV, EOR, INC, INX, INY, JMP, JSR, LDA, LDM, LDT, LDX, LDY, LSR}
+use ops.{MPY, MVN, MVP, NOP, ORA, PEA, PEI, PER, PHA, PHB, PHD, PHG, PHP, PHT, PHX, PHY, PLA, PLB, PLD, PLP, PLT}
+use ops.{PLX, PLY, PSH, PUL, RLA, ROL, ROR, RTI, RTL, RTS, SBC, SEB, SEC, SEI, SEM, SEP, STA, STP, STX, STY, TAD}
+use ops.{TAS, TAX, TAY, TBD, TBS, TBX, TBY, TDA, TDB, TSA, TSB, TSX, TXA, TXB, TXS, TXY, TYA, TYB, TYX, WIT, XAB}
 use Rattle.types.specs.declared.machine.Registers.{Registers}
 use Rattle.types.specs.declared.machine.Status.{Status}
 use Rattle.types.specs.declared.machine.Data.{Data}
 use Rattle.types.specs.declared.machine.Access.{Access}
-use Rattle.types.specs.declared.machine.Access.the-variants.{Operand, Addend, Address, Pull, DirectWord}
 use Rattle.types.specs.declared.machine.Residence.{Residence}
-use Rattle.types.specs.declared.machine.Residence.the-variants.{Memory as InMemory, Instruction as Immediate}
-use Rattle.types.specs.declared.machine.Residence.the-variants.{Register}
 use Rattle.types.specs.declared.machine.ByteRead.{ByteRead}
-use Rattle.types.specs.declared.machine.ByteRead.the-variants.{Byte, Unmapped as NoByte}
 use Rattle.types.specs.declared.machine.Store.{Store}
 use Rattle.prelude.specs.Choice.{pick}
 use Rattle.prelude.specs.Bytes.{AllBytes}
@@ -65,8 +53,8 @@ Comes P (done v) = P v
 Comes P unmapped = Unit {0}
 
 abbrev ByteOnly : ByteRead → Type 0
-ByteOnly (Byte b) = b < 256
-ByteOnly NoByte = Unit {0}
+ByteOnly (ByteRead.Byte b) = b < 256
+ByteOnly ByteRead.Unmapped = Unit {0}
 
 module _ (m : Memory) (in-ram : AllBytes (m .ram)) (in-image : AllBytes (m .image)) where
   byte-read : (at : ℕ) → ByteOnly (byteAt m at)
@@ -74,7 +62,8 @@ module _ (m : Memory) (in-ram : AllBytes (m .ram)) (in-image : AllBytes (m .imag
   byte-read at = by (inRam m at) (inImage m at)
     where
       by : (b c : Bool)
-          → ByteOnly (pick b (Byte (getD (m .ram) at 0)) (pick c (Byte (getD (m .image) (at - m .base) 0)) NoByte))
+          → ByteOnly (pick b (ByteRead.Byte (getD (m .ram) at 0))
+          (pick c (ByteRead.Byte (getD (m .image) (at - m .base) 0)) ByteRead.Unmapped))
       by true c = in-ram at
       by false true = in-image (at - m .base)
       by false false = tt
@@ -85,8 +74,8 @@ module _ (m : Memory) (in-ram : AllBytes (m .ram)) (in-image : AllBytes (m .imag
     where
       by : (b : ByteRead) → ByteOnly b → ((byte : ℕ) → byte < 256 → Comes P (come m (more byte)))
           → Comes P (onByte b (λ byte. come m (more byte)))
-      by (Byte b) small on = on b small
-      by NoByte small on = tt
+      by (ByteRead.Byte b) small on = on b small
+      by ByteRead.Unmapped small on = tt
 
 abbrev pub SmallData : Data → Type 0
 SmallData d = d .value < 65_536
@@ -103,19 +92,19 @@ data-from false at then place = λ byte small high small′. omega arith
 module _ (mode : Mode) (named : Accumulator) (r : Registers) (short : Bool) (operand : ℕ) where
   operand-small : (p : Residence) → Yields SmallData (operandBy p mode named r short operand)
   unfolding operandBy
-  operand-small InMemory =
+  operand-small Residence.Memory =
       yields-after SmallData (addressOf mode r operand) _ (λ address. data-from short address (address + 1) address)
-  operand-small Immediate = low-small short operand
-  operand-small Register = low-small short (accumulatorOf named r)
+  operand-small Residence.Instruction = low-small short operand
+  operand-small Residence.Register = low-small short (accumulatorOf named r)
 
   pub data-small : (a : Access) → Yields SmallData (dataOf a mode named r short operand)
   unfolding dataOf
-  data-small Operand = operand-small (residenceOf mode)
-  data-small Addend = operand-small (residenceOf mode)
-  data-small Address =
+  data-small Access.Operand = operand-small (residenceOf mode)
+  data-small Access.Addend = operand-small (residenceOf mode)
+  data-small Access.Address =
       yields-after SmallData (addressOf mode r operand) (λ address. ret (dataAt address 0)) (λ address. omega arith)
-  data-small Pull = data-from short (pulledAt r 1) (pulledAt r 2) 0
-  data-small DirectWord = data-from false (direct r operand) (direct r operand + 1) 0
+  data-small Access.Pull = data-from short (pulledAt r 1) (pulledAt r 2) 0
+  data-small Access.DirectWord = data-from false (direct r operand) (direct r operand + 1) 0
 
 -- ---- what an operation leaves
 
@@ -162,9 +151,9 @@ module _ (r : Registers) (h : InWidth r) where
     loads-y = omega (arith, merged-small short (r .y) n (h .y))
 
     loads-in : (named : Accumulator) → InWidth (loads named (bits short) n r)
-    loads-in Unnamed = loads-a
-    loads-in A = loads-a
-    loads-in B = loads-b
+    loads-in Accumulator.Unnamed = loads-a
+    loads-in Accumulator.A = loads-a
+    loads-in Accumulator.B = loads-b
 
 stores-small : (short : Bool) (address v : ℕ) → SmallStores (storesOf short address v)
 stores-small true address v = omega arith
@@ -192,9 +181,9 @@ module _ (mode : Mode) (named : Accumulator) (short : Bool) (operand next : ℕ)
   modified carry v = by (residenceOf mode)
     where
       by : (p : Residence) → Fine (modifiesBy p named short (d .address) carry v r)
-      by InMemory = (flags _ (h .level), stores-small short (d .address) (low (bits short) v))
-      by Immediate = (loads-in _ (flags _ (h .level)) short v named, tt)
-      by Register = (loads-in _ (flags _ (h .level)) short v named, tt)
+      by Residence.Memory = (flags _ (h .level), stores-small short (d .address) (low (bits short) v))
+      by Residence.Instruction = (loads-in _ (flags _ (h .level)) short v named, tt)
+      by Residence.Register = (loads-in _ (flags _ (h .level)) short v named, tt)
 
   pub effect-fine : (operation : Operation) → Fine (effectOf mode named short operand next d r operation)
   unfolding effectOf

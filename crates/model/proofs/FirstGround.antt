@@ -11,7 +11,6 @@ use lib.Dec.{eqb}
 use borrow.Author.Tests.{eqb-true, eqb-false, not-true}
 use Rattle.types.specs.declared.refusals.Refusal.{Refusal}
 use Rattle.types.specs.declared.refusals.TestResult.{TestResult}
-use Rattle.types.specs.declared.refusals.TestResult.the-variants.{Passed, Failed}
 use Rattle.types.specs.Refusals.{refusalNumber, Tests, firstRefusal, answered}
 use Rattle.model.specs.Grounds.{Grounds, FirstGround, NoGround, AnswersBy}
 use Rattle.model.proofs.TestResults.{failed-passed, passes, refusal-range, same-refusal}
@@ -44,10 +43,11 @@ Decided [] tests = Unit {0}
 
 -- ---- one test before others
 
-failed-by : {why other : Refusal} → Failed why ≡ Failed other → why ≡ other
+failed-by : {why other : Refusal} → TestResult.Failed why ≡ TestResult.Failed other → why ≡ other
 failed-by e = cc
 
-never-given : (why : Refusal) (tests : Tests) → notGiven why tests ≡ true → firstRefusal tests ≡ Failed why → ⊥
+never-given : (why : Refusal) (tests : Tests) → notGiven why tests ≡ true → firstRefusal tests ≡ TestResult.Failed why
+    → ⊥
 unfolding firstRefusal
 never-given why [] apart e = failed-passed (sym e)
 never-given why ((true, other) ∷ rest) apart e =
@@ -66,25 +66,25 @@ module _ (Ground More : Type 0) (number why : Refusal) (rest : Tests) where
   First is = elim is [ true ↦ Ground | false ↦ (Ground → ⊥) × More ]
 
   one-first : (test is : Bool) → isSame number why ≡ is → notGiven number rest ≡ true
-      → (test ≡ false) ↔ Ground → (test ≡ true → (firstRefusal rest ≡ Failed why) ↔ More)
-      → (firstRefusal ((test, number) ∷ rest) ≡ Failed why) ↔ First is
+      → (test ≡ false) ↔ Ground → (test ≡ true → (firstRefusal rest ≡ TestResult.Failed why) ↔ More)
+      → (firstRefusal ((test, number) ∷ rest) ≡ TestResult.Failed why) ↔ First is
   unfolding firstRefusal
   one-first true true e apart decided more = (
-    λ f. absurd (never-given number rest apart (f ∙ ap Failed (sym (same e)))),
+    λ f. absurd (never-given number rest apart (f ∙ ap TestResult.Failed (sym (same e)))),
     λ g. absurd (true≢false (decided .1 g)),
   )
   one-first true false e apart decided more = (
     λ f. (λ g. true≢false (decided .1 g), more refl .0 f),
     λ first. more refl .1 (first .1),
   )
-  one-first false true e apart decided more = (λ f. decided .0 refl, λ g. ap Failed (same e))
+  one-first false true e apart decided more = (λ f. decided .0 refl, λ g. ap TestResult.Failed (same e))
   one-first false false e apart decided more = (
     λ f. absurd (eqb-false (refusalNumber number) (refusalNumber why) e (ap refusalNumber (failed-by f))),
     λ first. absurd (first .0 (decided .0 refl)),
   )
 
-  one-none : (test : Bool) → (test ≡ false) ↔ Ground → (test ≡ true → (firstRefusal rest ≡ Passed) ↔ More)
-      → (firstRefusal ((test, number) ∷ rest) ≡ Passed) ↔ ((Ground → ⊥) × More)
+  one-none : (test : Bool) → (test ≡ false) ↔ Ground → (test ≡ true → (firstRefusal rest ≡ TestResult.Passed) ↔ More)
+      → (firstRefusal ((test, number) ∷ rest) ≡ TestResult.Passed) ↔ ((Ground → ⊥) × More)
   unfolding firstRefusal
   one-none true decided more = (
     λ p. (λ g. true≢false (decided .1 g), more refl .0 p),
@@ -96,7 +96,7 @@ module _ (Ground More : Type 0) (number why : Refusal) (rest : Tests) where
 
 module _ (why : Refusal) where
   pub first-exactly : (grounds : Grounds) (tests : Tests) → agrees grounds tests ≡ true → Decided grounds tests
-      → (firstRefusal tests ≡ Failed why) ↔ FirstGround grounds why
+      → (firstRefusal tests ≡ TestResult.Failed why) ↔ FirstGround grounds why
   first-exactly [] [] a decided = (λ e. failed-passed (sym e ∙ sym passes), λ none. absurd none)
   first-exactly [] (test ∷ tests) a decided = absurd (true≢false (sym a))
   first-exactly (ground ∷ grounds) [] a decided = absurd (true≢false (sym a))
@@ -109,7 +109,7 @@ module _ (why : Refusal) where
       (decided .0) (λ passed. first-exactly grounds tests (outer .1) (decided .1 passed)))
 
 pub none-exactly : (grounds : Grounds) (tests : Tests) → agrees grounds tests ≡ true → Decided grounds tests
-    → (firstRefusal tests ≡ Passed) ↔ NoGround grounds
+    → (firstRefusal tests ≡ TestResult.Passed) ↔ NoGround grounds
 none-exactly [] [] a decided = (λ e. tt, λ none. sym passes)
 none-exactly [] (test ∷ tests) a decided = absurd (true≢false (sym a))
 none-exactly (ground ∷ grounds) [] a decided = absurd (true≢false (sym a))
@@ -144,16 +144,16 @@ module _ {A : Type 0} (refused : Refusal → A) (done : A) where
     where
       given : (so : TestResult)
           → (answered so refused done ≡ done) ⊎ ((why : Refusal) × (answered so refused done ≡ refused why))
-      given Passed = inl refl
-      given (Failed why) = inr (why, refl)
+      given TestResult.Passed = inl refl
+      given (TestResult.Failed why) = inr (why, refl)
 
-      failed : (so : TestResult) (why : Refusal) → answered so refused done ≡ refused why → so ≡ Failed why
-      failed Passed why e = absurd (apart .none why (sym e))
-      failed (Failed other) why e = ap Failed (apart .one other why e)
+      failed : (so : TestResult) (why : Refusal) → answered so refused done ≡ refused why → so ≡ TestResult.Failed why
+      failed TestResult.Passed why e = absurd (apart .none why (sym e))
+      failed (TestResult.Failed other) why e = ap TestResult.Failed (apart .one other why e)
 
-      passed : (so : TestResult) → answered so refused done ≡ done → so ≡ Passed
-      passed Passed e = refl
-      passed (Failed why) e = absurd (apart .none why e)
+      passed : (so : TestResult) → answered so refused done ≡ done → so ≡ TestResult.Passed
+      passed TestResult.Passed e = refl
+      passed (TestResult.Failed why) e = absurd (apart .none why e)
 
 -- the same of the number in an answer, 0 where nothing is refused
 pub numbers-by : {A : Type 0} {grounds : Grounds} {refused : Refusal → A} {done answer : A} (number : A → ℕ)

@@ -14,16 +14,15 @@ use borrow.Author.Tests.{lt-ltb, le-ltb, lt-leb, eq-eqb, ne-eqb}
 use lib.Dec.{eqb, ltb, leb}
 use lib.ListN.{length, getD, List·getD-eq-default}
 use Rattle.types.specs.declared.lists.Header.{Header}
-use Rattle.types.specs.declared.lists.ListRead.the-variants.{NotRead, Read}
-use Rattle.types.specs.declared.lists.ListWritten.the-variants.{NotWritten, Written}
+use Rattle.types.specs.declared.lists.ListRead.{ListRead}
+use Rattle.types.specs.declared.lists.ListWritten.{ListWritten}
 use Rattle.types.specs.declared.machine.State.{State}
 use Rattle.types.specs.declared.machine.Status.{Status}
 use Rattle.types.specs.declared.refusals.TestResult.{TestResult}
-use Rattle.types.specs.declared.refusals.TestResult.the-variants.{Passed, Failed}
-use Rattle.types.specs.declared.runs.RunAnswer.the-variants.{NotRun, Ended}
+use Rattle.types.specs.declared.runs.RunAnswer.{RunAnswer}
 use Rattle.prelude.specs.Choice.{pick}
 use Rattle.types.specs.Addresses.{bankSize, addressLimit}
-use Rattle.model.specs.Image.{imageLimit, isStart, markM, markX, markKind, returnM}
+use Rattle.model.specs.Image.{imageLimit, isStart, markKind, returnM}
 use Rattle.types.specs.Addresses.{inBankOf}
 use Rattle.model.specs.Image.{returnX, markOf, isFormed, lengthFits, baseFits, markAt, resetFits}
 use Rattle.types.specs.Refusals.{firstRefusal, answered}
@@ -39,7 +38,8 @@ use Rattle.model.specs.Run.{admission, played, ran}
 use Rattle.model.specs.StateBytes.{stateSize, stateOf}
 use Rattle.model.specs.RunBytes.{bytesFit, ranBytesBy, ranBytes}
 use Rattle.model.specs.Grounds.{WrongSize, WrongLength, WrongBase, IsResetStart, WrongReset, IsMark, WrongMark}
-use Rattle.model.specs.Grounds.{WrongRam, WrongCall, WrongState, WrongBytes, runGrounds, RunAnswers, RunBytesAnswers}
+use Rattle.model.specs.Grounds.{WrongRam, WrongCall, WrongState, WrongBytes, runGrounds, RunAnswers}
+use Rattle.model.specs.Grounds.{RunBytesAnswers}
 use Rattle.model.specs.Grounds.{readGrounds, ReadAnswers, writeGrounds, WriteAnswers}
 use Rattle.prelude.proofs.Choice.{both-true}
 use Rattle.prelude.proofs.First.{none-found}
@@ -289,7 +289,7 @@ run-decided m fits asked state = (
   ),
 )
 
-run-apart : (m : Memory) (s : State) (asked : ℕ) → Apart NotRun (played m s asked .answer)
+run-apart : (m : Memory) (s : State) (asked : ℕ) → Apart RunAnswer.NotRun (played m s asked .answer)
 run-apart m s asked = record {
   one = λ why other e. cc;
   none = λ why e. let z : _≡_ {A = ℕ} 0 1 = cc in absurd (omega arith);
@@ -299,13 +299,13 @@ run-apart m s asked = record {
 pub run-answers : RunAnswers
 run-answers m s asked =
     rw (by (admission m s asked) refl)
-    (answers-by NotRun (played m s asked .answer) (run-apart m s asked) (runGrounds m (WrongState s) asked)
+    (answers-by RunAnswer.NotRun (played m s asked .answer) (run-apart m s asked) (runGrounds m (WrongState s) asked)
     (runTests m (stateFits s) asked) refl (run-decided m (stateFits s) asked (wrong-state s)))
   where
     by : (so : TestResult) → admission m s asked ≡ so
-        → ran m s asked .answer ≡ answered (admission m s asked) NotRun (played m s asked .answer)
-    by Passed e = ap (λ r. r .answer) (admitted-ran m s asked e .1) ∙ rw e refl
-    by (Failed why) e = ap (λ r. r .answer) (refused-ran m s asked why e .1) ∙ rw e refl
+        → ran m s asked .answer ≡ answered (admission m s asked) RunAnswer.NotRun (played m s asked .answer)
+    by TestResult.Passed e = ap (λ r. r .answer) (admitted-ran m s asked e .1) ∙ rw e refl
+    by (TestResult.Failed why) e = ap (λ r. r .answer) (refused-ran m s asked why e .1) ∙ rw e refl
 
 pub run-bytes-answers : RunBytesAnswers
 unfolding ranBytes
@@ -313,19 +313,19 @@ run-bytes-answers m bytes asked =
     let s = stateOf bytes in
     let tests = runTests m (bytesFit bytes) asked in
     rw (by (firstRefusal tests))
-    (answers-by NotRun (played m s asked .answer) (run-apart m s asked) (runGrounds m (WrongBytes bytes) asked)
-    tests refl (run-decided m (bytesFit bytes) asked (wrong-bytes bytes)))
+    (answers-by RunAnswer.NotRun (played m s asked .answer) (run-apart m s asked)
+    (runGrounds m (WrongBytes bytes) asked) tests refl (run-decided m (bytesFit bytes) asked (wrong-bytes bytes)))
   where
     by : (so : TestResult)
-        → ranBytesBy so m bytes asked .answer ≡ answered so NotRun (played m (stateOf bytes) asked .answer)
-    by Passed = refl
-    by (Failed why) = refl
+        → ranBytesBy so m bytes asked .answer ≡ answered so RunAnswer.NotRun (played m (stateOf bytes) asked .answer)
+    by TestResult.Passed = refl
+    by (TestResult.Failed why) = refl
 
 -- the reader by that of 'Reader: 14, 1, 2, 3'
 pub read-answers : ReadAnswers
 unfolding readList readAs
 read-answers text marks =
-    answers-by NotRead (Read h)
+    answers-by ListRead.NotRead (ListRead.Read h)
     (record {
       one = λ why other e. cc;
       none = λ why e. let z : _≡_ {A = ℕ} 0 1 = cc in absurd (omega arith);
@@ -349,7 +349,7 @@ pub write-answers : WriteAnswers
 unfolding writeList
 write-answers marks base reset page =
     let list = listText marks base reset in
-    answers-by NotWritten (Written (length list))
+    answers-by ListWritten.NotWritten (ListWritten.Written (length list))
     (record {
       one = λ why other e. cc;
       none = λ why e. let z : _≡_ {A = ℕ} 0 1 = cc in absurd (omega arith);

@@ -16,27 +16,19 @@ use lib.Dec.{eqb, ltb, leb}
 use lib.ListN.{length, getD, set, drop, length-set, length-drop, List·getD-eq-default}
 use lib.Seq.{getD-set-same, getD-set-other}
 use Rattle.types.specs.declared.code.Kind.{Kind}
-use Rattle.types.specs.declared.code.Kind.the-variants.{ByRts, ByRtl}
 use Rattle.types.specs.declared.code.Flow.{Flow}
-use Rattle.types.specs.declared.code.Flow.the-variants.{Next, Branch, Jump, Call, Return, Halt}
-use Rattle.types.specs.declared.code.WidthEffect.the-variants.{KeepWidths}
+use Rattle.types.specs.declared.code.WidthEffect.{WidthEffect}
 use Rattle.types.specs.declared.code.Instruction.{Instruction}
-use Rattle.types.specs.declared.code.Decoded.the-variants.{Whole}
+use Rattle.types.specs.declared.code.Decoded.{Decoded}
 use Rattle.types.specs.declared.machine.State.{State}
 use Rattle.types.specs.declared.machine.Data.{Data}
 use Rattle.types.specs.declared.machine.Store.{Store}
 use Rattle.types.specs.declared.machine.Stop.{Stop}
-use Rattle.types.specs.declared.machine.Stop.the-variants.{Unmapped, Deep, ImageStore, Decimal}
 use Rattle.types.specs.declared.machine.Served.{Served}
-use Rattle.types.specs.declared.machine.Served.the-variants.{All, Refused as Unserved}
 use Rattle.types.specs.declared.machine.CallChange.{CallChange}
-use Rattle.types.specs.declared.machine.CallChange.the-variants.{Keep, Open, Close}
 use Rattle.types.specs.declared.machine.Answer.{Answer}
-use Rattle.types.specs.declared.machine.Answer.the-variants.{Completed, Called, Stopped}
 use Rattle.types.specs.declared.refusals.TestResult.{TestResult}
-use Rattle.types.specs.declared.refusals.TestResult.the-variants.{Passed, Failed}
 use Rattle.types.specs.declared.runs.End.{End}
-use Rattle.types.specs.declared.runs.End.the-variants.{Done, AtStop}
 use Rattle.prelude.specs.Choice.{pick}
 use Rattle.model.specs.CodeMap.{prefixBytes, entryAt}
 use Rattle.types.specs.Addresses.{bankSize, addressLimit}
@@ -206,8 +198,8 @@ module _ (marks : List ℕ) (base : ℕ) where
   entry-there opened depth kind e = by (leb depth (length opened)) refl
     where
       some : (k : Kind) → 0 ≡ kindNumber k → ⊥
-      some ByRts h = absurd (omega arith)
-      some ByRtl h = absurd (omega arith)
+      some Kind.ByRts h = absurd (omega arith)
+      some Kind.ByRtl h = absurd (omega arith)
 
       by : (b : Bool) → leb depth (length opened) ≡ b → depth ≤ length opened
       by true h = leb-true depth (length opened) h
@@ -256,39 +248,41 @@ module _ (marks : List ℕ) (base : ℕ) where
 abbrev Late : Stop → Type 0
 Late stop = (22 ≤ stopNumber stop) × (stopNumber stop ≤ 27)
 
-served-at-late : (m : Memory) (address : ℕ) (stop : Stop) → servedAt m address ≡ Unserved stop → Late stop
+served-at-late : (m : Memory) (address : ℕ) (stop : Stop) → servedAt m address ≡ Served.Refused stop → Late stop
 unfolding servedAt
 served-at-late m address stop = by (inRam m address) (inImage m address)
   where
-    same : (other : Stop) → Late other → Unserved other ≡ Unserved stop → Late stop
+    same : (other : Stop) → Late other → Served.Refused other ≡ Served.Refused stop → Late stop
     same other l e = let o : other ≡ stop = cc in rw o at l
 
-    by : (a b : Bool) → pick a All (pick b (Unserved ImageStore) (Unserved Unmapped)) ≡ Unserved stop → Late stop
+    by : (a b : Bool)
+        → pick a Served.All (pick b (Served.Refused Stop.ImageStore) (Served.Refused Stop.Unmapped))
+        ≡ Served.Refused stop → Late stop
     by true b e = let z : _≡_ {A = ℕ} 0 1 = cc in absurd (omega arith)
-    by false true e = same ImageStore (omega arith) e
-    by false false e = same Unmapped (omega arith) e
+    by false true e = same Stop.ImageStore (omega arith) e
+    by false false e = same Stop.Unmapped (omega arith) e
 
 -- a store that can't be served stops by 23 or 26
-served-late : (m : Memory) (stores : List Store) (stop : Stop) → served m stores ≡ Unserved stop → Late stop
+served-late : (m : Memory) (stores : List Store) (stop : Stop) → served m stores ≡ Served.Refused stop → Late stop
 served-late m [] stop e = let z : _≡_ {A = ℕ} 0 1 = cc in absurd (omega arith)
 served-late m (a ∷ rest) stop e =
     by (servedAt m (a .address)) refl e (served-late m rest stop)
   where
-    by : (v : Served) → servedAt m (a .address) ≡ v → andThen v (served m rest) ≡ Unserved stop
-        → (served m rest ≡ Unserved stop → Late stop) → Late stop
-    by All f h more = more h
-    by (Unserved other) f h more = served-at-late m (a .address) stop (f ∙ h)
+    by : (v : Served) → servedAt m (a .address) ≡ v → andThen v (served m rest) ≡ Served.Refused stop
+        → (served m rest ≡ Served.Refused stop → Late stop) → Late stop
+    by Served.All f h more = more h
+    by (Served.Refused other) f h more = served-at-late m (a .address) stop (f ∙ h)
 
 -- what an answer must be
 abbrev AnswersLate : Answer → Type 0
-AnswersLate Completed = Unit {0}
-AnswersLate Called = Unit {0}
-AnswersLate (Stopped stop) = Late stop
+AnswersLate Answer.Completed = Unit {0}
+AnswersLate Answer.Called = Unit {0}
+AnswersLate (Answer.Stopped stop) = Late stop
 
 change-answers : (change : CallChange) → AnswersLate (answerOf change)
-change-answers Keep = tt
-change-answers (Open address kind) = tt
-change-answers Close = tt
+change-answers CallChange.Keep = tt
+change-answers (CallChange.Open address kind) = tt
+change-answers CallChange.Close = tt
 
 -- ---- a plan that keeps the machine at its marks
 
@@ -305,11 +299,12 @@ module _ (marks : List ℕ) (base : ℕ) (s : State) (i : Instruction) where
     where
       by : (v : Served) → served m (d .stores) ≡ v
           → AnswersLate (onServed v i d m s .answer) × Stands marks base (onServed v i d m s .state)
-      by All e = (change-answers (d .calls), arrived marks base whole s i d g)
-      by (Unserved stop) e = (served-late m (d .stores) stop e, st)
+      by Served.All e = (change-answers (d .calls), arrived marks base whole s i d g)
+      by (Served.Refused stop) e = (served-late m (d .stores) stop e, st)
 
   -- an operation goes on where its flow says
-  operates-good : (m : Memory) (goes : Bool → ℕ) → ((taken : Bool) → Arrives marks base s i (goes taken) Keep)
+  operates-good : (m : Memory) (goes : Bool → ℕ)
+      → ((taken : Bool) → Arrives marks base s i (goes taken) CallChange.Keep)
       → Good (operates (s .core) i m goes)
   unfolding operates
   operates-good m goes there-too =
@@ -317,7 +312,7 @@ module _ (marks : List ℕ) (base : ℕ) (s : State) (i : Instruction) where
       (come m (dataOf (access (s .core) i) (i .entry .mode) (i .entry .accumulator) (s .core .registers)
       (short (s .core) i) (i .operand)))
     where
-      by : (b : Bool) (o : Outcome Data) → Good (pick b (stops Decimal) (onRead o (works (s .core) i goes)))
+      by : (b : Bool) (o : Outcome Data) → Good (pick b (stops Stop.Decimal) (onRead o (works (s .core) i goes)))
       by true o = omega arith
       by false unmapped = omega arith
       by false (done d) = there-too _
@@ -351,7 +346,7 @@ module _ (marks : List ℕ) (base : ℕ) (s : State) (i : Instruction) (st : Sta
 
   -- a successor with the mark that it is owed
   owed-arrives : (address : ℕ) → Met marks base (want address (markAfter (i .entry .effect) (i .operand) mark))
-      → Arrives marks base s i address Keep
+      → Arrives marks base s i address CallChange.Keep
   unfolding markAfter
   owed-arrives address met =
       let m = mAfter (i .entry .effect) (markM mark) (i .operand) in
@@ -369,11 +364,12 @@ module _ (marks : List ℕ) (base : ℕ) (s : State) (i : Instruction) (st : Sta
       }
 
   -- a call whose target and address after have the marks that they are owed
-  call-arrives : (kind : Kind) (target next there-marked : ℕ) → i .entry .effect ≡ KeepWidths → next < addressLimit
+  call-arrives : (kind : Kind) (target next there-marked : ℕ) → i .entry .effect ≡ WidthEffect.KeepWidths
+      → next < addressLimit
       → there-marked ≡ markAt marks base target
       → Met marks base (want target (markOfRoutine kind mark there-marked))
       → Met marks base (want next (markOnReturn mark there-marked))
-      → Arrives marks base s i target (Open next (kindNumber kind))
+      → Arrives marks base s i target (CallChange.Open next (kindNumber kind))
   unfolding markOfRoutine markOnReturn mAfter xAfter
   call-arrives kind target next t keeps low e into after =
       let k = kindNumber kind in
@@ -392,7 +388,7 @@ module _ (marks : List ℕ) (base : ℕ) (s : State) (i : Instruction) (st : Sta
             (g .has-return-m) (g .has-return-x) (st .chain)));
       }
 
-  calls-good : (kind : Kind) → i .entry .effect ≡ KeepWidths
+  calls-good : (kind : Kind) → i .entry .effect ≡ WidthEffect.KeepWidths
       → Met marks base (want (target (s .core) i) (markOfRoutine kind mark (markAt marks base (target (s .core) i))))
       → Met marks base (want (next (s .core) i) (markOnReturn mark (markAt marks base (target (s .core) i))))
       → Good marks base s i (calls (s .core) i kind)
@@ -402,16 +398,16 @@ module _ (marks : List ℕ) (base : ℕ) (s : State) (i : Instruction) (st : Sta
       by : (b : Bool) → Good marks base s i
           (pick b
           (changes (change (withS (pushedAt (s .core .registers) (returnBytes kind)) (s .core .registers))
-          (target (s .core) i) (Open (next (s .core) i) (kindNumber kind)) (pushesReturn (s .core) i kind)))
-          (stops Deep))
+          (target (s .core) i) (CallChange.Open (next (s .core) i) (kindNumber kind)) (pushesReturn (s .core) i kind)))
+          (stops Stop.Deep))
       by true =
           call-arrives kind (target (s .core) i) (next (s .core) i) (markAt marks base (target (s .core) i)) keeps
           (omega arith) refl into after
       by false = omega arith
 
   -- a return to the address of the call opened last
-  return-arrives : (kind : Kind) (address : ℕ) → i .entry .effect ≡ KeepWidths → returnsBy kind mark ≡ true
-      → isReturn (s .core) i (lastOpened s) kind address ≡ true → Arrives marks base s i address Close
+  return-arrives : (kind : Kind) (address : ℕ) → i .entry .effect ≡ WidthEffect.KeepWidths → returnsBy kind mark ≡ true
+      → isReturn (s .core) i (lastOpened s) kind address ≡ true → Arrives marks base s i address CallChange.Close
   unfolding mAfter xAfter
   return-arrives kind address keeps rule matches =
       let entry = lastOpened s in
@@ -429,7 +425,7 @@ module _ (marks : List ℕ) (base : ℕ) (s : State) (i : Instruction) (st : Sta
         chain = rw goes (top .1);
       }
 
-  returns-good : (m : Memory) (kind : Kind) → i .entry .effect ≡ KeepWidths → returnsBy kind mark ≡ true
+  returns-good : (m : Memory) (kind : Kind) → i .entry .effect ≡ WidthEffect.KeepWidths → returnsBy kind mark ≡ true
       → Good marks base s i (onRead (come m (pullsReturn (s .core) i kind)) (returnsTo (s .core) i (lastOpened s) kind))
   unfolding returnsTo
   returns-good m kind keeps rule = by (come m (pullsReturn (s .core) i kind))
@@ -451,46 +447,49 @@ module _ (marks : List ℕ) (base : ℕ) (s : State) (i : Instruction) (st : Sta
       sym (top .0 .same-kind) ∙ returns-marked kind mark rule .0
 
   -- by flow: what an instruction owes keeps the machine at its marks
-  plan-good : (m : Memory) (flow : Flow) → ((kind : Kind) → flow ≡ Call kind → i .entry .effect ≡ KeepWidths)
-      → ((kind : Kind) → flow ≡ Return kind → i .entry .effect ≡ KeepWidths) → returnFits flow mark ≡ true
+  plan-good : (m : Memory) (flow : Flow)
+      → ((kind : Kind) → flow ≡ Flow.Call kind → i .entry .effect ≡ WidthEffect.KeepWidths)
+      → ((kind : Kind) → flow ≡ Flow.Return kind → i .entry .effect ≡ WidthEffect.KeepWidths)
+      → returnFits flow mark ≡ true
       → AllMet marks base (owedBy flow mark (markAfter (i .entry .effect) (i .operand) mark) (next (s .core) i)
       (target (s .core) i) (markAt marks base (target (s .core) i)))
       → Good marks base s i (planBy (s .core) i m (lastOpened s) flow)
   unfolding planBy owedBy returnFits
-  plan-good m Next call return fits met =
+  plan-good m Flow.Next call return fits met =
       operates-good marks base s i m (λ taken. next (s .core) i) (λ taken. owed-arrives (next (s .core) i) met)
-  plan-good m Branch call return fits met =
+  plan-good m Flow.Branch call return fits met =
       operates-good marks base s i m (λ taken. pick taken (target (s .core) i) (next (s .core) i)) goes
     where
-      goes : (taken : Bool) → Arrives marks base s i (pick taken (target (s .core) i) (next (s .core) i)) Keep
+      goes : (taken : Bool)
+          → Arrives marks base s i (pick taken (target (s .core) i) (next (s .core) i)) CallChange.Keep
       goes true = owed-arrives (target (s .core) i) (met .1)
       goes false = owed-arrives (next (s .core) i) (met .0)
-  plan-good m Jump call return fits met = owed-arrives (target (s .core) i) met
-  plan-good m (Call kind) call return fits met = calls-good kind (call kind refl) (met .0) (met .1)
-  plan-good m (Return kind) call return fits met = returns-good m kind (return kind refl) fits
-  plan-good m Halt call return fits met = omega arith
+  plan-good m Flow.Jump call return fits met = owed-arrives (target (s .core) i) met
+  plan-good m (Flow.Call kind) call return fits met = calls-good kind (call kind refl) (met .0) (met .1)
+  plan-good m (Flow.Return kind) call return fits met = returns-good m kind (return kind refl) fits
+  plan-good m Flow.Halt call return fits met = omega arith
 
 -- ---- a step
 
 -- a call and a return keep the widths
-module _ (bytes : List ℕ) (m x : ℕ) (i : Instruction) (whole : decode bytes m x ≡ Whole i) (kind : Kind) where
+module _ (bytes : List ℕ) (m x : ℕ) (i : Instruction) (whole : decode bytes m x ≡ Decoded.Whole i) (kind : Kind) where
   abbrev page : ℕ
   page = pageOf (getD bytes 0 0)
 
   abbrev code : ℕ
   code = getD bytes (prefixBytes page) 0
 
-  call-kept : i .entry .flow ≡ Call kind → i .entry .effect ≡ KeepWidths
+  call-kept : i .entry .flow ≡ Flow.Call kind → i .entry .effect ≡ WidthEffect.KeepWidths
   call-kept h =
       let e : i .entry ≡ entryAt page code = decoded-entry bytes m x i whole .0 in
       rw e (call-keeps page code kind (rw e at h))
 
-  return-kept : i .entry .flow ≡ Return kind → i .entry .effect ≡ KeepWidths
+  return-kept : i .entry .flow ≡ Flow.Return kind → i .entry .effect ≡ WidthEffect.KeepWidths
   return-kept h =
       let e : i .entry ≡ entryAt page code = decoded-entry bytes m x i whole .0 in
       rw e (return-keeps page code kind (rw e at h))
 
-same-whole : (i j : Instruction) → Whole i ≡ Whole j → i ≡ j
+same-whole : (i j : Instruction) → Decoded.Whole i ≡ Decoded.Whole j → i ≡ j
 same-whole i j h = cc
 
 -- what a step shows
@@ -529,14 +528,14 @@ module _ (image marks : List ℕ) (base reset : ℕ) (rules : Accepts image mark
   abbrev instruction : Instruction
   instruction = at-start .instruction
 
-  fetches : fetched m (s .core) ≡ Whole instruction
+  fetches : fetched m (s .core) ≡ Decoded.Whole instruction
   fetches =
       read (placeOf (s .core)) (bit (s .core .registers .status .m)) (bit (s .core .registers .status .x)) (here .place)
       (st .m-marked ∙ ap markM (here .mark)) (st .x-marked ∙ ap markX (here .mark))
     where
       read : (a w v : ℕ) → a ≡ base + here .at → w ≡ markM (getD marks (here .at) 0)
           → v ≡ markX (getD marks (here .at) 0)
-          → decode (bytesFrom m a (length image)) w v ≡ Whole instruction
+          → decode (bytesFrom m a (length image)) w v ≡ Decoded.Whole instruction
       read a w v ea ew ev =
           rw (ea, ew, ev, bytes-inside m in-bank small (length image) (here .at) within-image (omega arith))
           (at-start .whole)
@@ -618,13 +617,13 @@ every-map P Q f [] h = tt
 every-map P Q f (x ∷ xs) h = (f x (h .0), every-map P Q f xs (h .1))
 
 abbrev EndsLate : End → Type 0
-EndsLate Done = Unit {0}
-EndsLate (AtStop stop) = Late stop
+EndsLate End.Done = Unit {0}
+EndsLate (End.AtStop stop) = Late stop
 
 end-late : (a : Answer) (end : End) → AnswersLate a → EndsLate end → EndsLate (endAfter a end)
-end-late Completed end a e = e
-end-late Called end a e = e
-end-late (Stopped stop) end a e = a
+end-late Answer.Completed end a e = e
+end-late Answer.Called end a e = e
+end-late (Answer.Stopped stop) end a e = a
 
 module _ (image marks : List ℕ) (base reset : ℕ) (rules : Accepts image marks base reset) where
   pub record Sound (e : Event) : Type 0 where
@@ -653,19 +652,19 @@ module _ (image marks : List ℕ) (base reset : ℕ) (rules : Accepts image mark
       })
       (λ c. record {
         every = (sound, tt);
-        late = end-late (step before s .answer) Done (now .late) tt;
+        late = end-late (step before s .answer) End.Done (now .late) tt;
         stands = rw c st;
       })
 
   -- ---- a run
 
-  ends-well : (h : List Event) (asked : ℕ) → (endOf h ≡ Done → completedSteps h ≡ asked) → EndsLate (endOf h)
+  ends-well : (h : List Event) (asked : ℕ) → (endOf h ≡ End.Done → completedSteps h ≡ asked) → EndsLate (endOf h)
       → EndsWell h asked
   ends-well h asked all late = by (endOf h) refl late
     where
       by : (end : End) → endOf h ≡ end → EndsLate end → EndsWell h asked
-      by Done e l = EndsWell.done e (all e)
-      by (AtStop stop) e l = EndsWell.stopped stop e (l .0) (l .1)
+      by End.Done e l = EndsWell.done e (all e)
+      by (End.AtStop stop) e l = EndsWell.stopped stop e (l .0) (l .1)
 
   -- what a run shows, refused or not
   pub record Runs (m : Memory) (s : State) (asked : ℕ) : Type 0 where
@@ -680,7 +679,7 @@ module _ (image marks : List ℕ) (base reset : ℕ) (rules : Accepts image mark
       m′ = memory ram image base
 
       by : (a : TestResult) → admission m′ s asked ≡ a → Runs m′ s asked
-      by Passed a =
+      by TestResult.Passed a =
           let same = admitted-ran m′ s asked a in
           let h = shown asked ram s st in
           record {
@@ -694,7 +693,7 @@ module _ (image marks : List ℕ) (base reset : ℕ) (rules : Accepts image mark
               ram = ap (λ r. r .ram) (same .1);
             });
           }
-      by (Failed why) a =
+      by (TestResult.Failed why) a =
           let same = refused-ran m′ s asked why a in
           record {
             every = rw (same .0) tt;

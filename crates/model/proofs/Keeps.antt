@@ -12,24 +12,17 @@ use borrow.Author.Tests.{ltb-true}
 use lib.Dec.{ltb}
 use lib.ListN.{length, getD, set, take, drop, length-take, length-set}
 use Rattle.types.specs.declared.code.Kind.{Kind}
-use Rattle.types.specs.declared.code.Kind.the-variants.{ByRts, ByRtl}
 use Rattle.types.specs.declared.code.Flow.{Flow}
-use Rattle.types.specs.declared.code.Flow.the-variants.{Next, Branch, Jump, Call, Return, Halt}
 use Rattle.types.specs.declared.code.Instruction.{Instruction}
 use Rattle.types.specs.declared.code.Decoded.{Decoded}
-use Rattle.types.specs.declared.code.Decoded.the-variants.{Whole, NotCarried, CutOff}
 use Rattle.types.specs.declared.machine.Core.{Core}
 use Rattle.types.specs.declared.machine.State.{State}
 use Rattle.types.specs.declared.machine.Data.{Data}
 use Rattle.types.specs.declared.machine.Store.{Store}
 use Rattle.types.specs.declared.machine.Stop.{Stop}
-use Rattle.types.specs.declared.machine.Stop.the-variants.{Astray, Deep, Decimal}
 use Rattle.types.specs.declared.machine.Served.{Served}
-use Rattle.types.specs.declared.machine.Served.the-variants.{All, Refused as Unserved}
 use Rattle.types.specs.declared.machine.CallChange.{CallChange}
-use Rattle.types.specs.declared.machine.CallChange.the-variants.{Keep, Open, Close}
 use Rattle.types.specs.declared.refusals.TestResult.{TestResult}
-use Rattle.types.specs.declared.refusals.TestResult.the-variants.{Passed, Failed}
 use Rattle.prelude.specs.Choice.{pick}
 use Rattle.prelude.specs.Bytes.{AllBytes}
 use Rattle.fields.specs.Fields.{number}
@@ -56,9 +49,9 @@ use Rattle.model.proofs.Effects.{Comes, comes, SmallData, data-small, S
 
 -- A plan that keeps all: registers in their widths, bytes stored, a call opened below the limit, its entry in bytes.
 abbrev Opens : ℕ → CallChange → Type 0
-Opens depth Keep = Unit {0}
-Opens depth (Open address kind) = (depth < callLimit) × (entryOf address kind < 256 ^ entrySize)
-Opens depth Close = Unit {0}
+Opens depth CallChange.Keep = Unit {0}
+Opens depth (CallChange.Open address kind) = (depth < callLimit) × (entryOf address kind < 256 ^ entrySize)
+Opens depth CallChange.Close = Unit {0}
 
 abbrev Fits : ℕ → Plan → Type 0
 Fits depth (stops stop) = Unit {0}
@@ -82,7 +75,7 @@ module _ (c : Core) (i : Instruction) (m : Memory) (h : InWidth (c .registers)) 
       reads = dataOf (access c i) (i .entry .mode) (i .entry .accumulator) (c .registers) (short c i) (i .operand)
 
       by : (b : Bool) (o : Outcome Data) → Comes SmallData o
-          → Fits (c .depth) (pick b (stops Decimal) (onRead o (works c i goes)))
+          → Fits (c .depth) (pick b (stops Stop.Decimal) (onRead o (works c i goes)))
       by true o small = tt
       by false unmapped small = tt
       by false (done d) small =
@@ -91,16 +84,16 @@ module _ (c : Core) (i : Instruction) (m : Memory) (h : InWidth (c .registers)) 
           (e .0, e .1, tt)
 
   return-small : (kind : Kind) → SmallStores (pushesReturn c i kind)
-  return-small ByRts = omega arith
-  return-small ByRtl = omega arith
+  return-small Kind.ByRts = omega arith
+  return-small Kind.ByRtl = omega arith
 
   calls-fit : (kind : Kind) → Fits (c .depth) (calls c i kind)
   unfolding calls
   calls-fit kind =
       pick-fits (c .depth) (ltb (c .depth) callLimit)
       (change (withS (pushedAt (c .registers) (returnBytes kind)) (c .registers)) (target c i)
-      (Open (next c i) (kindNumber kind)) (pushesReturn c i kind))
-      Deep (λ e. (
+      (CallChange.Open (next c i) (kindNumber kind)) (pushesReturn c i kind))
+      Stop.Deep (λ e. (
         in-s (c .registers) h _ (omega arith),
         return-small kind,
         (ltb-true (c .depth) callLimit e, omega (arith, kind-bits kind)),
@@ -115,17 +108,17 @@ module _ (c : Core) (i : Instruction) (m : Memory) (h : InWidth (c .registers)) 
       by unmapped = tt
       by (done address) =
           pick-fits (c .depth) (isReturn c i entry kind address)
-          (change (withS (pulledAt (c .registers) (returnBytes kind)) (c .registers)) address Close []) Astray
-          (λ _. (in-s (c .registers) h _ (omega arith), tt, tt))
+          (change (withS (pulledAt (c .registers) (returnBytes kind)) (c .registers)) address CallChange.Close [])
+          Stop.Astray (λ _. (in-s (c .registers) h _ (omega arith), tt, tt))
 
   plan-fits : (entry : ℕ) (flow : Flow) → Fits (c .depth) (planBy c i m entry flow)
   unfolding planBy
-  plan-fits entry Next = operates-fits (λ taken. next c i)
-  plan-fits entry Branch = operates-fits (λ taken. pick taken (target c i) (next c i))
-  plan-fits entry Jump = (h, tt, tt)
-  plan-fits entry (Call kind) = calls-fit kind
-  plan-fits entry (Return kind) = returns-fit entry kind
-  plan-fits entry Halt = tt
+  plan-fits entry Flow.Next = operates-fits (λ taken. next c i)
+  plan-fits entry Flow.Branch = operates-fits (λ taken. pick taken (target c i) (next c i))
+  plan-fits entry Flow.Jump = (h, tt, tt)
+  plan-fits entry (Flow.Call kind) = calls-fit kind
+  plan-fits entry (Flow.Return kind) = returns-fit entry kind
+  plan-fits entry Flow.Halt = tt
 
 set-small : (l : List ℕ) (i v bound : ℕ) → v < bound → ((k : ℕ) → getD l k 0 < bound)
     → (k : ℕ) → getD (set l i v) k 0 < bound
@@ -162,13 +155,13 @@ changed-keeps i s d fits h =
         → (depthAfter change (s .core .depth) < 65_536)
         × (length (callsAfter change (s .core .depth) (s .calls)) ≡ callLimit)
         × ((k : ℕ) → getD (callsAfter change (s .core .depth) (s .calls)) k 0 < 256 ^ entrySize)
-    by Keep o = (h .depth, h .calls, h .entries)
-    by (Open address kind) o = (
+    by CallChange.Keep o = (h .depth, h .calls, h .entries)
+    by (CallChange.Open address kind) o = (
       omega arith,
       length-set (s .calls) (s .core .depth) (entryOf address kind) ∙ h .calls,
       set-small (s .calls) (s .core .depth) (entryOf address kind) (256 ^ entrySize) (o .1) (h .entries),
     )
-    by Close o = (omega arith, h .calls, h .entries)
+    by CallChange.Close o = (omega arith, h .calls, h .entries)
 
 pub step-keeps : (m : Memory) (s : State) → AllBytes (m .image) → InBytes s (m .ram)
     → InBytes (step m s .state) (step m s .ram)
@@ -177,8 +170,8 @@ step-keeps m s image h = by (fetched m (s .core))
   where
     served-so : (i : Instruction) (d : Change) (v : Served) → Fits (s .core .depth) (changes d)
         → InBytes (onServed v i d m s .state) (onServed v i d m s .ram)
-    served-so i d All f = (changed-keeps i s d f (h .0), stored-small (d .stores) (m .ram) (f .1) (h .1))
-    served-so i d (Unserved stop) f = h
+    served-so i d Served.All f = (changed-keeps i s d f (h .0), stored-small (d .stores) (m .ram) (f .1) (h .1))
+    served-so i d (Served.Refused stop) f = h
 
     planned-so : (i : Instruction) (p : Plan) → Fits (s .core .depth) p
         → InBytes (finish p i m s .state) (finish p i m s .ram)
@@ -186,9 +179,9 @@ step-keeps m s image h = by (fetched m (s .core))
     planned-so i (changes d) f = served-so i d (served m (d .stores)) f
 
     by : (d : Decoded) → InBytes (onDecoded d m s .state) (onDecoded d m s .ram)
-    by CutOff = h
-    by NotCarried = h
-    by (Whole i) =
+    by Decoded.CutOff = h
+    by Decoded.NotCarried = h
+    by (Decoded.Whole i) =
         planned-so i (plan m s i)
         (plan-fits (s .core) i m (h .0 .registers) (h .1) image (lastOpened s) (i .entry .flow))
 
@@ -212,8 +205,8 @@ pub run-keeps : (m : Memory) (s : State) (n : ℕ) → AllBytes (m .image) → I
 run-keeps m s n image h = by (admission m s n) refl
   where
     by : (a : TestResult) → admission m s n ≡ a → InBytes (ran m s n .state) (ran m s n .ram)
-    by Passed a = rw (admitted-ran m s n a .1) (history-keeps n m s image h)
-    by (Failed why) a = rw (refused-ran m s n why a .1) h
+    by TestResult.Passed a = rw (admitted-ran m s n a .1) (history-keeps n m s image h)
+    by (TestResult.Failed why) a = rw (refused-ran m s n why a .1) h
 
 -- ---- what bytes say
 

@@ -9,8 +9,8 @@ use borrow.Author.Tests.{ltb-true}
 use lib.Dec.{ltb}
 use lib.ListN.{length, length-append}
 use Rattle.types.specs.declared.lists.Header.{Header}
-use Rattle.types.specs.declared.lists.ListRead.the-variants.{NotRead, Read}
-use Rattle.types.specs.declared.lists.ListWritten.the-variants.{NotWritten, Written}
+use Rattle.types.specs.declared.lists.ListRead.{ListRead}
+use Rattle.types.specs.declared.lists.ListWritten.{ListWritten}
 use Rattle.types.specs.Refusals.{firstRefusal}
 use Rattle.types.specs.Addresses.{bankSize, addressLimit}
 use Rattle.model.specs.Image.{imageLimit, resetFits}
@@ -23,11 +23,11 @@ use Rattle.model.proofs.MarkList.{length-shown, lines-most, length-head
 
 -- ---- what a text that is read has passed
 
-pub read-passes : (h r : Header) (text : List ℕ) (n : ℕ) → readAs h text n ≡ Read r
+pub read-passes : (h r : Header) (text : List ℕ) (n : ℕ) → readAs h text n ≡ ListRead.Read r
     → (h ≡ r) × AllHold (readTests r text n)
 unfolding readAs
 read-passes h r text n e =
-    let all = all-passed (firstRefusal (readTests h text n)) NotRead
+    let all = all-passed (firstRefusal (readTests h text n)) ListRead.NotRead
     (λ why r. let z : _≡_ {A = ℕ} 0 1 = cc in absurd (omega arith)) e in
     let same : h ≡ r = let e = all .1 in cc in
     (same, rw same at (shown (readTests h text n) (all .0)))
@@ -38,11 +38,12 @@ length-marks-of h text = length-shown (h .base % bankSize) (h .length) (linesTex
 
 -- ---- what marks that are written have passed
 
-pub written-passes : (marks : List ℕ) (base reset n : ℕ) (page : List ℕ) → writeList marks base reset page ≡ Written n
+pub written-passes : (marks : List ℕ) (base reset n : ℕ) (page : List ℕ)
+    → writeList marks base reset page ≡ ListWritten.Written n
     → (length (listText marks base reset) ≡ n) × AllHold (writeTests marks base reset page)
 unfolding writeList
 written-passes marks base reset n page e =
-    let all = all-passed (firstRefusal (writeTests marks base reset page)) NotWritten
+    let all = all-passed (firstRefusal (writeTests marks base reset page)) ListWritten.NotWritten
     (λ why r. let z : _≡_ {A = ℕ} 0 1 = cc in absurd (omega arith)) e in
     let same = all .1 in (cc, shown (writeTests marks base reset page) (all .0))
 
@@ -53,7 +54,7 @@ reset-below marks base reset started = ltb-true reset bankSize (both-true (ltb r
 
 -- ---- how small the answers are
 
-pub read-small : (text marks : List ℕ) (h : Header) → readList text marks ≡ Read h
+pub read-small : (text marks : List ℕ) (h : Header) → readList text marks ≡ ListRead.Read h
     → (h .base < addressLimit) × (h .reset < bankSize)
 unfolding readList
 read-small text marks h e =
@@ -63,7 +64,8 @@ read-small text marks h e =
           (held .1 .1 .1 .0),
     )
 
-pub written-small : (marks : List ℕ) (base reset n : ℕ) (page : List ℕ) → writeList marks base reset page ≡ Written n
+pub written-small : (marks : List ℕ) (base reset n : ℕ) (page : List ℕ)
+    → writeList marks base reset page ≡ ListWritten.Written n
     → n ≤ 20 + 15 * imageLimit
 unfolding listText
 written-small marks base reset n page e =

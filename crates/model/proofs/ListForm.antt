@@ -13,8 +13,8 @@ use lib.Dec.{eqb, ltb}
 use lib.ListN.{length, drop}
 use lib.Seq.{drop-at}
 use Rattle.types.specs.declared.lists.Header.{Header}
-use Rattle.types.specs.declared.refusals.Refusal.the-variants as refusal
-use Rattle.types.specs.declared.lists.ListRead.the-variants.{NotRead}
+use Rattle.types.specs.declared.refusals.Refusal.{Refusal}
+use Rattle.types.specs.declared.lists.ListRead.{ListRead}
 use Rattle.prelude.specs.Choice.{pick}
 use Rattle.types.specs.Refusals.{firstRefusal}
 use Rattle.text.specs.Text.{startsWith}
@@ -144,7 +144,7 @@ list-exactly text = (tested-list (headerShown text) text, list-tested text)
 -- 'a lone 0 is in form and gets 1'
 pub lone-zero : (base reset : ℕ) (marks : List ℕ) → base < 16 ^ 6 → reset < 16 ^ 4
     → let text = headerText (record { base = base; length = 0; reset = reset }) in
-    IsMarkList text × (readList text marks ≡ NotRead refusal.Length)
+    IsMarkList text × (readList text marks ≡ ListRead.NotRead Refusal.Length)
 unfolding readList readAs lengthFits firstRefusal
 lone-zero base reset marks based started = (l, rw (list-tested (headerText h) l, shows-header (headerText h) l))
   where

@@ -13,14 +13,11 @@ use lib.Dec.{eqb}
 use lib.ListN.{length, getD}
 use Rattle.types.specs.declared.code.Instruction.{Instruction}
 use Rattle.types.specs.declared.code.Decoded.{Decoded}
-use Rattle.types.specs.declared.code.Decoded.the-variants.{Whole, NotCarried, CutOff}
 use Rattle.types.specs.declared.refusals.Refusal.{Refusal}
 use Rattle.types.specs.declared.refusals.TestResult.{TestResult}
-use Rattle.types.specs.declared.refusals.TestResult.the-variants.{Passed, Failed}
 use Rattle.types.specs.declared.rules.Want.{Want}
 use Rattle.types.specs.declared.rules.Owed.{Owed}
-use Rattle.types.specs.declared.rules.Owed.the-variants.{Nothing, One, Two}
-use Rattle.types.specs.declared.rules.Verdict.the-variants.{Accepted, Refused}
+use Rattle.types.specs.declared.rules.Verdict.{Verdict}
 use Rattle.prelude.specs.Choice.{pick}
 use Rattle.types.specs.Addresses.{bankSize}
 use Rattle.model.specs.Image.{isStart, isFormed, lengthFits, markAt}
@@ -48,40 +45,40 @@ below-end j n h ne = ⊎-elim (λ (e : j ≡ n). absurd (ne e)) (λ (below : j <
 abbrev Failing : (Want → Type 0) → Owed → Type 0
 Failing bad o = (w : Want) × Among w o × bad w
 
-one-of-two : (test : Want → Bool) (v w : Want) → test v && test w ≡ false → Failing (λ u. test u ≡ false) (Two v w)
+one-of-two : (test : Want → Bool) (v w : Want) → test v && test w ≡ false → Failing (λ u. test u ≡ false) (Owed.Two v w)
 one-of-two test v w h = by (test v) refl h
   where
-    by : (b : Bool) → test v ≡ b → b && test w ≡ false → Failing (λ u. test u ≡ false) (Two v w)
+    by : (b : Bool) → test v ≡ b → b && test w ≡ false → Failing (λ u. test u ≡ false) (Owed.Two v w)
     by true e h′ = (w, inr refl, h′)
     by false e h′ = (v, inl refl, e)
 
-same-why : {why why′ : Refusal} → Failed why ≡ Failed why′ → why ≡ why′
+same-why : {why why′ : Refusal} → TestResult.Failed why ≡ TestResult.Failed why′ → why ≡ why′
 same-why e = cc
 
 module _ (marks : List ℕ) (base : ℕ) where
   no-start : (o : Owed) → allStarts marks base o ≡ false → Failing (λ w. isStart (markAt marks base (w .address)) ≡
       false) o
   unfolding allStarts wantsStart
-  no-start Nothing h = let z : _≡_ {A = ℕ} 0 1 = cc in absurd (omega arith)
-  no-start (One w) h = (w, refl, h)
-  no-start (Two v w) h = one-of-two (wantsStart marks base) v w h
+  no-start Owed.Nothing h = let z : _≡_ {A = ℕ} 0 1 = cc in absurd (omega arith)
+  no-start (Owed.One w) h = (w, refl, h)
+  no-start (Owed.Two v w) h = one-of-two (wantsStart marks base) v w h
 
   other-mark : (o : Owed) → allMarks marks base o ≡ false → Failing (λ w. markAt marks base (w .address) ≡ w .mark →
       ⊥) o
   unfolding allMarks wantsMark
-  other-mark Nothing h = let z : _≡_ {A = ℕ} 0 1 = cc in absurd (omega arith)
-  other-mark (One w) h = (w, refl, eqb-false (markAt marks base (w .address)) (w .mark) h)
-  other-mark (Two v w) h =
+  other-mark Owed.Nothing h = let z : _≡_ {A = ℕ} 0 1 = cc in absurd (omega arith)
+  other-mark (Owed.One w) h = (w, refl, eqb-false (markAt marks base (w .address)) (w .mark) h)
+  other-mark (Owed.Two v w) h =
       let f = one-of-two (wantsMark marks base) v w h in
       (f .0, f .1, eqb-false (markAt marks base (f .0 .address)) (f .0 .mark) (f .2))
 
   every-start : (o : Owed) → allStarts marks base o ≡ true
       → (w : Want) → Among w o → isStart (markAt marks base (w .address)) ≡ true
   unfolding allStarts wantsStart
-  every-start Nothing h w a = absurd a
-  every-start (One v) h w a = rw a h
-  every-start (Two u v) h w (inl e) = rw e (both-true (wantsStart marks base u) (wantsStart marks base v) h .0)
-  every-start (Two u v) h w (inr e) = rw e (both-true (wantsStart marks base u) (wantsStart marks base v) h .1)
+  every-start Owed.Nothing h w a = absurd a
+  every-start (Owed.One v) h w a = rw a h
+  every-start (Owed.Two u v) h w (inl e) = rw e (both-true (wantsStart marks base u) (wantsStart marks base v) h .0)
+  every-start (Owed.Two u v) h w (inr e) = rw e (both-true (wantsStart marks base u) (wantsStart marks base v) h .1)
 
 -- ---- 7
 
@@ -98,7 +95,7 @@ not-clear marks at n h =
 -- ---- the refusal at a start
 
 module _ (image marks : List ℕ) (base at : ℕ) where
-  whole-breaks : (i : Instruction) (why : Refusal) → instructionAt image marks at ≡ Whole i
+  whole-breaks : (i : Instruction) (why : Refusal) → instructionAt image marks at ≡ Decoded.Whole i
       → FirstFails why (wholeTests marks base at i) → StartBreaks image marks base at why
   whole-breaks i why whole (inl (ec, w)) =
       let f = not-clear marks at (i .length) ec in
@@ -115,18 +112,18 @@ module _ (image marks : List ℕ) (base at : ℕ) where
   whole-breaks i why whole (inr (ec, inr (er, inr (es, inr (em, none))))) = absurd none
 
   -- a place that breaks a rule is a start
-  start-breaks : (why : Refusal) → startResult image marks base at ≡ Failed why
+  start-breaks : (why : Refusal) → startResult image marks base at ≡ TestResult.Failed why
       → (startAt marks at ≡ true) × StartBreaks image marks base at why
   unfolding startResult decodedResult
   start-breaks why h = by (startAt marks at) (instructionAt image marks at) refl refl h
     where
       by : (b : Bool) (d : Decoded) → startAt marks at ≡ b → instructionAt image marks at ≡ d
-          → pick b (decodedResult marks base at d) Passed ≡ Failed why
+          → pick b (decodedResult marks base at d) TestResult.Passed ≡ TestResult.Failed why
           → (startAt marks at ≡ true) × StartBreaks image marks base at why
       by false d s e r = absurd (failed-passed (sym r))
-      by true NotCarried s e r = (s, rw (← same-why r) (StartBreaks.code e))
-      by true CutOff s e r = (s, rw (← same-why r) (StartBreaks.cut-off e))
-      by true (Whole i) s e r = (s, whole-breaks i why e (shown (wholeTests marks base at i) r))
+      by true Decoded.NotCarried s e r = (s, rw (← same-why r) (StartBreaks.code e))
+      by true Decoded.CutOff s e r = (s, rw (← same-why r) (StartBreaks.cut-off e))
+      by true (Decoded.Whole i) s e r = (s, whole-breaks i why e (shown (wholeTests marks base at i) r))
 
 -- ---- the refusals
 
@@ -154,7 +151,7 @@ module _ (image marks : List ℕ) (base reset : ℕ) where
   tests-break why (inr (el, inr (eb, inr (ef, inr (er, none))))) = absurd none
 
   starts-break : AllHold (marksTests (length image) marks base reset) → (why : Refusal)
-      → startResult image marks base (badStart image marks base) ≡ Failed why
+      → startResult image marks base (badStart image marks base) ≡ TestResult.Failed why
       → Breaks image marks base reset why (badStart image marks base)
   unfolding badStart
   starts-break held why e =
@@ -165,12 +162,13 @@ module _ (image marks : List ℕ) (base reset : ℕ) where
       (λ k high s. start-rules image marks base k s (not-failed (startResult image marks base k)
       (first-is (brokenAt image marks base) 0 (length marks) .before k (omega arith) high)))
 
-  same : (why why′ : Refusal) (at at′ : ℕ) → Breaks image marks base reset why at → Refused why at ≡ Refused why′ at′
+  same : (why why′ : Refusal) (at at′ : ℕ) → Breaks image marks base reset why at
+      → Verdict.Refused why at ≡ Verdict.Refused why′ at′
       → Breaks image marks base reset why′ at′
   same why why′ at at′ b e = let e₁ : why ≡ why′ = cc in let e₂ : at ≡ at′ = cc in rw (e₁, e₂) at b
 
   -- each refusal means what its number says
-  pub refused-means : (why : Refusal) (at : ℕ) → verdict image marks base reset ≡ Refused why at
+  pub refused-means : (why : Refusal) (at : ℕ) → verdict image marks base reset ≡ Verdict.Refused why at
       → Breaks image marks base reset why at
   unfolding verdict startsVerdict
   refused-means why at =
@@ -181,12 +179,13 @@ module _ (image marks : List ℕ) (base reset : ℕ) where
 
       by : (so starts : TestResult) → firstRefusal tests ≡ so
           → startResult image marks base (badStart image marks base) ≡ starts
-          → answered so (λ w. Refused w (offsetOf marks w))
-          (answered starts (λ w. Refused w (badStart image marks base)) Accepted) ≡ Refused why at
+          → answered so (λ w. Verdict.Refused w (offsetOf marks w))
+          (answered starts (λ w. Verdict.Refused w (badStart image marks base)) Verdict.Accepted)
+          ≡ Verdict.Refused why at
           → Breaks image marks base reset why at
-      by (Failed w) starts t s e = same w why _ at (tests-break w (shown tests t)) e
-      by Passed (Failed w) t s e = same w why _ at (starts-break (shown tests t) w s) e
-      by Passed Passed t s e = let z : _≡_ {A = ℕ} 0 1 = cc in absurd (omega arith)
+      by (TestResult.Failed w) starts t s e = same w why _ at (tests-break w (shown tests t)) e
+      by TestResult.Passed (TestResult.Failed w) t s e = same w why _ at (starts-break (shown tests t) w s) e
+      by TestResult.Passed TestResult.Passed t s e = let z : _≡_ {A = ℕ} 0 1 = cc in absurd (omega arith)
 
 -- ---- the range of an offset
 
@@ -204,13 +203,13 @@ offset-range image marks base reset at why (Breaks.wrong-start l b f r at′ why
     omega (arith, few-marks image marks l)
 
 pub tests-small : (image marks : List ℕ) (base reset : ℕ) (why : Refusal)
-    → firstRefusal (marksTests (length image) marks base reset) ≡ Failed why → offsetOf marks why < bankSize
+    → firstRefusal (marksTests (length image) marks base reset) ≡ TestResult.Failed why → offsetOf marks why < bankSize
 tests-small image marks base reset why e =
     offset-range image marks base reset _ why
     (tests-break image marks base reset why (shown (marksTests (length image) marks base reset) e))
 
 pub refused-small : (image marks : List ℕ) (base reset at : ℕ) (why : Refusal)
-    → verdict image marks base reset ≡ Refused why at
+    → verdict image marks base reset ≡ Verdict.Refused why at
     → at < bankSize
 refused-small image marks base reset at why h =
     offset-range image marks base reset at why (refused-means image marks base reset why at h)

@@ -10,10 +10,8 @@ use lib.Dec.{ltb, leb}
 use lib.ListN.{length, getD, set}
 use borrow.Author.Tests.{lt-ltb, le-ltb, le-leb, lt-leb}
 use Rattle.types.specs.declared.machine.ByteRead.{ByteRead}
-use Rattle.types.specs.declared.machine.ByteRead.the-variants.{Byte, Unmapped as NoByte}
-use Rattle.types.specs.declared.machine.Stop.the-variants.{Unmapped, ImageStore}
+use Rattle.types.specs.declared.machine.Stop.{Stop}
 use Rattle.types.specs.declared.machine.Served.{Served}
-use Rattle.types.specs.declared.machine.Served.the-variants.{All, Refused}
 use Rattle.prelude.specs.Choice.{pick}
 use Rattle.model.specs.Memory.{Memory, memory, byteAt, servedAt, Act, ret, load, _>>=_, Outcome, done, unmapped}
 use Rattle.model.specs.Memory.{onByte, come, andThen}
@@ -42,39 +40,39 @@ module _ (ram image : List ℕ) (base address : ℕ) where
   abbrev m : Memory
   m = memory ram image base
 
-  pub byte-in-ram : address < length ram → byteAt m address ≡ Byte (getD ram address 0)
+  pub byte-in-ram : address < length ram → byteAt m address ≡ ByteRead.Byte (getD ram address 0)
   unfolding byteAt
   byte-in-ram = in-ram _ _ _
 
-  pub byte-under-image : length ram ≤ address → address < base → byteAt m address ≡ NoByte
+  pub byte-under-image : length ram ≤ address → address < base → byteAt m address ≡ ByteRead.Unmapped
   unfolding byteAt
   byte-under-image = under-image _ _ _
 
   pub byte-in-image : length ram ≤ address → base ≤ address → address - base < length image
-      → byteAt m address ≡ Byte (getD image (address - base) 0)
+      → byteAt m address ≡ ByteRead.Byte (getD image (address - base) 0)
   unfolding byteAt
   byte-in-image = in-image _ _ _
 
   pub byte-past-image : length ram ≤ address → base ≤ address → length image ≤ address - base
-      → byteAt m address ≡ NoByte
+      → byteAt m address ≡ ByteRead.Unmapped
   unfolding byteAt
   byte-past-image = past-image _ _ _
 
-  pub served-in-ram : address < length ram → servedAt m address ≡ All
+  pub served-in-ram : address < length ram → servedAt m address ≡ Served.All
   unfolding servedAt
   served-in-ram = in-ram _ _ _
 
-  pub served-under-image : length ram ≤ address → address < base → servedAt m address ≡ Refused Unmapped
+  pub served-under-image : length ram ≤ address → address < base → servedAt m address ≡ Served.Refused Stop.Unmapped
   unfolding servedAt
   served-under-image = under-image _ _ _
 
   pub served-in-image : length ram ≤ address → base ≤ address → address - base < length image
-      → servedAt m address ≡ Refused ImageStore
+      → servedAt m address ≡ Served.Refused Stop.ImageStore
   unfolding servedAt
   served-in-image = in-image _ _ _
 
   pub served-past-image : length ram ≤ address → base ≤ address → length image ≤ address - base
-      → servedAt m address ≡ Refused Unmapped
+      → servedAt m address ≡ Served.Refused Stop.Unmapped
   unfolding servedAt
   served-past-image = past-image _ _ _
 
@@ -92,12 +90,12 @@ come-bind {A} {B} m (load at more) f = by (byteAt m at) (λ byte. come-bind m (m
     by : (b : ByteRead) → ((byte : ℕ) → come m (more byte >>= f) ≡ onDone (come m (more byte)) (λ v. come m (f v)))
         → onByte b (λ byte. come m (more byte >>= f))
         ≡ onDone (onByte b (λ byte. come m (more byte))) (λ v. come m (f v))
-    by (Byte byte) step = step byte
-    by NoByte step = refl
+    by (ByteRead.Byte byte) step = step byte
+    by ByteRead.Unmapped step = refl
 
-pub and-then-all : (s : Served) → andThen s All ≡ s
-and-then-all All = refl
-and-then-all (Refused stop) = refl
+pub and-then-all : (s : Served) → andThen s Served.All ≡ s
+and-then-all Served.All = refl
+and-then-all (Served.Refused stop) = refl
 
 -- a store past the end changes nothing
 pub set-past : (l : List ℕ) (i v : ℕ) → length l ≤ i → set l i v ≡ l

@@ -12,9 +12,9 @@ use lib.Dec.{eqb, ltb, leb}
 use lib.ListN.{length, take, drop}
 use lib.Seq.{take-at, drop-at}
 use Rattle.types.specs.declared.lists.Header.{Header}
-use Rattle.types.specs.declared.lists.ListRead.the-variants.{Read}
-use Rattle.types.specs.declared.lists.ListWritten.the-variants.{Written}
-use Rattle.types.specs.declared.refusals.TestResult.the-variants.{Passed}
+use Rattle.types.specs.declared.lists.ListRead.{ListRead}
+use Rattle.types.specs.declared.lists.ListWritten.{ListWritten}
+use Rattle.types.specs.declared.refusals.TestResult.{TestResult}
 use Rattle.types.specs.Refusals.{firstRefusal}
 use Rattle.text.specs.Text.{startsWith}
 use Rattle.types.specs.Addresses.{bankSize, addressLimit}
@@ -69,9 +69,9 @@ formed-marks h text =
     arith)))
 
 -- demand 2: 'a mark list read, and written again to a page long enough, is the same list'
-pub read-then-written : (text marks page : List ℕ) (h : Header) → readList text marks ≡ Read h
+pub read-then-written : (text marks page : List ℕ) (h : Header) → readList text marks ≡ ListRead.Read h
     → length text ≤ length page
-    → (writeList (marksRead text marks) (h .base) (h .reset) page ≡ Written (length text))
+    → (writeList (marksRead text marks) (h .base) (h .reset) page ≡ ListWritten.Written (length text))
     × (pageWritten (marksRead text marks) (h .base) (h .reset) page ≡ text ++ drop (length text) page)
 unfolding readList marksRead marksBy pageWritten pageBy writeList
 read-then-written text marks page h e long =
@@ -79,14 +79,15 @@ read-then-written text marks page h e long =
     let fits = right-length (h .length) (length marks) (held .1 .0) in
     let same = is-text h text (held .0) in
     let tests = writeTests (marksOf h text) (h .base) (h .reset) page in
-    let passes : firstRefusal tests ≡ Passed = none-fails tests (
+    let passes : firstRefusal tests ≡ TestResult.Passed = none-fails tests (
       rw (length-marks-of h text) (rw (fits .same) at (held .1 .0)),
       (
         rw (length-marks-of h text) (held .1 .1 .0),
         (formed-marks h text, (held .1 .1 .1 .0, (rw same (le-leb (length text) (length page) long), tt))),
       ),
     ) in
-    let answer : writeList (marksOf h text) (h .base) (h .reset) page ≡ Written (length text) = rw (passes, same) in
+    let answer : writeList (marksOf h text) (h .base) (h .reset) page ≡ ListWritten.Written (length text) =
+    rw (passes, same) in
     rw e (answer, rw (answer, same))
 
 -- the text of marks that were written shows its first line and the marks, and leaves nothing
@@ -130,7 +131,8 @@ module _ (marks : List ℕ) (base reset n : ℕ) (page : List ℕ)
   unfolding marksOf
   marks-again = rw shows-lines (shows-marks .0)
 
-  read-again : (lent : ℕ) → lent ≡ length marks → readAs first-line (listText marks base reset) lent ≡ Read first-line
+  read-again : (lent : ℕ) → lent ≡ length marks
+      → readAs first-line (listText marks base reset) lent ≡ ListRead.Read first-line
   unfolding readAs
   read-again lent same =
       rw (none-fails (readTests first-line (listText marks base reset) lent)
@@ -138,9 +140,9 @@ module _ (marks : List ℕ) (base reset n : ℕ) (page : List ℕ)
 
 -- a list that was written is read as the same marks, base and reset, into marks of their length
 pub written-then-read : (marks : List ℕ) (base reset n : ℕ) (page lent : List ℕ)
-    → writeList marks base reset page ≡ Written n → length lent ≡ length marks
+    → writeList marks base reset page ≡ ListWritten.Written n → length lent ≡ length marks
     → (readList (take n (pageWritten marks base reset page)) lent
-    ≡ Read (record { base = base; length = length marks; reset = reset }))
+    ≡ ListRead.Read (record { base = base; length = length marks; reset = reset }))
     × (marksRead (take n (pageWritten marks base reset page)) lent ≡ marks)
 unfolding pageWritten pageBy readList marksRead marksBy
 written-then-read marks base reset n page lent e same =

@@ -13,21 +13,15 @@ use lib.ListN.{length}
 use borrow.Author.Tests.{leb-true}
 use Rattle.types.specs.declared.code.Instruction.{Instruction}
 use Rattle.types.specs.declared.code.Decoded.{Decoded}
-use Rattle.types.specs.declared.code.Decoded.the-variants.{Whole, NotCarried, CutOff}
 use Rattle.types.specs.declared.machine.CallChange.{CallChange}
-use Rattle.types.specs.declared.machine.CallChange.the-variants.{Keep, Open, Close}
 use Rattle.types.specs.declared.machine.Served.{Served}
-use Rattle.types.specs.declared.machine.Served.the-variants.{All, Refused as Unserved}
 use Rattle.types.specs.declared.machine.State.{State}
 use Rattle.types.specs.declared.machine.Stop.{Stop}
 use Rattle.types.specs.declared.machine.Answer.{Answer}
-use Rattle.types.specs.declared.machine.Answer.the-variants.{Completed, Called, Stopped}
 use Rattle.types.specs.declared.refusals.Refusal.{Refusal}
-use Rattle.types.specs.declared.refusals.TestResult.the-variants.{Passed, Failed}
+use Rattle.types.specs.declared.refusals.TestResult.{TestResult}
 use Rattle.types.specs.declared.runs.End.{End}
-use Rattle.types.specs.declared.runs.End.the-variants.{Done, AtStop}
 use Rattle.types.specs.declared.runs.RunAnswer.{RunAnswer}
-use Rattle.types.specs.declared.runs.RunAnswer.the-variants.{NotRun, Ended}
 use Rattle.prelude.specs.Choice.{pick}
 use Rattle.types.specs.Addresses.{addressLimit}
 use Rattle.model.specs.Image.{imageLimit}
@@ -113,15 +107,15 @@ lastStops (e ∷ []) = not (isCompleted (e .result .answer))
 lastStops (e ∷ f ∷ rest) = lastStops (f ∷ rest)
 
 completed-passes : (a : Answer) (end : End) → isCompleted a ≡ true → endAfter a end ≡ end
-completed-passes Completed end h = refl
-completed-passes Called end h = refl
-completed-passes (Stopped stop) end h = let z : _≡_ {A = ℕ} 0 1 = cc in absurd (omega arith)
+completed-passes Answer.Completed end h = refl
+completed-passes Answer.Called end h = refl
+completed-passes (Answer.Stopped stop) end h = let z : _≡_ {A = ℕ} 0 1 = cc in absurd (omega arith)
 
 -- the end of one step
-one-end : (a : Answer) → (endNumber (endAfter a Done) ≡ 0) ↔ (not (isCompleted a) ≡ false)
-one-end Completed = (λ _. refl, λ _. refl)
-one-end Called = (λ _. refl, λ _. refl)
-one-end (Stopped stop) = (
+one-end : (a : Answer) → (endNumber (endAfter a End.Done) ≡ 0) ↔ (not (isCompleted a) ≡ false)
+one-end Answer.Completed = (λ _. refl, λ _. refl)
+one-end Answer.Called = (λ _. refl, λ _. refl)
+one-end (Answer.Stopped stop) = (
   λ e. absurd (omega (arith, stop-range stop .0)),
   λ h. let z : _≡_ {A = ℕ} 0 1 = cc in absurd (omega arith),
 )
@@ -143,20 +137,20 @@ others-completed [] l = refl
 others-completed (e ∷ []) l = one-or-other (isCompleted (e .result .answer))
 others-completed (e ∷ f ∷ rest) l = rw (l .0) (omega (arith, others-completed (f ∷ rest) (l .1)))
 
-stopped-ends : (a : Answer) (end : End) → isCompleted a ≡ false → endAfter a end ≡ Done → ⊥
-stopped-ends Completed end h e = let z : _≡_ {A = ℕ} 0 1 = cc in absurd (omega arith)
-stopped-ends Called end h e = let z : _≡_ {A = ℕ} 0 1 = cc in absurd (omega arith)
-stopped-ends (Stopped stop) end h e = let z : _≡_ {A = ℕ} 0 1 = cc in absurd (omega arith)
+stopped-ends : (a : Answer) (end : End) → isCompleted a ≡ false → endAfter a end ≡ End.Done → ⊥
+stopped-ends Answer.Completed end h e = let z : _≡_ {A = ℕ} 0 1 = cc in absurd (omega arith)
+stopped-ends Answer.Called end h e = let z : _≡_ {A = ℕ} 0 1 = cc in absurd (omega arith)
+stopped-ends (Answer.Stopped stop) end h e = let z : _≡_ {A = ℕ} 0 1 = cc in absurd (omega arith)
 
 -- where the end is 0 as many steps are completed as were asked
-pub all-asked : (m : Memory) (s : State) (n : ℕ) → endOf (history m s n) ≡ Done → completedSteps (history m s n) ≡ n
+pub all-asked : (m : Memory) (s : State) (n : ℕ) → endOf (history m s n) ≡ End.Done → completedSteps (history m s n) ≡ n
 unfolding history
 all-asked m s zero = λ _. refl
 all-asked m s (suc n) =
-    by-first-step m s n (λ h. endOf h ≡ Done → completedSteps h ≡ suc n)
+    by-first-step m s n (λ h. endOf h ≡ End.Done → completedSteps h ≡ suc n)
     (λ c end. one-more c (all-asked (withRam (step m s .ram) m) (step m s .state) n
     (rw (completed-passes (step m s .answer) (endOf (onward m s n)) c) at end)))
-    (λ c end. absurd (stopped-ends (step m s .answer) Done c end))
+    (λ c end. absurd (stopped-ends (step m s .answer) End.Done c end))
   where
     one-more : isCompleted (step m s .answer) ≡ true → completedSteps (onward m s n) ≡ n
         → bit (isCompleted (step m s .answer)) + completedSteps (onward m s n) ≡ suc n
@@ -166,14 +160,14 @@ all-asked m s (suc n) =
 
 -- an answer with steps and calls that came before
 abbrev pub counted : ℕ → ℕ → RunAnswer → RunAnswer
-counted steps calls (NotRun why) = NotRun why
-counted steps calls (Ended end k c) = Ended end (steps + k) (calls + c)
+counted steps calls (RunAnswer.NotRun why) = RunAnswer.NotRun why
+counted steps calls (RunAnswer.Ended end k c) = RunAnswer.Ended end (steps + k) (calls + c)
 
 abbrev pub further : ℕ → ℕ → Ran → Ran
 further steps calls r = record { answer = counted steps calls (r .answer); state = r .state; ram = r .ram }
 
 abbrev pub ended : End → ℕ → ℕ → State → List ℕ → Ran
-ended end steps calls s ram = record { answer = Ended end steps calls; state = s; ram = ram }
+ended end steps calls s ram = record { answer = RunAnswer.Ended end steps calls; state = s; ram = ram }
 
 -- what a completed step leaves is what the rest goes on from
 pub state-passes : (s : State) (e : Event) (h : List Event) → isCompleted (e .result .answer) ≡ true
@@ -207,25 +201,26 @@ module _ (m : Memory) (s : State) where
       (simp add-assoc)
 
   -- a run whose first step stops ends so
-  pub run-stops : (n steps calls : ℕ) (stop : Stop) → step m s .answer ≡ Stopped stop
-      → further steps calls (played m s (suc n)) ≡ ended (AtStop stop) steps calls s (m .ram)
+  pub run-stops : (n steps calls : ℕ) (stop : Stop) → step m s .answer ≡ Answer.Stopped stop
+      → further steps calls (played m s (suc n)) ≡ ended (End.AtStop stop) steps calls s (m .ram)
   run-stops n steps calls stop e = rw (stops-there m s n (rw e refl), e) (simp add-zero)
 
   -- a run of 0 steps ends with 0
-  pub run-ends : (steps calls : ℕ) → further steps calls (played m s 0) ≡ ended Done steps calls s (m .ram)
+  pub run-ends : (steps calls : ℕ) → further steps calls (played m s 0) ≡ ended End.Done steps calls s (m .ram)
   unfolding history
   run-ends steps calls = simp add-zero
 
 -- ---- a run, refused or not
 
 module _ (m : Memory) (s : State) (n : ℕ) where
-  pub admitted-ran : admission m s n ≡ Passed → (runHistory m s n ≡ history m s n) × (ran m s n ≡ played m s n)
+  pub admitted-ran : admission m s n ≡ TestResult.Passed
+      → (runHistory m s n ≡ history m s n) × (ran m s n ≡ played m s n)
   unfolding ran admittedHistory
   admitted-ran a = (rw a refl, rw a refl)
 
   -- a refused run makes no step, answers its refusal and leaves all as given
-  pub refused-ran : (why : Refusal) → admission m s n ≡ Failed why
-      → (runHistory m s n ≡ []) × (ran m s n ≡ record { answer = NotRun why; state = s; ram = m .ram })
+  pub refused-ran : (why : Refusal) → admission m s n ≡ TestResult.Failed why
+      → (runHistory m s n ≡ []) × (ran m s n ≡ record { answer = RunAnswer.NotRun why; state = s; ram = m .ram })
   unfolding ran admittedHistory
   refused-ran why a = (rw a refl, rw a refl)
 
@@ -236,7 +231,7 @@ pub record Bounds (m : Memory) (fits : Bool) (asked : ℕ) : Type 0 where
   pub taken : fits ≡ true
   pub steps : asked ≤ stepLimit
 
-pub admitted : (m : Memory) (fits : Bool) (asked : ℕ) → firstRefusal (runTests m fits asked) ≡ Passed
+pub admitted : (m : Memory) (fits : Bool) (asked : ℕ) → firstRefusal (runTests m fits asked) ≡ TestResult.Passed
     → Bounds m fits asked
 admitted m fits asked e =
     let held = shown (runTests m fits asked) e in
@@ -254,9 +249,9 @@ completed-stops e = let z : _≡_ {A = ℕ} 0 1 = cc in absurd (omega arith)
 
 module _ (m : Memory) (s : State) where
   changes-complete : (change : CallChange) → isCompleted (answerOf change) ≡ true
-  changes-complete Keep = refl
-  changes-complete (Open address kind) = refl
-  changes-complete Close = refl
+  changes-complete CallChange.Keep = refl
+  changes-complete (CallChange.Open address kind) = refl
+  changes-complete CallChange.Close = refl
 
   pub stopped-leaves : isCompleted (step m s .answer) ≡ false → (step m s .state ≡ s) × (step m s .ram ≡ m .ram)
   unfolding step
@@ -264,8 +259,8 @@ module _ (m : Memory) (s : State) where
     where
       served-so : (i : Instruction) (d : Change) (v : Served) → isCompleted (onServed v i d m s .answer) ≡ false
           → (onServed v i d m s .state ≡ s) × (onServed v i d m s .ram ≡ m .ram)
-      served-so i d All e = absurd (completed-stops (sym (changes-complete (d .calls)) ∙ e))
-      served-so i d (Unserved stop) e = (refl, refl)
+      served-so i d Served.All e = absurd (completed-stops (sym (changes-complete (d .calls)) ∙ e))
+      served-so i d (Served.Refused stop) e = (refl, refl)
 
       planned-so : (i : Instruction) (p : Plan) → isCompleted (finish p i m s .answer) ≡ false
           → (finish p i m s .state ≡ s) × (finish p i m s .ram ≡ m .ram)
@@ -274,9 +269,9 @@ module _ (m : Memory) (s : State) where
 
       by : (d : Decoded) → isCompleted (onDecoded d m s .answer) ≡ false
           → (onDecoded d m s .state ≡ s) × (onDecoded d m s .ram ≡ m .ram)
-      by CutOff e = (refl, refl)
-      by NotCarried e = (refl, refl)
-      by (Whole i) e = planned-so i (plan m s i) e
+      by Decoded.CutOff e = (refl, refl)
+      by Decoded.NotCarried e = (refl, refl)
+      by (Decoded.Whole i) e = planned-so i (plan m s i) e
 
   -- a run of one step answers as the step ended, and leaves what it left
   pub played-one : played m s 1 ≡ oneStep (step m s)
@@ -284,9 +279,9 @@ module _ (m : Memory) (s : State) where
   played-one = by (isCompleted (step m s .answer)) refl
     where
       stays : (t : Answer) → isCompleted t ≡ false → bit (isCall t) ≡ 0
-      stays Completed c = absurd (completed-stops c)
-      stays Called c = absurd (completed-stops c)
-      stays (Stopped stop) c = refl
+      stays Answer.Completed c = absurd (completed-stops c)
+      stays Answer.Called c = absurd (completed-stops c)
+      stays (Answer.Stopped stop) c = refl
 
       by : (b : Bool) → isCompleted (step m s .answer) ≡ b → played m s 1 ≡ oneStep (step m s)
       by true c = rw (goes-on m s 0 c, c) (simp add-zero)

@@ -10,9 +10,8 @@ use lib.ListN.{length}
 use borrow.Author.Tests.{eq-eqb, ne-eqb, eqb-true}
 use Rattle.types.specs.declared.refusals.Refusal.{Refusal}
 use Rattle.types.specs.declared.refusals.TestResult.{TestResult}
-use Rattle.types.specs.declared.refusals.TestResult.the-variants.{Passed, Failed}
 use Rattle.types.specs.declared.runs.End.{End}
-use Rattle.types.specs.declared.runs.RunAnswer.the-variants.{NotRun, Ended}
+use Rattle.types.specs.declared.runs.RunAnswer.{RunAnswer}
 use Rattle.types.specs.Refusals.{firstRefusal}
 use Rattle.model.specs.Memory.{Memory}
 use Rattle.model.specs.Run.{history, completedSteps, callsAmong, endOf, stateFits, runTests, admission}
@@ -37,10 +36,10 @@ module _ (m : Memory) (bytes : List ℕ) (asked : ℕ) where
       where
         by : (a : TestResult) → admission m (stateOf bytes) asked ≡ a
             → ranBytesBy a m bytes asked ≡ asBytes (ran m (stateOf bytes) asked)
-        by Passed e = ap asBytes (sym (admitted-ran m (stateOf bytes) asked e .1))
-        by (Failed why) e =
+        by TestResult.Passed e = ap asBytes (sym (admitted-ran m (stateOf bytes) asked e .1))
+        by (TestResult.Failed why) e =
             rw (refused-ran m (stateOf bytes) asked why e .1)
-            (λ j. record { answer = NotRun why; state = sym (bytes-state bytes long small) j; ram = m .ram })
+            (λ j. record { answer = RunAnswer.NotRun why; state = sym (bytes-state bytes long small) j; ram = m .ram })
 
     -- what the bytes of a run say is what the run of the state that they say comes to
     module _ (in-image : AllBytes (m .image)) (in-ram : AllBytes (m .ram)) where
@@ -66,13 +65,13 @@ module _ (m : Memory) (bytes : List ℕ) (asked : ℕ) where
     pub history-is : runHistory m (stateOf bytes) asked ≡ history m (stateOf bytes) asked
     pub ran-is : ranBytes m bytes asked ≡ asBytes (played m (stateOf bytes) asked)
 
-  pub taken : (end : End) (steps calls : ℕ) → ranBytes m bytes asked .answer ≡ Ended end steps calls → Taken
+  pub taken : (end : End) (steps calls : ℕ) → ranBytes m bytes asked .answer ≡ RunAnswer.Ended end steps calls → Taken
   unfolding ranBytes
   taken end steps calls = by (firstRefusal (runTests m (bytesFit bytes) asked)) refl
     where
       by : (a : TestResult) → firstRefusal (runTests m (bytesFit bytes) asked) ≡ a
-          → ranBytesBy a m bytes asked .answer ≡ Ended end steps calls → Taken
-      by Passed e told =
+          → ranBytesBy a m bytes asked .answer ≡ RunAnswer.Ended end steps calls → Taken
+      by TestResult.Passed e told =
           let fits = both-true (eqb (length bytes) stateSize) (stateFits (stateOf bytes))
           (admitted m (bytesFit bytes) asked e .taken) in
           let long = eqb-true (length bytes) stateSize (fits .0) in
@@ -81,27 +80,28 @@ module _ (m : Memory) (bytes : List ℕ) (asked : ℕ) where
             history-is = admitted-ran m (stateOf bytes) asked (sym (same-admission long) ∙ e) .0;
             ran-is = rw e refl;
           }
-      by (Failed why) e told = let z : _≡_ {A = ℕ} 0 1 = cc in absurd (omega arith)
+      by (TestResult.Failed why) e told = let z : _≡_ {A = ℕ} 0 1 = cc in absurd (omega arith)
 
   -- ---- 'A refusal leaves every buffer and the state as given', and so does a run that completes no step
 
-  pub refused-leaves : (why : Refusal) → ranBytes m bytes asked .answer ≡ NotRun why
+  pub refused-leaves : (why : Refusal) → ranBytes m bytes asked .answer ≡ RunAnswer.NotRun why
       → (ranBytes m bytes asked .state ≡ bytes) × (ranBytes m bytes asked .ram ≡ m .ram)
   unfolding ranBytes
   refused-leaves why = by (firstRefusal (runTests m (bytesFit bytes) asked))
     where
-      by : (a : TestResult) → ranBytesBy a m bytes asked .answer ≡ NotRun why
+      by : (a : TestResult) → ranBytesBy a m bytes asked .answer ≡ RunAnswer.NotRun why
           → (ranBytesBy a m bytes asked .state ≡ bytes) × (ranBytesBy a m bytes asked .ram ≡ m .ram)
-      by Passed e = let z : _≡_ {A = ℕ} 0 1 = cc in absurd (omega arith)
-      by (Failed other) e = (refl, refl)
+      by TestResult.Passed e = let z : _≡_ {A = ℕ} 0 1 = cc in absurd (omega arith)
+      by (TestResult.Failed other) e = (refl, refl)
 
-  pub none-leaves : AllBytes bytes → (end : End) (calls : ℕ) → ranBytes m bytes asked .answer ≡ Ended end 0 calls
+  pub none-leaves : AllBytes bytes → (end : End) (calls : ℕ)
+      → ranBytes m bytes asked .answer ≡ RunAnswer.Ended end 0 calls
       → (ranBytes m bytes asked .state ≡ bytes) × (ranBytes m bytes asked .ram ≡ m .ram)
   none-leaves small end calls told =
       let t = taken end 0 calls told in
       let same = t .ran-is in
       let h = history m (stateOf bytes) asked in
-      let none : Ended (endOf h) (completedSteps h) (callsAmong h) ≡ Ended end 0 calls =
+      let none : RunAnswer.Ended (endOf h) (completedSteps h) (callsAmong h) ≡ RunAnswer.Ended end 0 calls =
       sym (ap (λ r. r .answer) same) ∙ told in
       let left = none-completed (stateOf bytes) (m .ram) h cc in (
         ap (λ r. r .state) same ∙ ap bytesOf (left .0) ∙ bytes-state bytes (t .long) small,

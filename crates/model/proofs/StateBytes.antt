@@ -3,11 +3,10 @@
 -- Assumes nothing.
 use mathlib.Core.Path.{_≡_, refl, sym, ap, _∙_}
 use mathlib.Core.List.{List, [], _∷_}
-use Prim.Native.Nat.{ℕ, zero, suc, _+_, _*_, _/_, _%_, _^_, _≤_, _<_}
-use native.Mathlib.Nat.{div-add-mod, div-lt-iff-lt-mul, mul-suc, mul-zero, pow-suc, pow-zero}
+use Prim.Native.Nat.{ℕ, _*_, _^_, _≤_, _<_}
 use native.Mathlib.Omega.{arith}
 use lib.ListN.{length, getD, take, drop, length-append, length-drop}
-use lib.Seq.{drop-drop, drop-at, take-add, take-all, take-at}
+use lib.Seq.{drop-drop, take-add, take-all}
 use Rattle.fields.proofs.Fields.{joined-parted, length-joined, number-low, parted-from, parted-joined, parted-none}
 use Rattle.types.specs.declared.machine.Core.{Core}
 use Rattle.types.specs.declared.machine.State.{State}

@@ -10,12 +10,11 @@ use lib.Bits.{bitAnd, bitOr, and-step, or-step, and-mask, or-zero-r}
 use lib.Dec.{eqb}
 use lib.ListN.{length, getD}
 use Rattle.types.specs.declared.code.Operation.{Operation}
-use Rattle.types.specs.declared.code.Operation.the-variants.{CLP, SEP}
 use Rattle.types.specs.declared.code.Instruction.{Instruction}
-use Rattle.types.specs.declared.code.Decoded.the-variants.{Whole}
+use Rattle.types.specs.declared.code.Decoded.{Decoded}
 use Rattle.types.specs.declared.machine.Status.{Status}
 use Rattle.types.specs.declared.machine.State.{State}
-use Rattle.types.specs.declared.machine.Residence.the-variants.{Instruction as Instr}
+use Rattle.types.specs.declared.machine.Residence.{Residence}
 use Rattle.prelude.specs.Choice.{pick}
 use Rattle.model.specs.Operations.{isIn}
 use Rattle.model.specs.CodeMap.{prefixBytes, entryAt, flowOf, effectOf as changesOf, widthOf}
@@ -143,10 +142,10 @@ pub record By (i : Instruction) (o : Operation) : Type 0 where
   pub flow : i .entry .flow ≡ flowOf o (i .entry .mode)
   pub effect : i .entry .effect ≡ changesOf o
   pub width : i .entry .width ≡ widthOf o
-  pub behind : residenceOf (i .entry .mode) ≡ Instr
+  pub behind : residenceOf (i .entry .mode) ≡ Residence.Instruction
 
 by-entry : (i : Instruction) (page code : ℕ) (operation : Operation) → i .entry ≡ entryAt page code
-    → i .entry .operation ≡ operation → isIn (SEP ∷ CLP ∷ []) operation ≡ true → By i operation
+    → i .entry .operation ≡ operation → isIn (Operation.SEP ∷ Operation.CLP ∷ []) operation ≡ true → By i operation
 unfolding entryAt
 by-entry i page code operation same is one =
     let is′ : entryAt page code .operation ≡ operation = rw same at is in
@@ -158,8 +157,8 @@ by-entry i page code operation same is one =
       behind = rw same (data-behind page code operation is′ one);
     }
 
-by-code : (m : Memory) (s : State) (i : Instruction) (operation : Operation) → fetched m (s .core) ≡ Whole i
-    → i .entry .operation ≡ operation → isIn (SEP ∷ CLP ∷ []) operation ≡ true → By i operation
+by-code : (m : Memory) (s : State) (i : Instruction) (operation : Operation) → fetched m (s .core) ≡ Decoded.Whole i
+    → i .entry .operation ≡ operation → isIn (Operation.SEP ∷ Operation.CLP ∷ []) operation ≡ true → By i operation
 by-code m s i operation fetches is one =
     let bytes = bytesFrom m (placeOf (s .core)) (length (m .image)) in
     let page = pageOf (getD bytes 0 0) in
@@ -171,7 +170,7 @@ pub sep-sets : SepSets
 unfolding step planBy operates dataOf operandBy effectOf mAfter xAfter
 sep-sets m s i fetches is =
     let status = s .core .registers .status in
-    let by = by-code m s i SEP fetches is refl in
+    let by = by-code m s i Operation.SEP fetches is refl in
     rw (
       fetches,
       by .flow,
@@ -188,7 +187,7 @@ pub clp-clears : ClpClears
 unfolding step planBy operates dataOf operandBy effectOf mAfter xAfter
 clp-clears m s i fetches is small =
     let status = s .core .registers .status in
-    let by = by-code m s i CLP fetches is refl in
+    let by = by-code m s i Operation.CLP fetches is refl in
     rw (
       fetches,
       by .flow,

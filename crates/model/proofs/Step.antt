@@ -15,21 +15,15 @@ use lib.Seq.{drop-cons}
 use borrow.Author.Tests.{lt-ltb, le-ltb, le-leb, lt-leb, ltb-true, ltb-false}
 use Rattle.types.specs.declared.code.Kind.{Kind}
 use Rattle.types.specs.declared.code.Flow.{Flow}
-use Rattle.types.specs.declared.code.Flow.the-variants.{Next, Branch, Jump, Call, Return, Halt}
 use Rattle.types.specs.declared.code.Instruction.{Instruction}
 use Rattle.types.specs.declared.code.Decoded.{Decoded}
-use Rattle.types.specs.declared.code.Decoded.the-variants.{Whole, NotCarried, CutOff}
 use Rattle.types.specs.declared.machine.Registers.{Registers}
 use Rattle.types.specs.declared.machine.Core.{Core}
 use Rattle.types.specs.declared.machine.State.{State}
 use Rattle.types.specs.declared.machine.Store.{Store}
 use Rattle.types.specs.declared.machine.Stop.{Stop}
-use Rattle.types.specs.declared.machine.Stop.the-variants.{Outside, Uncarried, Halt as Halted, Unmapped}
-use Rattle.types.specs.declared.machine.Stop.the-variants.{Astray, Deep, ImageStore, Decimal}
 use Rattle.types.specs.declared.machine.Served.{Served}
-use Rattle.types.specs.declared.machine.Served.the-variants.{All, Refused}
 use Rattle.types.specs.declared.machine.CallChange.{CallChange}
-use Rattle.types.specs.declared.machine.CallChange.the-variants.{Keep, Open, Close}
 use Rattle.types.specs.declared.machine.Data.{Data}
 use Rattle.prelude.specs.Choice.{pick}
 use Rattle.types.specs.Addresses.{addressLimit}
@@ -118,7 +112,7 @@ module _ (m : Memory) where
 
 -- what is fetched under the image, and from the base on
 module _ (ram image : List ℕ) (base : ℕ) (c : Core) (place : ℕ) (there : place ≡ placeOf c) where
-  pub fetched-under : place < base → CutOff ≡ fetched (memory ram image base) c
+  pub fetched-under : place < base → Decoded.CutOff ≡ fetched (memory ram image base) c
   fetched-under h =
       rw (← there, none-outside (memory ram image base) place (length image) (rw (lt-leb base place h) refl))
       (decode-nothing [] _ _ refl)
@@ -132,25 +126,26 @@ module _ (ram image : List ℕ) (base : ℕ) (c : Core) (place : ℕ) (there : p
 -- ---- the order of stops, as laws of the definition
 -- 27 before any read: whatever memory holds
 pub decimal-first : (m : Memory) (c : Core) (i : Instruction) (goes : Bool → ℕ)
-    → isDecimal (accessOf (i .entry .operation)) (c .registers) ≡ true → operates c i m goes ≡ stops Decimal
+    → isDecimal (accessOf (i .entry .operation)) (c .registers) ≡ true → operates c i m goes ≡ stops Stop.Decimal
 unfolding operates
 decimal-first m c i goes h = rw h refl
 
 -- 24 only after the pulls: a byte that is not mapped decides before
 pub pulls-first : (m : Memory) (c : Core) (i : Instruction) (open-call : ℕ) (kind : Kind)
-    → come m (pullsReturn c i kind) ≡ unmapped → planBy c i m open-call (Return kind) ≡ stops Unmapped
+    → come m (pullsReturn c i kind) ≡ unmapped → planBy c i m open-call (Flow.Return kind) ≡ stops Stop.Unmapped
 unfolding planBy
 pulls-first m c i open-call kind h = rw h refl
 
 -- 25 before any push: whatever could be served
 pub deep-first : (m : Memory) (c : Core) (i : Instruction) (open-call : ℕ) (kind : Kind)
-    → ltb (c .depth) callLimit ≡ false → planBy c i m open-call (Call kind) ≡ stops Deep
+    → ltb (c .depth) callLimit ≡ false → planBy c i m open-call (Flow.Call kind) ≡ stops Stop.Deep
 unfolding planBy calls
 deep-first m c i open-call kind h = rw h refl
 
 -- the first store that can't be served decides
-pub first-unserved : (m : Memory) (a : Store) (rest : List Store) (stop : Stop) → servedAt m (a .address) ≡ Refused stop
-    → served m (a ∷ rest) ≡ Refused stop
+pub first-unserved : (m : Memory) (a : Store) (rest : List Store) (stop : Stop)
+    → servedAt m (a .address) ≡ Served.Refused stop
+    → served m (a ∷ rest) ≡ Served.Refused stop
 first-unserved m a rest stop h = rw h refl
 
 -- a word goes low byte first, a push high byte first
@@ -165,9 +160,9 @@ high-first v r = refl
 
 -- a change opens a call only where fewer than 64 are open
 abbrev pub Opens : CallChange → ℕ → Type 0
-Opens Keep depth = Unit {0}
-Opens (Open address kind) depth = depth < callLimit
-Opens Close depth = Unit {0}
+Opens CallChange.Keep depth = Unit {0}
+Opens (CallChange.Open address kind) depth = depth < callLimit
+Opens CallChange.Close depth = Unit {0}
 
 abbrev pub PlanOpens : Plan → ℕ → Type 0
 PlanOpens (stops stop) depth = Unit {0}
@@ -186,18 +181,19 @@ opens-below c i m opened = by
         come m (dataOf (access c i) (i .entry .mode) (i .entry .accumulator) (c .registers) (short c i) (i .operand))
 
     works-so : (b : Bool) (o : Outcome Data) (goes : Bool → ℕ)
-        → PlanOpens (pick b (stops Decimal) (onRead o (works c i goes))) (c .depth)
+        → PlanOpens (pick b (stops Stop.Decimal) (onRead o (works c i goes))) (c .depth)
     works-so true o goes = tt
     works-so false unmapped goes = tt
     works-so false (done d) goes = tt
 
     calls-so : (kind : Kind) (b : Bool) → ltb (c .depth) callLimit ≡ b → (d : Change)
-        → d .calls ≡ Open (next c i) (kindNumber kind) → PlanOpens (pick b (changes d) (stops Deep)) (c .depth)
+        → d .calls ≡ CallChange.Open (next c i) (kindNumber kind)
+        → PlanOpens (pick b (changes d) (stops Stop.Deep)) (c .depth)
     calls-so kind true e d same = rw same (ltb-true (c .depth) callLimit e)
     calls-so kind false e d same = tt
 
     returns-so : (b : Bool) (after : Registers) (address : ℕ)
-        → PlanOpens (pick b (changes (change after address Close [])) (stops Astray)) (c .depth)
+        → PlanOpens (pick b (changes (change after address CallChange.Close [])) (stops Stop.Astray)) (c .depth)
     returns-so true after address = tt
     returns-so false after address = tt
 
@@ -208,21 +204,21 @@ opens-below c i m opened = by
         (withS (pulledAt (c .registers) (returnBytes kind)) (c .registers)) address
 
     by : (flow : Flow) → PlanOpens (planBy c i m opened flow) (c .depth)
-    by Next = works-so decimal asked (λ taken. next c i)
-    by Branch = works-so decimal asked (λ taken. pick taken (target c i) (next c i))
-    by Jump = tt
-    by (Call kind) =
+    by Flow.Next = works-so decimal asked (λ taken. next c i)
+    by Flow.Branch = works-so decimal asked (λ taken. pick taken (target c i) (next c i))
+    by Flow.Jump = tt
+    by (Flow.Call kind) =
         calls-so kind (ltb (c .depth) callLimit) refl
         (change (withS (pushedAt (c .registers) (returnBytes kind)) (c .registers)) (target c i)
-        (Open (next c i) (kindNumber kind)) (pushesReturn c i kind)) refl
-    by (Return kind) = pulls-so kind (come m (pullsReturn c i kind))
-    by Halt = tt
+        (CallChange.Open (next c i) (kindNumber kind)) (pushesReturn c i kind)) refl
+    by (Flow.Return kind) = pulls-so kind (come m (pullsReturn c i kind))
+    by Flow.Halt = tt
 
 depth-after : (change : CallChange) (depth : ℕ) → Opens change depth → depth ≤ callLimit
     → depthAfter change depth ≤ callLimit
-depth-after Keep depth o h = h
-depth-after (Open address kind) depth o h = omega arith
-depth-after Close depth o h = omega arith
+depth-after CallChange.Keep depth o h = h
+depth-after (CallChange.Open address kind) depth o h = omega arith
+depth-after CallChange.Close depth o h = omega arith
 
 pub depth-kept : (m : Memory) (s : State) → s .core .depth ≤ callLimit → step m s .state .core .depth ≤ callLimit
 unfolding step
@@ -230,8 +226,8 @@ depth-kept m s h = by (fetched m (s .core))
   where
     serves-so : (i : Instruction) (d : Change) (v : Served) → Opens (d .calls) (s .core .depth)
         → onServed v i d m s .state .core .depth ≤ callLimit
-    serves-so i d All o = depth-after (d .calls) (s .core .depth) o h
-    serves-so i d (Refused stop) o = h
+    serves-so i d Served.All o = depth-after (d .calls) (s .core .depth) o h
+    serves-so i d (Served.Refused stop) o = h
 
     plans-so : (i : Instruction) (p : Plan) → PlanOpens p (s .core .depth)
         → finish p i m s .state .core .depth ≤ callLimit
@@ -239,9 +235,9 @@ depth-kept m s h = by (fetched m (s .core))
     plans-so i (changes d) o = serves-so i d (served m (d .stores)) o
 
     by : (d : Decoded) → onDecoded d m s .state .core .depth ≤ callLimit
-    by CutOff = h
-    by NotCarried = h
-    by (Whole i) = plans-so i (plan m s i) (opens-below (s .core) i m (lastOpened s) (i .entry .flow))
+    by Decoded.CutOff = h
+    by Decoded.NotCarried = h
+    by (Decoded.Whole i) = plans-so i (plan m s i) (opens-below (s .core) i m (lastOpened s) (i .entry .flow))
 
 -- a stop leaves state and RAM as given
 pub stop-leaves : (m : Memory) (s : State) (stop : Stop)
@@ -250,11 +246,11 @@ stop-leaves m s stop = (refl, refl)
 
 -- the stops are numbers 20 to 27
 pub stop-range : (stop : Stop) → (20 ≤ stopNumber stop) × (stopNumber stop ≤ 27)
-stop-range Outside = (omega arith, omega arith)
-stop-range Uncarried = (omega arith, omega arith)
-stop-range Halted = (omega arith, omega arith)
-stop-range Unmapped = (omega arith, omega arith)
-stop-range Astray = (omega arith, omega arith)
-stop-range Deep = (omega arith, omega arith)
-stop-range ImageStore = (omega arith, omega arith)
-stop-range Decimal = (omega arith, omega arith)
+stop-range Stop.Outside = (omega arith, omega arith)
+stop-range Stop.Uncarried = (omega arith, omega arith)
+stop-range Stop.Halt = (omega arith, omega arith)
+stop-range Stop.Unmapped = (omega arith, omega arith)
+stop-range Stop.Astray = (omega arith, omega arith)
+stop-range Stop.Deep = (omega arith, omega arith)
+stop-range Stop.ImageStore = (omega arith, omega arith)
+stop-range Stop.Decimal = (omega arith, omega arith)

@@ -4,23 +4,21 @@
 -- Assumes nothing.
 use mathlib.Core.Path.{_≡_, refl}
 use mathlib.Core.Logic.{_↔_}
-use mathlib.Core.Bool.{Bool, true, false, not, _&&_}
+use mathlib.Core.Bool.{Bool, true, false}
 use mathlib.Core.List.{List}
 use Prim.Native.Nat.{ℕ, _+_, _-_, _%_, _≤_, _<_}
 use native.Mathlib.Omega.{arith}
 use borrow.Author.Tests.{eqb-true, eq-eqb, ltb-true, ltb-false, not-false}
-use lib.Dec.{eqb, ltb}
+use lib.Dec.{ltb}
 use lib.ListN.{length, getD, List·getD-eq-default}
 use Rattle.prelude.proofs.Choice.{both-true}
 use Rattle.types.specs.declared.code.Instruction.{Instruction}
 use Rattle.types.specs.declared.code.Decoded.{Decoded}
-use Rattle.types.specs.declared.code.Decoded.the-variants.{Whole, NotCarried, CutOff}
 use Rattle.types.specs.declared.refusals.Refusal.{Refusal}
-use Rattle.types.specs.declared.refusals.TestResult.the-variants.{Passed, Failed}
+use Rattle.types.specs.declared.refusals.TestResult.{TestResult}
 use Rattle.types.specs.declared.rules.Want.{Want}
 use Rattle.types.specs.declared.rules.Owed.{Owed}
-use Rattle.types.specs.declared.rules.Owed.the-variants.{Nothing, One, Two}
-use Rattle.types.specs.declared.rules.Verdict.the-variants.{Accepted, Refused}
+use Rattle.types.specs.declared.rules.Verdict.{Verdict}
 use Rattle.prelude.specs.Choice.{pick}
 use Rattle.model.specs.Image.{isFormed, markAt}
 use Rattle.types.specs.Refusals.{firstRefusal}
@@ -79,9 +77,9 @@ met-mark marks base w m = eq-eqb (markAt marks base (w .address)) (w .mark) (m .
 all-met : (marks : List ℕ) (base : ℕ) (o : Owed) → allStarts marks base o ≡ true → allMarks marks base o ≡ true →
     AllMet marks base o
 unfolding allStarts allMarks
-all-met marks base Nothing s m = tt
-all-met marks base (One w) s m = met-tests marks base w s m
-all-met marks base (Two v w) s m =
+all-met marks base Owed.Nothing s m = tt
+all-met marks base (Owed.One w) s m = met-tests marks base w s m
+all-met marks base (Owed.Two v w) s m =
     let starts = both-true (wantsStart marks base v) (wantsStart marks base w) s in
     let same = both-true (wantsMark marks base v) (wantsMark marks base w) m in
     (met-tests marks base v (starts .0) (same .0), met-tests marks base w (starts .1) (same .1))
@@ -89,9 +87,9 @@ all-met marks base (Two v w) s m =
 met-all : (marks : List ℕ) (base : ℕ) (o : Owed) → AllMet marks base o
     → (allStarts marks base o ≡ true) × (allMarks marks base o ≡ true)
 unfolding allStarts allMarks
-met-all marks base Nothing m = (refl, refl)
-met-all marks base (One w) m = (met-start marks base w m, met-mark marks base w m)
-met-all marks base (Two v w) m = (
+met-all marks base Owed.Nothing m = (refl, refl)
+met-all marks base (Owed.One w) m = (met-start marks base w m, met-mark marks base w m)
+met-all marks base (Owed.Two v w) m = (
   rw (met-start marks base v (m .0)) (met-start marks base w (m .1)),
   rw (met-mark marks base v (m .0)) (met-mark marks base w (m .1)),
 )
@@ -99,8 +97,8 @@ met-all marks base (Two v w) m = (
 -- ---- the rules at one start
 
 module _ (image marks : List ℕ) (base at : ℕ) where
-  whole-rules : (i : Instruction) → firstRefusal (wholeTests marks base at i) ≡ Passed
-      → instructionAt image marks at ≡ Whole i → StartRules image marks base at
+  whole-rules : (i : Instruction) → firstRefusal (wholeTests marks base at i) ≡ TestResult.Passed
+      → instructionAt image marks at ≡ Decoded.Whole i → StartRules image marks base at
   whole-rules i h whole =
       let t = shown (wholeTests marks base at i) h in
       record {
@@ -111,30 +109,32 @@ module _ (image marks : List ℕ) (base at : ℕ) where
         successors = all-met marks base (owedThere marks base at i) (t .1 .1 .0) (t .1 .1 .1 .0);
       }
 
-  rules-whole : (r : StartRules image marks base at) → firstRefusal (wholeTests marks base at (r .instruction)) ≡ Passed
+  rules-whole : (r : StartRules image marks base at)
+      → firstRefusal (wholeTests marks base at (r .instruction)) ≡ TestResult.Passed
   rules-whole r =
       let met = met-all marks base (owedThere marks base at (r .instruction)) (r .successors) in
       none-fails (wholeTests marks base at (r .instruction))
       (all-clear marks at (r .instruction .length) (r .no-overlap), (r .returns, (met .0, (met .1, tt))))
 
   -- a start that breaks no rule keeps them all
-  pub start-rules : startAt marks at ≡ true → startResult image marks base at ≡ Passed → StartRules image marks base at
+  pub start-rules : startAt marks at ≡ true → startResult image marks base at ≡ TestResult.Passed
+      → StartRules image marks base at
   unfolding startResult decodedResult
   start-rules s h = by (instructionAt image marks at) refl (rw s at h)
     where
       by : (d : Decoded) → instructionAt image marks at ≡ d
-          → decodedResult marks base at d ≡ Passed → StartRules image marks base at
-      by NotCarried e p = absurd (failed-passed p)
-      by CutOff e p = absurd (failed-passed p)
-      by (Whole i) e p = whole-rules i p e
+          → decodedResult marks base at d ≡ TestResult.Passed → StartRules image marks base at
+      by Decoded.NotCarried e p = absurd (failed-passed p)
+      by Decoded.CutOff e p = absurd (failed-passed p)
+      by (Decoded.Whole i) e p = whole-rules i p e
 
   pub rules-start : (startAt marks at ≡ true → StartRules image marks base at)
-      → startResult image marks base at ≡ Passed
+      → startResult image marks base at ≡ TestResult.Passed
   unfolding startResult decodedResult
   rules-start rules = by (startAt marks at) refl
     where
       by : (b : Bool) → startAt marks at ≡ b
-          → pick b (decodedResult marks base at (instructionAt image marks at)) Passed ≡ Passed
+          → pick b (decodedResult marks base at (instructionAt image marks at)) TestResult.Passed ≡ TestResult.Passed
       by false e = refl
       by true e = let r = rules e in rw (r .whole) (rules-whole r)
 
@@ -146,7 +146,7 @@ unfolding badMark
 formed-all marks h at inside =
     not-false (isFormed (getD marks at 0)) (none-found (unformedAt marks) (length marks) h at inside)
 
-refused-accepts : (why : Refusal) (at : ℕ) → Refused why at ≡ Accepted → ⊥
+refused-accepts : (why : Refusal) (at : ℕ) → Verdict.Refused why at ≡ Verdict.Accepted → ⊥
 refused-accepts why at e = let z : _≡_ {A = ℕ} 0 1 = cc in absurd (omega arith)
 
 -- no start stands past the marks
@@ -161,7 +161,7 @@ start-inside marks at s = by (ltb at (length marks)) refl
 
 module _ (image marks : List ℕ) (base reset : ℕ) where
   -- accepted, and all rules hold
-  pub accepted-rules : verdict image marks base reset ≡ Accepted → Accepts image marks base reset
+  pub accepted-rules : verdict image marks base reset ≡ Verdict.Accepted → Accepts image marks base reset
   unfolding verdict startsVerdict badStart
   accepted-rules h =
       let tests = all-passed (firstRefusal (marksTests (length image) marks base reset)) _
@@ -179,7 +179,7 @@ module _ (image marks : List ℕ) (base reset : ℕ) where
       }
 
   -- all rules hold, and accepted
-  pub rules-accepted : Accepts image marks base reset → verdict image marks base reset ≡ Accepted
+  pub rules-accepted : Accepts image marks base reset → verdict image marks base reset ≡ Verdict.Accepted
   unfolding verdict startsVerdict badMark
   rules-accepted a =
       let formed = found-none (unformedAt marks) (length marks) (λ k inside. rw (a .formed k inside) refl) in
@@ -190,7 +190,7 @@ module _ (image marks : List ℕ) (base reset : ℕ) where
       )
 
   -- demand 2: 'The check accepts an image with its marks exactly when all rules of document 01 are met'
-  pub accepts-exactly : (verdict image marks base reset ≡ Accepted) ↔ Accepts image marks base reset
+  pub accepts-exactly : (verdict image marks base reset ≡ Verdict.Accepted) ↔ Accepts image marks base reset
   accepts-exactly = (accepted-rules, rules-accepted)
 
 -- ---- the search for a bad mark ends at the last mark at most
@@ -202,12 +202,13 @@ bad-mark-most marks = omega (arith, first-is (unformedAt marks) 0 (length marks)
 -- ---- the verdict of a loop over the starts
 
 module _ (image marks : List ℕ) (base : ℕ) where
-  pub stopped-at : (i : ℕ) (why : Refusal) → i ≡ badStart image marks base → startResult image marks base i ≡ Failed why
-      → Refused why i ≡ startsVerdict image marks base
+  pub stopped-at : (i : ℕ) (why : Refusal) → i ≡ badStart image marks base
+      → startResult image marks base i ≡ TestResult.Failed why
+      → Verdict.Refused why i ≡ startsVerdict image marks base
   unfolding startsVerdict
   stopped-at i why at e = rw (← at, e)
 
-  pub passed-over : length marks ≡ badStart image marks base → Accepted ≡ startsVerdict image marks base
+  pub passed-over : length marks ≡ badStart image marks base → Verdict.Accepted ≡ startsVerdict image marks base
   unfolding startsVerdict
   passed-over at =
       rw (

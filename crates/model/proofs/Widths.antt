@@ -5,9 +5,7 @@ use Prim.Native.Nat.{ℕ, _+_, _*_, _/_, _%_, _≤_, _<_}
 use native.Mathlib.Omega.{arith}
 use lib.Dec.{eqb, eqb→eq}
 use Rattle.types.specs.declared.code.WidthEffect.{WidthEffect}
-use Rattle.types.specs.declared.code.WidthEffect.the-variants.{KeepWidths, SetM, ClearM, SetBits, ClearBits}
 use Rattle.types.specs.declared.code.Kind.{Kind}
-use Rattle.types.specs.declared.code.Kind.the-variants.{ByRts, ByRtl}
 use Rattle.model.specs.Image.{markM, markX, markKind, returnM, returnX, markOf}
 use Rattle.types.specs.Status.{maskX, maskM}
 use Rattle.model.specs.Rules.{mAfter, xAfter, kindNumber}
@@ -16,23 +14,23 @@ use Rattle.prelude.proofs.Table.{below-all}
 
 pub m-after-bit : (e : WidthEffect) (m operand : ℕ) → m ≤ 1 → mAfter e m operand ≤ 1
 unfolding mAfter
-m-after-bit KeepWidths m operand h = h
-m-after-bit SetM m operand h = omega arith
-m-after-bit ClearM m operand h = omega arith
-m-after-bit SetBits m operand h = one-of (eqb (operand / maskM % 2) 1) 1 m (omega arith) h
-m-after-bit ClearBits m operand h = one-of (eqb (operand / maskM % 2) 1) 0 m (omega arith) h
+m-after-bit WidthEffect.KeepWidths m operand h = h
+m-after-bit WidthEffect.SetM m operand h = omega arith
+m-after-bit WidthEffect.ClearM m operand h = omega arith
+m-after-bit WidthEffect.SetBits m operand h = one-of (eqb (operand / maskM % 2) 1) 1 m (omega arith) h
+m-after-bit WidthEffect.ClearBits m operand h = one-of (eqb (operand / maskM % 2) 1) 0 m (omega arith) h
 
 pub x-after-bit : (e : WidthEffect) (x operand : ℕ) → x ≤ 1 → xAfter e x operand ≤ 1
 unfolding xAfter
-x-after-bit KeepWidths x operand h = h
-x-after-bit SetM x operand h = h
-x-after-bit ClearM x operand h = h
-x-after-bit SetBits x operand h = one-of (eqb (operand / maskX % 2) 1) 1 x (omega arith) h
-x-after-bit ClearBits x operand h = one-of (eqb (operand / maskX % 2) 1) 0 x (omega arith) h
+x-after-bit WidthEffect.KeepWidths x operand h = h
+x-after-bit WidthEffect.SetM x operand h = h
+x-after-bit WidthEffect.ClearM x operand h = h
+x-after-bit WidthEffect.SetBits x operand h = one-of (eqb (operand / maskX % 2) 1) 1 x (omega arith) h
+x-after-bit WidthEffect.ClearBits x operand h = one-of (eqb (operand / maskX % 2) 1) 0 x (omega arith) h
 
 pub kind-bits : (k : Kind) → kindNumber k ≤ 3
-kind-bits ByRts = omega arith
-kind-bits ByRtl = omega arith
+kind-bits Kind.ByRts = omega arith
+kind-bits Kind.ByRtl = omega arith
 
 -- the fields of a mark, put together again, are its bits 1 to 6 with the start's bit
 abbrev remade : ℕ → ℕ

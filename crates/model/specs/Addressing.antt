@@ -6,30 +6,12 @@ use Prim.Native.Nat.{ℕ, _+_, _*_, _%_}
 use mathlib.Core.Bool.{Bool, true, false}
 use mathlib.Core.List.{List, [], _∷_}
 use Rattle.types.specs.declared.code.Operation.{Operation}
-use Rattle.types.specs.declared.code.Operation.the-variants.{ADC, LDM, PEI, PLA, PLB, PLD, PLT, PLX, PLY}
-use Rattle.types.specs.declared.code.Operation.the-variants.{SBC, STA, STX, STY}
 use Rattle.types.specs.declared.code.Mode.{Mode}
-use Rattle.types.specs.declared.code.Mode.the-variants.{Implied, Immediate, Accumulator, Direct}
-use Rattle.types.specs.declared.code.Mode.the-variants.{DirectBit, DirectIndexedX, DirectIndexedY}
-use Rattle.types.specs.declared.code.Mode.the-variants.{DirectIndirect, DirectIndexedXIndirect}
-use Rattle.types.specs.declared.code.Mode.the-variants.{DirectIndirectIndexedY, DirectIndirectLong}
-use Rattle.types.specs.declared.code.Mode.the-variants.{DirectIndirectLongIndexedY, Absolute, AbsoluteBit}
-use Rattle.types.specs.declared.code.Mode.the-variants.{AbsoluteIndexedX, AbsoluteIndexedY, AbsoluteLong}
-use Rattle.types.specs.declared.code.Mode.the-variants.{AbsoluteLongIndexedX, AbsoluteIndirect}
-use Rattle.types.specs.declared.code.Mode.the-variants.{AbsoluteIndirectLong, AbsoluteIndexedXIndirect}
-use Rattle.types.specs.declared.code.Mode.the-variants.{Stack, Relative, DirectBitRelative}
-use Rattle.types.specs.declared.code.Mode.the-variants.{AbsoluteBitRelative, StackPointerRelative}
-use Rattle.types.specs.declared.code.Mode.the-variants.{StackPointerRelativeIndirectIndexedY}
-use Rattle.types.specs.declared.code.Mode.the-variants.{BlockTransfer}
 use Rattle.types.specs.declared.code.DataWidth.{DataWidth}
-use Rattle.types.specs.declared.code.DataWidth.the-variants.{NoData, ByM, ByX, Byte, Word}
-use Rattle.types.specs.declared.code.Accumulator.{Accumulator as Named}
-use Rattle.types.specs.declared.code.Accumulator.the-variants.{Unnamed, A, B}
+use Rattle.types.specs.declared.code.Accumulator.{Accumulator}
 use Rattle.types.specs.declared.machine.Registers.{Registers}
 use Rattle.types.specs.declared.machine.Access.{Access}
-use Rattle.types.specs.declared.machine.Access.the-variants.{Operand, Addend, Address, Pull, DirectWord}
 use Rattle.types.specs.declared.machine.Residence.{Residence}
-use Rattle.types.specs.declared.machine.Residence.the-variants.{Memory, Instruction, Register}
 use Rattle.types.specs.declared.machine.Data.{Data}
 use Rattle.prelude.specs.Choice.{pick}
 use Rattle.types.specs.Addresses.{bankSize, addressLimit}
@@ -40,31 +22,31 @@ use Rattle.model.specs.Memory.{readData}
 
 -- manual 4.2: instructions that store what a register or the instruction holds, and read nothing at that address
 abbrev pub storing : List Operation
-storing = LDM ∷ STA ∷ STX ∷ STY ∷ []
+storing = Operation.LDM ∷ Operation.STA ∷ Operation.STX ∷ Operation.STY ∷ []
 
 -- manual 4.2: instructions that pull one register
 abbrev pub pulling : List Operation
-pulling = PLA ∷ PLB ∷ PLD ∷ PLT ∷ PLX ∷ PLY ∷ []
+pulling = Operation.PLA ∷ Operation.PLB ∷ Operation.PLD ∷ Operation.PLT ∷ Operation.PLX ∷ Operation.PLY ∷ []
 
 -- number 27, 'ADC or SBC with D=1'
 abbrev pub adding : List Operation
-adding = ADC ∷ SBC ∷ []
+adding = Operation.ADC ∷ Operation.SBC ∷ []
 
 -- what an operation asks of memory
 abbrev pub accessOf : Operation → Access
 accessOf operation =
-    pick (isIn adding operation) Addend
-    (pick (isIn storing operation) Address
-    (pick (isIn pulling operation) Pull
-    (pick (isIn (PEI ∷ []) operation) DirectWord Operand)))
+    pick (isIn adding operation) Access.Addend
+    (pick (isIn storing operation) Access.Address
+    (pick (isIn pulling operation) Access.Pull
+    (pick (isIn (Operation.PEI ∷ []) operation) Access.DirectWord Access.Operand)))
 
 -- whether data of a width has 8 bits at the widths m and x
 abbrev pub isShort : DataWidth → Bool → Bool → Bool
-isShort NoData m x = false
-isShort ByM m x = m
-isShort ByX m x = x
-isShort Byte m x = true
-isShort Word m x = false
+isShort DataWidth.NoData m x = false
+isShort DataWidth.ByM m x = m
+isShort DataWidth.ByX m x = x
+isShort DataWidth.Byte m x = true
+isShort DataWidth.Word m x = false
 
 -- data has 8 bits or 16
 abbrev pub bits : Bool → ℕ
@@ -115,71 +97,71 @@ byLongY r at = do
 
 -- the address of the data by mode; where a mode names no memory, 0
 unfoldable pub addressOf : Mode → Registers → ℕ → Act ℕ
-addressOf Implied r operand = ret 0
-addressOf Immediate r operand = ret 0
-addressOf Accumulator r operand = ret 0
-addressOf Direct r operand = ret (direct r operand)
-addressOf DirectBit r operand = ret (direct r operand)
-addressOf DirectIndexedX r operand = ret (direct r operand + indexX r)
-addressOf DirectIndexedY r operand = ret (direct r operand + indexY r)
-addressOf DirectIndirect r operand = byWord r (direct r operand)
-addressOf DirectIndexedXIndirect r operand = byWord r (direct r operand + indexX r)
-addressOf DirectIndirectIndexedY r operand = byWordY r (direct r operand)
-addressOf DirectIndirectLong r operand = readLong (direct r operand)
-addressOf DirectIndirectLongIndexedY r operand = byLongY r (direct r operand)
-addressOf Absolute r operand = ret (absolute r operand)
-addressOf AbsoluteBit r operand = ret (absolute r operand)
-addressOf AbsoluteIndexedX r operand = ret (absolute r operand + indexX r)
-addressOf AbsoluteIndexedY r operand = ret (absolute r operand + indexY r)
-addressOf AbsoluteLong r operand = ret (long operand)
-addressOf AbsoluteLongIndexedX r operand = ret (long operand + indexX r)
-addressOf AbsoluteIndirect r operand = ret 0
-addressOf AbsoluteIndirectLong r operand = ret 0
-addressOf AbsoluteIndexedXIndirect r operand = ret 0
-addressOf Stack r operand = ret 0
-addressOf Relative r operand = ret 0
-addressOf DirectBitRelative r operand = ret (direct r operand)
-addressOf AbsoluteBitRelative r operand = ret (absolute r operand)
-addressOf StackPointerRelative r operand = ret (stackRelative r operand)
-addressOf StackPointerRelativeIndirectIndexedY r operand = byWordY r (stackRelative r operand)
-addressOf BlockTransfer r operand = ret 0
+addressOf Mode.Implied r operand = ret 0
+addressOf Mode.Immediate r operand = ret 0
+addressOf Mode.Accumulator r operand = ret 0
+addressOf Mode.Direct r operand = ret (direct r operand)
+addressOf Mode.DirectBit r operand = ret (direct r operand)
+addressOf Mode.DirectIndexedX r operand = ret (direct r operand + indexX r)
+addressOf Mode.DirectIndexedY r operand = ret (direct r operand + indexY r)
+addressOf Mode.DirectIndirect r operand = byWord r (direct r operand)
+addressOf Mode.DirectIndexedXIndirect r operand = byWord r (direct r operand + indexX r)
+addressOf Mode.DirectIndirectIndexedY r operand = byWordY r (direct r operand)
+addressOf Mode.DirectIndirectLong r operand = readLong (direct r operand)
+addressOf Mode.DirectIndirectLongIndexedY r operand = byLongY r (direct r operand)
+addressOf Mode.Absolute r operand = ret (absolute r operand)
+addressOf Mode.AbsoluteBit r operand = ret (absolute r operand)
+addressOf Mode.AbsoluteIndexedX r operand = ret (absolute r operand + indexX r)
+addressOf Mode.AbsoluteIndexedY r operand = ret (absolute r operand + indexY r)
+addressOf Mode.AbsoluteLong r operand = ret (long operand)
+addressOf Mode.AbsoluteLongIndexedX r operand = ret (long operand + indexX r)
+addressOf Mode.AbsoluteIndirect r operand = ret 0
+addressOf Mode.AbsoluteIndirectLong r operand = ret 0
+addressOf Mode.AbsoluteIndexedXIndirect r operand = ret 0
+addressOf Mode.Stack r operand = ret 0
+addressOf Mode.Relative r operand = ret 0
+addressOf Mode.DirectBitRelative r operand = ret (direct r operand)
+addressOf Mode.AbsoluteBitRelative r operand = ret (absolute r operand)
+addressOf Mode.StackPointerRelative r operand = ret (stackRelative r operand)
+addressOf Mode.StackPointerRelativeIndirectIndexedY r operand = byWordY r (stackRelative r operand)
+addressOf Mode.BlockTransfer r operand = ret 0
 
 -- where the data of a mode lies; JMP and JSR through memory are not carried
 abbrev pub residenceOf : Mode → Residence
-residenceOf Implied = Register
-residenceOf Immediate = Instruction
-residenceOf Accumulator = Register
-residenceOf Direct = Memory
-residenceOf DirectBit = Memory
-residenceOf DirectIndexedX = Memory
-residenceOf DirectIndexedY = Memory
-residenceOf DirectIndirect = Memory
-residenceOf DirectIndexedXIndirect = Memory
-residenceOf DirectIndirectIndexedY = Memory
-residenceOf DirectIndirectLong = Memory
-residenceOf DirectIndirectLongIndexedY = Memory
-residenceOf Absolute = Memory
-residenceOf AbsoluteBit = Memory
-residenceOf AbsoluteIndexedX = Memory
-residenceOf AbsoluteIndexedY = Memory
-residenceOf AbsoluteLong = Memory
-residenceOf AbsoluteLongIndexedX = Memory
-residenceOf AbsoluteIndirect = Register
-residenceOf AbsoluteIndirectLong = Register
-residenceOf AbsoluteIndexedXIndirect = Register
-residenceOf Stack = Register
-residenceOf Relative = Register
-residenceOf DirectBitRelative = Memory
-residenceOf AbsoluteBitRelative = Memory
-residenceOf StackPointerRelative = Memory
-residenceOf StackPointerRelativeIndirectIndexedY = Memory
-residenceOf BlockTransfer = Register
+residenceOf Mode.Implied = Residence.Register
+residenceOf Mode.Immediate = Residence.Instruction
+residenceOf Mode.Accumulator = Residence.Register
+residenceOf Mode.Direct = Residence.Memory
+residenceOf Mode.DirectBit = Residence.Memory
+residenceOf Mode.DirectIndexedX = Residence.Memory
+residenceOf Mode.DirectIndexedY = Residence.Memory
+residenceOf Mode.DirectIndirect = Residence.Memory
+residenceOf Mode.DirectIndexedXIndirect = Residence.Memory
+residenceOf Mode.DirectIndirectIndexedY = Residence.Memory
+residenceOf Mode.DirectIndirectLong = Residence.Memory
+residenceOf Mode.DirectIndirectLongIndexedY = Residence.Memory
+residenceOf Mode.Absolute = Residence.Memory
+residenceOf Mode.AbsoluteBit = Residence.Memory
+residenceOf Mode.AbsoluteIndexedX = Residence.Memory
+residenceOf Mode.AbsoluteIndexedY = Residence.Memory
+residenceOf Mode.AbsoluteLong = Residence.Memory
+residenceOf Mode.AbsoluteLongIndexedX = Residence.Memory
+residenceOf Mode.AbsoluteIndirect = Residence.Register
+residenceOf Mode.AbsoluteIndirectLong = Residence.Register
+residenceOf Mode.AbsoluteIndexedXIndirect = Residence.Register
+residenceOf Mode.Stack = Residence.Register
+residenceOf Mode.Relative = Residence.Register
+residenceOf Mode.DirectBitRelative = Residence.Memory
+residenceOf Mode.AbsoluteBitRelative = Residence.Memory
+residenceOf Mode.StackPointerRelative = Residence.Memory
+residenceOf Mode.StackPointerRelativeIndirectIndexedY = Residence.Memory
+residenceOf Mode.BlockTransfer = Residence.Register
 
 -- the accumulator that an entry names, A where it names none
-abbrev pub accumulatorOf : Named → Registers → ℕ
-accumulatorOf Unnamed r = r .a
-accumulatorOf A r = r .a
-accumulatorOf B r = r .b
+abbrev pub accumulatorOf : Accumulator → Registers → ℕ
+accumulatorOf Accumulator.Unnamed r = r .a
+accumulatorOf Accumulator.A r = r .a
+accumulatorOf Accumulator.B r = r .b
 
 abbrev pub dataAt : ℕ → ℕ → Data
 dataAt address v = record { address = address; value = v }
@@ -206,24 +188,25 @@ inMemory mode r short operand = do
   ret (dataAt address v)
 
 -- the data that a mode names
-unfoldable pub operandBy : Residence → Mode → Named → Registers → Bool → ℕ → Act Data
-operandBy Memory mode register r short operand = inMemory mode r short operand
-operandBy Instruction mode register r short operand = ret (dataAt 0 (low (bits short) operand))
-operandBy Register mode register r short operand = ret (dataAt 0 (low (bits short) (accumulatorOf register r)))
+unfoldable pub operandBy : Residence → Mode → Accumulator → Registers → Bool → ℕ → Act Data
+operandBy Residence.Memory mode register r short operand = inMemory mode r short operand
+operandBy Residence.Instruction mode register r short operand = ret (dataAt 0 (low (bits short) operand))
+operandBy Residence.Register mode register r short operand =
+    ret (dataAt 0 (low (bits short) (accumulatorOf register r)))
 
-abbrev pub operandOf : Mode → Named → Registers → Bool → ℕ → Act Data
+abbrev pub operandOf : Mode → Accumulator → Registers → Bool → ℕ → Act Data
 operandOf mode = operandBy (residenceOf mode) mode
 
 -- what is read before an operation works
-unfoldable pub dataOf : Access → Mode → Named → Registers → Bool → ℕ → Act Data
-dataOf Operand mode register r short operand = operandOf mode register r short operand
-dataOf Addend mode register r short operand = operandOf mode register r short operand
-dataOf Address mode register r short operand = do
+unfoldable pub dataOf : Access → Mode → Accumulator → Registers → Bool → ℕ → Act Data
+dataOf Access.Operand mode register r short operand = operandOf mode register r short operand
+dataOf Access.Addend mode register r short operand = operandOf mode register r short operand
+dataOf Access.Address mode register r short operand = do
   address ← addressOf mode r operand
   ret (dataAt address 0)
-dataOf Pull mode register r short operand = do
+dataOf Access.Pull mode register r short operand = do
   v ← pulled short r
   ret (dataAt 0 v)
-dataOf DirectWord mode register r short operand = do
+dataOf Access.DirectWord mode register r short operand = do
   v ← readWord (direct r operand)
   ret (dataAt 0 v)

@@ -6,7 +6,6 @@ use mathlib.Core.Bool.{Bool, true, not, _&&_, _||_}
 use lib.Bits.{bitAnd, bitOr, bitXor}
 use lib.Dec.{eqb}
 use Rattle.types.specs.declared.code.Accumulator.{Accumulator}
-use Rattle.types.specs.declared.code.Accumulator.the-variants.{Unnamed, A, B}
 use Rattle.types.specs.declared.machine.Status.{Status}
 use Rattle.types.specs.declared.machine.Registers.{Registers}
 use Rattle.types.specs.Status.{maskC, maskZ, maskI, maskD, maskV, maskN, isSet}
@@ -165,9 +164,9 @@ loadsY n v r = flagged n v (withY (merged n (r .y) v) r)
 
 -- the accumulator that an entry names, A where it names none
 abbrev pub loads : Accumulator → ℕ → ℕ → Registers → Registers
-loads Unnamed = loadsA
-loads A = loadsA
-loads B = loadsB
+loads Accumulator.Unnamed = loadsA
+loads Accumulator.A = loadsA
+loads Accumulator.B = loadsB
 
 -- ---- addition and subtraction, comparison, logic
 -- ADC and SBC

@@ -6,42 +6,23 @@
 use mathlib.Core.List.{List, [], _∷_}
 use mathlib.Core.Bool.{Bool, true, false}
 use Rattle.types.specs.declared.code.Operation.{Operation}
-use Rattle.types.specs.declared.code.Operation.the-variants.{Unassigned}
-use Rattle.types.specs.declared.code.Operation.the-variants.{ADC, AND, ASL, BBC, BBS, BCC, BCS, BEQ, BMI}
-use Rattle.types.specs.declared.code.Operation.the-variants.{BNE, BPL, BRA, BRK, BVC, BVS, CLB, CLC, CLI}
-use Rattle.types.specs.declared.code.Operation.the-variants.{CLM, CLP, CLV, CMP, CPX, CPY, DEC, DEX, DEY}
-use Rattle.types.specs.declared.code.Operation.the-variants.{DIV, EOR, INC, INX, INY, JMP, JSR, LDA, LDM}
-use Rattle.types.specs.declared.code.Operation.the-variants.{LDT, LDX, LDY, LSR, MPY, MVN, MVP, NOP, ORA}
-use Rattle.types.specs.declared.code.Operation.the-variants.{PEA, PEI, PER, PHA, PHB, PHD, PHG, PHP, PHT}
-use Rattle.types.specs.declared.code.Operation.the-variants.{PHX, PHY, PLA, PLB, PLD, PLP, PLT, PLX, PLY}
-use Rattle.types.specs.declared.code.Operation.the-variants.{PSH, PUL, RLA, ROL, ROR, RTI, RTL, RTS, SBC}
-use Rattle.types.specs.declared.code.Operation.the-variants.{SEB, SEC, SEI, SEM, SEP, STA, STP, STX, STY}
-use Rattle.types.specs.declared.code.Operation.the-variants.{TAD, TAS, TAX, TAY, TBD, TBS, TBX, TBY, TDA}
-use Rattle.types.specs.declared.code.Operation.the-variants.{TDB, TSA, TSB, TSX, TXA, TXB, TXS, TXY, TYA}
-use Rattle.types.specs.declared.code.Operation.the-variants.{TYB, TYX, WIT, XAB}
+use Rattle.types.specs.declared.code.Operation.the-variants as ops
+use ops.{Unassigned, ADC, AND, ASL, BBC, BBS, BCC, BCS, BEQ, BMI, BNE, BPL, BRA, BRK, BVC, BVS, CLB, CLC, CLI, CLM}
+use ops.{CLP, CLV, CMP, CPX, CPY, DEC, DEX, DEY, DIV, EOR, INC, INX, INY, JMP, JSR, LDA, LDM, LDT, LDX, LDY, LSR}
+use ops.{MPY, MVN, MVP, NOP, ORA, PEA, PEI, PER, PHA, PHB, PHD, PHG, PHP, PHT, PHX, PHY, PLA, PLB, PLD, PLP, PLT}
+use ops.{PLX, PLY, PSH, PUL, RLA, ROL, ROR, RTI, RTL, RTS, SBC, SEB, SEC, SEI, SEM, SEP, STA, STP, STX, STY, TAD}
+use ops.{TAS, TAX, TAY, TBD, TBS, TBX, TBY, TDA, TDB, TSA, TSB, TSX, TXA, TXB, TXS, TXY, TYA, TYB, TYX, WIT, XAB}
 use Rattle.types.specs.declared.code.Mode.{Mode}
-use Rattle.types.specs.declared.code.Mode.the-variants.{Implied as IMP, Immediate as IMM}
-use Rattle.types.specs.declared.code.Mode.the-variants.{Accumulator as ACC, Direct as DIR}
-use Rattle.types.specs.declared.code.Mode.the-variants.{DirectBit as DIRb, DirectIndexedX as DIR-X}
-use Rattle.types.specs.declared.code.Mode.the-variants.{DirectIndexedY as DIR-Y, DirectIndirect as ⟨DIR⟩}
-use Rattle.types.specs.declared.code.Mode.the-variants.{DirectIndexedXIndirect as ⟨DIR-X⟩}
-use Rattle.types.specs.declared.code.Mode.the-variants.{DirectIndirectIndexedY as ⟨DIR⟩-Y}
-use Rattle.types.specs.declared.code.Mode.the-variants.{DirectIndirectLong as L⟨DIR⟩}
-use Rattle.types.specs.declared.code.Mode.the-variants.{DirectIndirectLongIndexedY as L⟨DIR⟩-Y}
-use Rattle.types.specs.declared.code.Mode.the-variants.{Absolute as ABS, AbsoluteBit as ABSb}
-use Rattle.types.specs.declared.code.Mode.the-variants.{AbsoluteIndexedX as ABS-X}
-use Rattle.types.specs.declared.code.Mode.the-variants.{AbsoluteIndexedY as ABS-Y, AbsoluteLong as ABL}
-use Rattle.types.specs.declared.code.Mode.the-variants.{AbsoluteLongIndexedX as ABL-X}
-use Rattle.types.specs.declared.code.Mode.the-variants.{AbsoluteIndirect as ⟨ABS⟩}
-use Rattle.types.specs.declared.code.Mode.the-variants.{AbsoluteIndirectLong as L⟨ABS⟩}
-use Rattle.types.specs.declared.code.Mode.the-variants.{AbsoluteIndexedXIndirect as ⟨ABS-X⟩, Stack as STK}
-use Rattle.types.specs.declared.code.Mode.the-variants.{Relative as REL, DirectBitRelative as DIRb-REL}
-use Rattle.types.specs.declared.code.Mode.the-variants.{AbsoluteBitRelative as ABSb-REL}
-use Rattle.types.specs.declared.code.Mode.the-variants.{StackPointerRelative as SR}
-use Rattle.types.specs.declared.code.Mode.the-variants.{StackPointerRelativeIndirectIndexedY as ⟨SR⟩-Y}
-use Rattle.types.specs.declared.code.Mode.the-variants.{BlockTransfer as BLK}
+use Rattle.types.specs.declared.code.Mode.the-variants as modes
+use modes.{Implied as IMP, Immediate as IMM, Accumulator as ACC, Direct as DIR, DirectBit as DIRb}
+use modes.{DirectIndexedX as DIR-X, DirectIndexedY as DIR-Y, DirectIndirect as ⟨DIR⟩}
+use modes.{DirectIndexedXIndirect as ⟨DIR-X⟩, DirectIndirectIndexedY as ⟨DIR⟩-Y, DirectIndirectLong as L⟨DIR⟩}
+use modes.{DirectIndirectLongIndexedY as L⟨DIR⟩-Y, Absolute as ABS, AbsoluteBit as ABSb, AbsoluteIndexedX as ABS-X}
+use modes.{AbsoluteIndexedY as ABS-Y, AbsoluteLong as ABL, AbsoluteLongIndexedX as ABL-X}
+use modes.{AbsoluteIndirect as ⟨ABS⟩, AbsoluteIndirectLong as L⟨ABS⟩, AbsoluteIndexedXIndirect as ⟨ABS-X⟩}
+use modes.{Stack as STK, Relative as REL, DirectBitRelative as DIRb-REL, AbsoluteBitRelative as ABSb-REL}
+use modes.{StackPointerRelative as SR, StackPointerRelativeIndirectIndexedY as ⟨SR⟩-Y, BlockTransfer as BLK}
 use Rattle.types.specs.declared.code.Accumulator.{Accumulator}
-use Rattle.types.specs.declared.code.Accumulator.the-variants.{Unnamed, A, B}
 
 -- What stands in a cell. BRA has two codes of one mode: the one with 16 bits of offset is far.
 pub record Form : Type 0 where
@@ -51,16 +32,16 @@ pub record Form : Type 0 where
   pub isFar : Bool
 
 abbrev pub o : Operation → Mode → Form
-o operation mode = record { operation = operation; mode = mode; accumulator = Unnamed; isFar = false }
+o operation mode = record { operation = operation; mode = mode; accumulator = Accumulator.Unnamed; isFar = false }
 
 abbrev pub far : Operation → Mode → Form
-far operation mode = record { operation = operation; mode = mode; accumulator = Unnamed; isFar = true }
+far operation mode = record { operation = operation; mode = mode; accumulator = Accumulator.Unnamed; isFar = true }
 
 abbrev pub a : Operation → Mode → Form
-a operation mode = record { operation = operation; mode = mode; accumulator = A; isFar = false }
+a operation mode = record { operation = operation; mode = mode; accumulator = Accumulator.A; isFar = false }
 
 abbrev pub b : Operation → Mode → Form
-b operation mode = record { operation = operation; mode = mode; accumulator = B; isFar = false }
+b operation mode = record { operation = operation; mode = mode; accumulator = Accumulator.B; isFar = false }
 
 -- an unassigned code; on the plain page the prefixes 42 and 89 too, which are no codes by themselves
 abbrev pub none : Form

@@ -1,14 +1,13 @@
 -- The instruction at a place: 01, 'length is read from there at the marked widths', and numbers 5 and 6, which are 21
 -- and 20 in a step. It is read from the bytes that begin with the instruction's first one, wherever those come from.
 -- Assumes nothing.
-use Prim.Native.Nat.{ℕ, _+_, _-_, _*_}
-use mathlib.Core.List.{List, [], _∷_}
+use Prim.Native.Nat.{ℕ, _+_, _-_}
+use mathlib.Core.List.{List}
 use lib.Dec.{eqb, ltb, leb}
 use lib.ListN.{length, getD, take, drop}
 use Rattle.fields.specs.Fields.{number}
 use Rattle.types.specs.declared.code.Entry.{Entry}
 use Rattle.types.specs.declared.code.Decoded.{Decoded}
-use Rattle.types.specs.declared.code.Decoded.the-variants.{Whole, NotCarried, CutOff}
 use Rattle.prelude.specs.Choice.{pick}
 use Rattle.model.specs.CodeMap.{prefixBytes, entryAt, lengthAt}
 
@@ -29,9 +28,9 @@ unfoldable pub judged : List ℕ → ℕ → Entry → ℕ → Decoded
 judged bytes prefix e n =
     pick (e .carried)
     (pick (leb n (length bytes))
-    (Whole (record { entry = e; length = n; operand = operandOf bytes prefix n }))
-    CutOff)
-    NotCarried
+    (Decoded.Whole (record { entry = e; length = n; operand = operandOf bytes prefix n }))
+    Decoded.CutOff)
+    Decoded.NotCarried
 
 -- what the bytes begin with, its code behind the prefix bytes of a page
 unfoldable pub decodeOn : ℕ → List ℕ → ℕ → ℕ → Decoded
@@ -39,7 +38,7 @@ decodeOn page bytes m x =
     pick (ltb (prefixBytes page) (length bytes))
     (judged bytes (prefixBytes page) (entryAt page (getD bytes (prefixBytes page) 0))
     (lengthAt (entryAt page (getD bytes (prefixBytes page) 0)) m x))
-    CutOff
+    Decoded.CutOff
 
 -- what the bytes begin with, at the widths m and x
 unfoldable pub decode : List ℕ → ℕ → ℕ → Decoded

@@ -7,36 +7,16 @@ use mathlib.Core.List.{List, [], _∷_}
 use lib.Bits.{bitAnd, bitOr}
 use lib.Dec.{eqb}
 use Rattle.types.specs.declared.code.Operation.{Operation}
-use Rattle.types.specs.declared.code.Operation.the-variants.{Unassigned}
-use Rattle.types.specs.declared.code.Operation.the-variants.{ADC, AND, ASL, BBC, BBS, BCC, BCS, BEQ, BMI}
-use Rattle.types.specs.declared.code.Operation.the-variants.{BNE, BPL, BRA, BRK, BVC, BVS, CLB, CLC, CLI}
-use Rattle.types.specs.declared.code.Operation.the-variants.{CLM, CLP, CLV, CMP, CPX, CPY, DEC, DEX, DEY}
-use Rattle.types.specs.declared.code.Operation.the-variants.{DIV, EOR, INC, INX, INY, JMP, JSR, LDA, LDM}
-use Rattle.types.specs.declared.code.Operation.the-variants.{LDT, LDX, LDY, LSR, MPY, MVN, MVP, NOP, ORA}
-use Rattle.types.specs.declared.code.Operation.the-variants.{PEA, PEI, PER, PHA, PHB, PHD, PHG, PHP, PHT}
-use Rattle.types.specs.declared.code.Operation.the-variants.{PHX, PHY, PLA, PLB, PLD, PLP, PLT, PLX, PLY}
-use Rattle.types.specs.declared.code.Operation.the-variants.{PSH, PUL, RLA, ROL, ROR, RTI, RTL, RTS, SBC}
-use Rattle.types.specs.declared.code.Operation.the-variants.{SEB, SEC, SEI, SEM, SEP, STA, STP, STX, STY}
-use Rattle.types.specs.declared.code.Operation.the-variants.{TAD, TAS, TAX, TAY, TBD, TBS, TBX, TBY, TDA}
-use Rattle.types.specs.declared.code.Operation.the-variants.{TDB, TSA, TSB, TSX, TXA, TXB, TXS, TXY, TYA}
-use Rattle.types.specs.declared.code.Operation.the-variants.{TYB, TYX, WIT, XAB}
+use Rattle.types.specs.declared.code.Operation.the-variants as ops
+use ops.{Unassigned, ADC, AND, ASL, BBC, BBS, BCC, BCS, BEQ, BMI, BNE, BPL, BRA, BRK, BVC, BVS, CLB, CLC, CLI, CLM}
+use ops.{CLP, CLV, CMP, CPX, CPY, DEC, DEX, DEY, DIV, EOR, INC, INX, INY, JMP, JSR, LDA, LDM, LDT, LDX, LDY, LSR}
+use ops.{MPY, MVN, MVP, NOP, ORA, PEA, PEI, PER, PHA, PHB, PHD, PHG, PHP, PHT, PHX, PHY, PLA, PLB, PLD, PLP, PLT}
+use ops.{PLX, PLY, PSH, PUL, RLA, ROL, ROR, RTI, RTL, RTS, SBC, SEB, SEC, SEI, SEM, SEP, STA, STP, STX, STY, TAD}
+use ops.{TAS, TAX, TAY, TBD, TBS, TBX, TBY, TDA, TDB, TSA, TSB, TSX, TXA, TXB, TXS, TXY, TYA, TYB, TYX, WIT, XAB}
 use Rattle.types.specs.declared.code.Mode.{Mode}
-use Rattle.types.specs.declared.code.Mode.the-variants.{Implied, Immediate, Accumulator as InAccumulator, Direct}
-use Rattle.types.specs.declared.code.Mode.the-variants.{DirectBit, DirectIndexedX, DirectIndexedY}
-use Rattle.types.specs.declared.code.Mode.the-variants.{DirectIndirect, DirectIndexedXIndirect}
-use Rattle.types.specs.declared.code.Mode.the-variants.{DirectIndirectIndexedY, DirectIndirectLong}
-use Rattle.types.specs.declared.code.Mode.the-variants.{DirectIndirectLongIndexedY, Absolute, AbsoluteBit}
-use Rattle.types.specs.declared.code.Mode.the-variants.{AbsoluteIndexedX, AbsoluteIndexedY, AbsoluteLong}
-use Rattle.types.specs.declared.code.Mode.the-variants.{AbsoluteLongIndexedX, AbsoluteIndirect}
-use Rattle.types.specs.declared.code.Mode.the-variants.{AbsoluteIndirectLong, AbsoluteIndexedXIndirect}
-use Rattle.types.specs.declared.code.Mode.the-variants.{Stack, Relative, DirectBitRelative}
-use Rattle.types.specs.declared.code.Mode.the-variants.{AbsoluteBitRelative, StackPointerRelative}
-use Rattle.types.specs.declared.code.Mode.the-variants.{StackPointerRelativeIndirectIndexedY}
-use Rattle.types.specs.declared.code.Mode.the-variants.{BlockTransfer}
 use Rattle.types.specs.declared.code.Accumulator.{Accumulator}
 use Rattle.types.specs.declared.machine.Registers.{Registers}
 use Rattle.types.specs.declared.machine.Residence.{Residence}
-use Rattle.types.specs.declared.machine.Residence.the-variants.{Memory, Instruction, Register}
 use Rattle.types.specs.declared.machine.Data.{Data}
 use Rattle.types.specs.declared.machine.Store.{Store}
 use Rattle.prelude.specs.Choice.{pick}
@@ -101,45 +81,45 @@ popped short r = withS (pulledAt r (bytes short)) r
 
 -- a result goes where the data came from, with C, N and Z
 abbrev pub modifiesBy : Residence → Accumulator → Bool → ℕ → Bool → ℕ → Registers → Effect
-modifiesBy Memory named short address carry v r =
+modifiesBy Residence.Memory named short address carry v r =
     effect (flagged (bits short) v (withStatus (withCarry carry (r .status)) r))
     (storesOf short address (low (bits short) v)) false
-modifiesBy Instruction named short address carry v r =
+modifiesBy Residence.Instruction named short address carry v r =
     only (loads named (bits short) v (withStatus (withCarry carry (r .status)) r))
-modifiesBy Register named short address carry v r =
+modifiesBy Residence.Register named short address carry v r =
     only (loads named (bits short) v (withStatus (withCarry carry (r .status)) r))
 
 -- SEB, CLB, BBS, BBC and LDM have immediate data behind an address of one byte or of two: how many numbers that address
 -- can be
 abbrev pub addressSize : Mode → ℕ
-addressSize Implied = 1
-addressSize Immediate = 1
-addressSize InAccumulator = 1
-addressSize Direct = 256
-addressSize DirectBit = 256
-addressSize DirectIndexedX = 256
-addressSize DirectIndexedY = 256
-addressSize DirectIndirect = 256
-addressSize DirectIndexedXIndirect = 256
-addressSize DirectIndirectIndexedY = 256
-addressSize DirectIndirectLong = 256
-addressSize DirectIndirectLongIndexedY = 256
-addressSize Absolute = bankSize
-addressSize AbsoluteBit = bankSize
-addressSize AbsoluteIndexedX = bankSize
-addressSize AbsoluteIndexedY = bankSize
-addressSize AbsoluteLong = bankSize
-addressSize AbsoluteLongIndexedX = bankSize
-addressSize AbsoluteIndirect = bankSize
-addressSize AbsoluteIndirectLong = bankSize
-addressSize AbsoluteIndexedXIndirect = bankSize
-addressSize Stack = 1
-addressSize Relative = 1
-addressSize DirectBitRelative = 256
-addressSize AbsoluteBitRelative = bankSize
-addressSize StackPointerRelative = 1
-addressSize StackPointerRelativeIndirectIndexedY = 1
-addressSize BlockTransfer = 1
+addressSize Mode.Implied = 1
+addressSize Mode.Immediate = 1
+addressSize Mode.Accumulator = 1
+addressSize Mode.Direct = 256
+addressSize Mode.DirectBit = 256
+addressSize Mode.DirectIndexedX = 256
+addressSize Mode.DirectIndexedY = 256
+addressSize Mode.DirectIndirect = 256
+addressSize Mode.DirectIndexedXIndirect = 256
+addressSize Mode.DirectIndirectIndexedY = 256
+addressSize Mode.DirectIndirectLong = 256
+addressSize Mode.DirectIndirectLongIndexedY = 256
+addressSize Mode.Absolute = bankSize
+addressSize Mode.AbsoluteBit = bankSize
+addressSize Mode.AbsoluteIndexedX = bankSize
+addressSize Mode.AbsoluteIndexedY = bankSize
+addressSize Mode.AbsoluteLong = bankSize
+addressSize Mode.AbsoluteLongIndexedX = bankSize
+addressSize Mode.AbsoluteIndirect = bankSize
+addressSize Mode.AbsoluteIndirectLong = bankSize
+addressSize Mode.AbsoluteIndexedXIndirect = bankSize
+addressSize Mode.Stack = 1
+addressSize Mode.Relative = 1
+addressSize Mode.DirectBitRelative = 256
+addressSize Mode.AbsoluteBitRelative = bankSize
+addressSize Mode.StackPointerRelative = 1
+addressSize Mode.StackPointerRelativeIndirectIndexedY = 1
+addressSize Mode.BlockTransfer = 1
 
 abbrev pub behindAddress : Mode → Bool → ℕ → ℕ
 behindAddress mode short operand = low (bits short) (operand / addressSize mode)

@@ -10,12 +10,11 @@ use mathlib.Core.List.{List, [], _∷_}
 use lib.Dec.{eqb}
 use lib.ListN.{length, getD}
 use Rattle.types.specs.declared.lists.Header.{Header}
-use Rattle.types.specs.declared.lists.ListRead.the-variants.{NotRead, Read}
-use Rattle.types.specs.declared.lists.ListWritten.the-variants.{NotWritten, Written}
+use Rattle.types.specs.declared.lists.ListRead.{ListRead}
+use Rattle.types.specs.declared.lists.ListWritten.{ListWritten}
 use Rattle.types.specs.declared.machine.State.{State}
 use Rattle.types.specs.declared.refusals.Refusal.{Refusal}
-use Rattle.types.specs.declared.refusals.Refusal.the-variants as refusal
-use Rattle.types.specs.declared.runs.RunAnswer.the-variants.{NotRun}
+use Rattle.types.specs.declared.runs.RunAnswer.{RunAnswer}
 use Rattle.types.specs.Refusals.{refusalNumber}
 use Rattle.types.specs.Addresses.{bankSize, addressLimit}
 use Rattle.model.specs.Image.{imageLimit, isStart, markM, markX, markKind, returnM}
@@ -122,23 +121,23 @@ WrongPage page list = page < list
 -- 'Run: 1, 2, 11, 12, 13.' What is wrong with the state is given.
 abbrev pub runGrounds : Memory → Type 0 → ℕ → Grounds
 runGrounds m Wrong asked =
-    (WrongSize (length (m .image)), refusal.Length)
-    ∷ (WrongBase (m .base) (length (m .image)), refusal.Base)
-    ∷ (WrongRam (length (m .ram)) (m .base), refusal.Ram)
-    ∷ (Wrong, refusal.State)
-    ∷ (WrongSteps asked, refusal.Steps)
+    (WrongSize (length (m .image)), Refusal.Length)
+    ∷ (WrongBase (m .base) (length (m .image)), Refusal.Base)
+    ∷ (WrongRam (length (m .ram)) (m .base), Refusal.Ram)
+    ∷ (Wrong, Refusal.State)
+    ∷ (WrongSteps asked, Refusal.Steps)
     ∷ []
 
 abbrev pub RunAnswers : Type 0
 RunAnswers =
     (m : Memory) (s : State) (asked : ℕ)
-    → AnswersBy (runGrounds m (WrongState s) asked) NotRun (played m s asked .answer) (ran m s asked .answer)
+    → AnswersBy (runGrounds m (WrongState s) asked) RunAnswer.NotRun (played m s asked .answer) (ran m s asked .answer)
 
 -- the same of a state that is given as bytes
 abbrev pub RunBytesAnswers : Type 0
 RunBytesAnswers =
     (m : Memory) (bytes : List ℕ) (asked : ℕ)
-    → AnswersBy (runGrounds m (WrongBytes bytes) asked) NotRun (played m (stateOf bytes) asked .answer)
+    → AnswersBy (runGrounds m (WrongBytes bytes) asked) RunAnswer.NotRun (played m (stateOf bytes) asked .answer)
     (ranBytes m bytes asked .answer)
 
 -- ---- mark lists
@@ -146,10 +145,10 @@ RunBytesAnswers =
 -- 'Reader: 14, 1, 2, 3', of the first line and the marks that a list shows
 abbrev pub readGrounds : List ℕ → List ℕ → Grounds
 readGrounds text marks =
-    (WrongList text, refusal.List)
-    ∷ (WrongLength (h .length) (length marks), refusal.Length)
-    ∷ (WrongBase (h .base) (h .length), refusal.Base)
-    ∷ (WrongReset (marksOf h text) (h .base) (h .reset), refusal.Reset)
+    (WrongList text, Refusal.List)
+    ∷ (WrongLength (h .length) (length marks), Refusal.Length)
+    ∷ (WrongBase (h .base) (h .length), Refusal.Base)
+    ∷ (WrongReset (marksOf h text) (h .base) (h .reset), Refusal.Reset)
     ∷ []
   where
     h : Header
@@ -158,20 +157,20 @@ readGrounds text marks =
 abbrev pub ReadAnswers : Type 0
 ReadAnswers =
     (text marks : List ℕ)
-    → AnswersBy (readGrounds text marks) NotRead (Read (headerShown text)) (readList text marks)
+    → AnswersBy (readGrounds text marks) ListRead.NotRead (ListRead.Read (headerShown text)) (readList text marks)
 
 -- 'Writer: 1, 2, 4, 3, 15'. The marks are as many as the image's bytes.
 abbrev pub writeGrounds : List ℕ → ℕ → ℕ → List ℕ → Grounds
 writeGrounds marks base reset page =
-    (WrongSize (length marks), refusal.Length)
-    ∷ (WrongBase base (length marks), refusal.Base)
-    ∷ (WrongMark marks, refusal.Mark)
-    ∷ (WrongReset marks base reset, refusal.Reset)
-    ∷ (WrongPage (length page) (length (listText marks base reset)), refusal.Page)
+    (WrongSize (length marks), Refusal.Length)
+    ∷ (WrongBase base (length marks), Refusal.Base)
+    ∷ (WrongMark marks, Refusal.Mark)
+    ∷ (WrongReset marks base reset, Refusal.Reset)
+    ∷ (WrongPage (length page) (length (listText marks base reset)), Refusal.Page)
     ∷ []
 
 abbrev pub WriteAnswers : Type 0
 WriteAnswers =
     (marks : List ℕ) (base reset : ℕ) (page : List ℕ)
-    → AnswersBy (writeGrounds marks base reset page) NotWritten (Written (length (listText marks base reset)))
-    (writeList marks base reset page)
+    → AnswersBy (writeGrounds marks base reset page) ListWritten.NotWritten
+    (ListWritten.Written (length (listText marks base reset))) (writeList marks base reset page)

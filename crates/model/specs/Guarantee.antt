@@ -15,16 +15,16 @@ use mathlib.Core.Bool.{true}
 use mathlib.Core.List.{List, [], _∷_}
 use lib.ListN.{length}
 use Rattle.types.specs.declared.code.Kind.{Kind}
-use Rattle.types.specs.declared.code.Flow.the-variants.{Return}
+use Rattle.types.specs.declared.code.Flow.{Flow}
 use Rattle.types.specs.declared.code.Instruction.{Instruction}
-use Rattle.types.specs.declared.code.Decoded.the-variants.{Whole}
-use Rattle.types.specs.declared.rules.Verdict.the-variants.{Accepted}
+use Rattle.types.specs.declared.code.Decoded.{Decoded}
+use Rattle.types.specs.declared.rules.Verdict.{Verdict}
 use Rattle.types.specs.declared.machine.State.{State}
 use Rattle.types.specs.declared.machine.Stop.{Stop}
 use Rattle.types.specs.declared.refusals.Refusal.{Refusal}
-use Rattle.types.specs.declared.refusals.TestResult.the-variants.{Passed, Failed}
-use Rattle.types.specs.declared.runs.End.the-variants.{Done, AtStop}
-use Rattle.types.specs.declared.runs.RunAnswer.the-variants.{NotRun, Ended}
+use Rattle.types.specs.declared.refusals.TestResult.{TestResult}
+use Rattle.types.specs.declared.runs.End.{End}
+use Rattle.types.specs.declared.runs.RunAnswer.{RunAnswer}
 use Rattle.model.specs.CodeMap.{lengthAt}
 use Rattle.model.specs.Image.{isStart, markM, markX, markAt}
 use Rattle.model.specs.Rules.{nextAddress, kindNumber}
@@ -54,7 +54,7 @@ pub record Marked (marks : List ℕ) (m : Memory) (s : State) : Type 0 where
 -- address, lies within the image, and the code is carried.
 pub record WholeInside (m : Memory) (s : State) : Type 0 where
   pub instruction : Instruction
-  pub fetches : fetched m (s .core) ≡ Whole instruction
+  pub fetches : fetched m (s .core) ≡ Decoded.Whole instruction
   pub carried : instruction .entry .carried ≡ true
   pub counted : instruction .length
       ≡ lengthAt (instruction .entry) (bit (s .core .registers .status .m)) (bit (s .core .registers .status .x))
@@ -68,8 +68,8 @@ pub record Safe (image marks : List ℕ) (base : ℕ) (e : Event) : Type 0 where
 
 -- 'ends only because the steps asked for are done or by one of stops 22 to 27'
 pub data EndsWell (h : List Event) (asked : ℕ) : Type 0 where
-  done : endOf h ≡ Done → completedSteps h ≡ asked → EndsWell h asked
-  stopped : (stop : Stop) → endOf h ≡ AtStop stop → 22 ≤ stopNumber stop → stopNumber stop ≤ 27 → EndsWell h asked
+  done : endOf h ≡ End.Done → completedSteps h ≡ asked → EndsWell h asked
+  stopped : (stop : Stop) → endOf h ≡ End.AtStop stop → 22 ≤ stopNumber stop → stopNumber stop ≤ 27 → EndsWell h asked
 
 -- A run that is not refused: its history is demand 2's steps, and it 'answers exactly its history's end, its number of
 -- completed steps, and the number of its calls ..; it leaves the state and RAM as they are after the last completed
@@ -78,21 +78,22 @@ pub record Kept (m : Memory) (s : State) (asked : ℕ) : Type 0 where
   pub steps : runHistory m s asked ≡ history m s asked
   pub ends : EndsWell (history m s asked) asked
   pub answer : ran m s asked .answer
-      ≡ Ended (endOf (history m s asked)) (completedSteps (history m s asked)) (callsAmong (history m s asked))
+      ≡ RunAnswer.Ended (endOf (history m s asked)) (completedSteps (history m s asked))
+      (callsAmong (history m s asked))
   pub state : ran m s asked .state ≡ stateLeft s (history m s asked)
   pub ram : ran m s asked .ram ≡ ramLeft (m .ram) (history m s asked)
 
 -- A refused run makes no step, answers its refusal and leaves state and RAM as given.
 pub record Idle (m : Memory) (s : State) (asked : ℕ) (why : Refusal) : Type 0 where
   pub steps : runHistory m s asked ≡ []
-  pub answer : ran m s asked .answer ≡ NotRun why
+  pub answer : ran m s asked .answer ≡ RunAnswer.NotRun why
   pub state : ran m s asked .state ≡ s
   pub ram : ran m s asked .ram ≡ m .ram
 
 -- every run is one or the other
 pub data Accounted (m : Memory) (s : State) (asked : ℕ) : Type 0 where
-  admitted : admission m s asked ≡ Passed → Kept m s asked → Accounted m s asked
-  refused : (why : Refusal) → admission m s asked ≡ Failed why → Idle m s asked why → Accounted m s asked
+  admitted : admission m s asked ≡ TestResult.Passed → Kept m s asked → Accounted m s asked
+  refused : (why : Refusal) → admission m s asked ≡ TestResult.Failed why → Idle m s asked why → Accounted m s asked
 
 -- ---- the claim
 
@@ -109,7 +110,7 @@ pub record Begins (marks : List ℕ) (m : Memory) (s : State) : Type 0 where
 -- The demand, 'whatever RAM and every other register hold at first'.
 abbrev pub Guarantee : Type 0
 Guarantee =
-    (image marks : List ℕ) (base reset : ℕ) → verdict image marks base reset ≡ Accepted
+    (image marks : List ℕ) (base reset : ℕ) → verdict image marks base reset ≡ Verdict.Accepted
     → (ram : List ℕ) (s : State) → Begins marks (memory ram image base) s
     → (asked : List ℕ) → Guaranteed image marks base (runsFrom (memory ram image base) s asked)
 
@@ -119,13 +120,13 @@ Guarantee =
 -- other kind, or pulled address not the open call's', the second never arises. An entry past the list's end is no call.
 abbrev pub OwnKind : List ℕ → ℕ → Event → Type 0
 OwnKind image base e =
-    (i : Instruction) (kind : Kind) → fetched (memory (e .ram) image base) (e .state .core) ≡ Whole i
-    → i .entry .flow ≡ Return kind → 0 < e .state .core .depth → e .state .core .depth ≤ length (e .state .calls)
+    (i : Instruction) (kind : Kind) → fetched (memory (e .ram) image base) (e .state .core) ≡ Decoded.Whole i
+    → i .entry .flow ≡ Flow.Return kind → 0 < e .state .core .depth → e .state .core .depth ≤ length (e .state .calls)
     → kindOf (lastOpened (e .state)) ≡ kindNumber kind
 
 abbrev pub OwnKinds : Type 0
 OwnKinds =
-    (image marks : List ℕ) (base reset : ℕ) → verdict image marks base reset ≡ Accepted
+    (image marks : List ℕ) (base reset : ℕ) → verdict image marks base reset ≡ Verdict.Accepted
     → (ram : List ℕ) (s : State) → Begins marks (memory ram image base) s
     → (asked : List ℕ)
     → Every (OwnKind image base) (joinedHistory image base (runsFrom (memory ram image base) s asked))

@@ -7,11 +7,9 @@ use mathlib.Core.List.{List, [], _∷_, _++_}
 use lib.Dec.{eqb, ltb, leb}
 use lib.ListN.{length, getD, drop}
 use Rattle.types.specs.declared.lists.Header.{Header}
-use Rattle.types.specs.declared.refusals.Refusal.the-variants as refusal
+use Rattle.types.specs.declared.refusals.Refusal.{Refusal}
 use Rattle.types.specs.declared.lists.ListRead.{ListRead}
-use Rattle.types.specs.declared.lists.ListRead.the-variants.{NotRead, Read}
 use Rattle.types.specs.declared.lists.ListWritten.{ListWritten}
-use Rattle.types.specs.declared.lists.ListWritten.the-variants.{NotWritten, Written}
 use Rattle.prelude.specs.Choice.{pick}
 use Rattle.text.specs.Digits.{digit, digits, value, digitCount}
 use Rattle.text.specs.Text.{startsWith}
@@ -150,12 +148,12 @@ isList h text = isHeader h text && eqb (length (leftOf h text)) 0
 -- 'Reader: 14, 1, 2, 3', of a text that shows a first line, for marks of a length
 abbrev pub readTests : Header → List ℕ → ℕ → Tests
 readTests h text n =
-    (isList h text, refusal.List)
+    (isList h text, Refusal.List)
     ∷ imageTests (h .length) n (h .base)
-    ++ ((resetFits (marksOf h text) (h .base) (h .reset), refusal.Reset) ∷ [])
+    ++ ((resetFits (marksOf h text) (h .base) (h .reset), Refusal.Reset) ∷ [])
 
 unfoldable pub readAs : Header → List ℕ → ℕ → ListRead
-readAs h text n = answered (firstRefusal (readTests h text n)) NotRead (Read h)
+readAs h text n = answered (firstRefusal (readTests h text n)) ListRead.NotRead (ListRead.Read h)
 
 -- the reader
 unfoldable pub readList : List ℕ → List ℕ → ListRead
@@ -163,8 +161,8 @@ readList text marks = readAs (headerShown text) text (length marks)
 
 -- 'the reader fills all marks'; 'a refusal leaves every buffer .. as given'
 unfoldable pub marksBy : ListRead → List ℕ → List ℕ → List ℕ
-marksBy (NotRead refusal) text marks = marks
-marksBy (Read h) text marks = marksOf h text
+marksBy (ListRead.NotRead refusal) text marks = marks
+marksBy (ListRead.Read h) text marks = marksOf h text
 
 unfoldable pub marksRead : List ℕ → List ℕ → List ℕ
 marksRead text marks = marksBy (readList text marks) text marks
@@ -173,17 +171,18 @@ marksRead text marks = marksBy (readList text marks) text marks
 abbrev pub writeTests : List ℕ → ℕ → ℕ → List ℕ → Tests
 writeTests marks base reset page =
     marksTests (length marks) marks base reset
-    ++ ((leb (length (listText marks base reset)) (length page), refusal.Page) ∷ [])
+    ++ ((leb (length (listText marks base reset)) (length page), Refusal.Page) ∷ [])
 
 -- the writer
 unfoldable pub writeList : List ℕ → ℕ → ℕ → List ℕ → ListWritten
 writeList marks base reset page =
-    answered (firstRefusal (writeTests marks base reset page)) NotWritten (Written (length (listText marks base reset)))
+    answered (firstRefusal (writeTests marks base reset page)) ListWritten.NotWritten
+    (ListWritten.Written (length (listText marks base reset)))
 
 -- 'The writer leaves bytes past the list alone'; 'a refusal leaves every buffer .. as given'
 unfoldable pub pageBy : ListWritten → List ℕ → ℕ → ℕ → List ℕ → List ℕ
-pageBy (NotWritten refusal) marks base reset page = page
-pageBy (Written n) marks base reset page = listText marks base reset ++ drop n page
+pageBy (ListWritten.NotWritten refusal) marks base reset page = page
+pageBy (ListWritten.Written n) marks base reset page = listText marks base reset ++ drop n page
 
 unfoldable pub pageWritten : List ℕ → ℕ → ℕ → List ℕ → List ℕ
 pageWritten marks base reset page = pageBy (writeList marks base reset page) marks base reset page

@@ -9,20 +9,18 @@ use mathlib.Core.Bool.{true, false}
 use mathlib.Core.List.{List}
 use lib.ListN.{length, getD}
 use Rattle.types.specs.declared.code.Instruction.{Instruction}
-use Rattle.types.specs.declared.code.Decoded.the-variants.{Whole, NotCarried, CutOff}
+use Rattle.types.specs.declared.code.Decoded.{Decoded}
 use Rattle.types.specs.declared.refusals.Refusal.{Refusal}
-use Rattle.types.specs.declared.refusals.Refusal.the-variants as refusal
 use Rattle.types.specs.declared.rules.Want.{Want}
 use Rattle.types.specs.declared.rules.Owed.{Owed}
-use Rattle.types.specs.declared.rules.Owed.the-variants.{Nothing, One, Two}
 use Rattle.model.specs.Image.{isStart, isFormed, lengthFits, baseFits, markAt, resetFits}
 use Rattle.model.specs.Rules.{owedThere, returnFits, instructionAt, StartRules}
 
 -- a want is among what is owed
 abbrev pub Among : Want → Owed → Type 0
-Among w Nothing = ⊥
-Among w (One v) = w ≡ v
-Among w (Two u v) = (w ≡ u) ⊎ (w ≡ v)
+Among w Owed.Nothing = ⊥
+Among w (Owed.One v) = w ≡ v
+Among w (Owed.Two u v) = (w ≡ u) ⊎ (w ≡ v)
 
 module _ (image marks : List ℕ) (base at : ℕ) where
   -- no start on the later bytes of an instruction
@@ -35,20 +33,20 @@ module _ (image marks : List ℕ) (base at : ℕ) where
 
   -- the refusal at a start
   pub data StartBreaks : Refusal → Type 0 where
-    code : instructionAt image marks at ≡ NotCarried → StartBreaks refusal.Code
-    cut-off : instructionAt image marks at ≡ CutOff → StartBreaks refusal.CutOff
-    overlap : (i : Instruction) → instructionAt image marks at ≡ Whole i
-        → (k : ℕ) → at < k → k < at + i .length → isStart (getD marks k 0) ≡ true → StartBreaks refusal.Overlap
-    return : (i : Instruction) → instructionAt image marks at ≡ Whole i → Clear i
-        → returnFits (i .entry .flow) (getD marks at 0) ≡ false → StartBreaks refusal.Return
-    flow : (i : Instruction) → instructionAt image marks at ≡ Whole i → Clear i
+    code : instructionAt image marks at ≡ Decoded.NotCarried → StartBreaks Refusal.Code
+    cut-off : instructionAt image marks at ≡ Decoded.CutOff → StartBreaks Refusal.CutOff
+    overlap : (i : Instruction) → instructionAt image marks at ≡ Decoded.Whole i
+        → (k : ℕ) → at < k → k < at + i .length → isStart (getD marks k 0) ≡ true → StartBreaks Refusal.Overlap
+    return : (i : Instruction) → instructionAt image marks at ≡ Decoded.Whole i → Clear i
+        → returnFits (i .entry .flow) (getD marks at 0) ≡ false → StartBreaks Refusal.Return
+    flow : (i : Instruction) → instructionAt image marks at ≡ Decoded.Whole i → Clear i
         → returnFits (i .entry .flow) (getD marks at 0) ≡ true
         → (w : Want) → Among w (owedThere marks base at i) → isStart (markAt marks base (w .address)) ≡ false
-        → StartBreaks refusal.Flow
-    widths : (i : Instruction) → instructionAt image marks at ≡ Whole i → Clear i
+        → StartBreaks Refusal.Flow
+    widths : (i : Instruction) → instructionAt image marks at ≡ Decoded.Whole i → Clear i
         → returnFits (i .entry .flow) (getD marks at 0) ≡ true → AllStarts i
         → (w : Want) → Among w (owedThere marks base at i) → (markAt marks base (w .address) ≡ w .mark → ⊥)
-        → StartBreaks refusal.Widths
+        → StartBreaks Refusal.Widths
 
 module _ (image marks : List ℕ) (base reset : ℕ) where
   -- every mark below a place has the form
@@ -57,13 +55,13 @@ module _ (image marks : List ℕ) (base reset : ℕ) where
 
   -- a refusal and its offset
   pub data Breaks : Refusal → ℕ → Type 0 where
-    wrong-length : lengthFits (length image) (length marks) ≡ false → Breaks refusal.Length 0
+    wrong-length : lengthFits (length image) (length marks) ≡ false → Breaks Refusal.Length 0
     wrong-base : lengthFits (length image) (length marks) ≡ true → baseFits base (length image) ≡ false
-        → Breaks refusal.Base 0
+        → Breaks Refusal.Base 0
     wrong-mark : lengthFits (length image) (length marks) ≡ true → baseFits base (length image) ≡ true
-        → (at : ℕ) → at < length marks → isFormed (getD marks at 0) ≡ false → FormedBelow at → Breaks refusal.Mark at
+        → (at : ℕ) → at < length marks → isFormed (getD marks at 0) ≡ false → FormedBelow at → Breaks Refusal.Mark at
     wrong-reset : lengthFits (length image) (length marks) ≡ true → baseFits base (length image) ≡ true
-        → FormedBelow (length marks) → resetFits marks base reset ≡ false → Breaks refusal.Reset 0
+        → FormedBelow (length marks) → resetFits marks base reset ≡ false → Breaks Refusal.Reset 0
     wrong-start : lengthFits (length image) (length marks) ≡ true → baseFits base (length image) ≡ true
         → FormedBelow (length marks) → resetFits marks base reset ≡ true
         → (at : ℕ) (why : Refusal) → at < length marks → isStart (getD marks at 0) ≡ true

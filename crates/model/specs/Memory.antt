@@ -8,11 +8,9 @@ use mathlib.Core.List.{List, [], _∷_}
 use lib.Dec.{ltb, leb}
 use lib.ListN.{length, getD, set}
 use Rattle.types.specs.declared.machine.ByteRead.{ByteRead}
-use Rattle.types.specs.declared.machine.ByteRead.the-variants.{Byte, Unmapped as NoByte}
 use Rattle.types.specs.declared.machine.Store.{Store}
-use Rattle.types.specs.declared.machine.Stop.the-variants.{Unmapped, ImageStore}
+use Rattle.types.specs.declared.machine.Stop.{Stop}
 use Rattle.types.specs.declared.machine.Served.{Served}
-use Rattle.types.specs.declared.machine.Served.the-variants.{All, Refused}
 use Rattle.prelude.specs.Choice.{pick}
 use Rattle.types.specs.Addresses.{bankSize}
 
@@ -33,9 +31,9 @@ inImage m address = leb (m .base) address && ltb (address - m .base) (length (m 
 -- the byte at an address
 unfoldable pub byteAt : Memory → ℕ → ByteRead
 byteAt m address =
-    pick (inRam m address) (Byte (getD (m .ram) address 0))
-    (pick (inImage m address) (Byte (getD (m .image) (address - m .base) 0))
-    NoByte)
+    pick (inRam m address) (ByteRead.Byte (getD (m .ram) address 0))
+    (pick (inImage m address) (ByteRead.Byte (getD (m .image) (address - m .base) 0))
+    ByteRead.Unmapped)
 
 -- An action that reads bytes one after another and comes to a value: each further read may hang on the bytes before it.
 pub data Act (A : Type 0) : Type 0 where
@@ -53,8 +51,8 @@ pub data Outcome (A : Type 0) : Type 0 where
   unmapped : Outcome A
 
 abbrev pub onByte : {A : Type 0} → ByteRead → (ℕ → Outcome A) → Outcome A
-onByte (Byte b) more = more b
-onByte NoByte more = unmapped
+onByte (ByteRead.Byte b) more = more b
+onByte ByteRead.Unmapped more = unmapped
 
 -- what an action comes to
 abbrev pub come : {A : Type 0} → Memory → Act A → Outcome A
@@ -94,14 +92,16 @@ readData short at = dataFrom short at (at + 1)
 
 -- 23 and 26 of a store; 'a word low byte first, a push as pushed; the first that cannot be served decides'
 unfoldable pub servedAt : Memory → ℕ → Served
-servedAt m address = pick (inRam m address) All (pick (inImage m address) (Refused ImageStore) (Refused Unmapped))
+servedAt m address =
+    pick (inRam m address) Served.All
+    (pick (inImage m address) (Served.Refused Stop.ImageStore) (Served.Refused Stop.Unmapped))
 
 abbrev pub andThen : Served → Served → Served
-andThen All more = more
-andThen (Refused stop) more = Refused stop
+andThen Served.All more = more
+andThen (Served.Refused stop) more = Served.Refused stop
 
 abbrev pub served : Memory → List Store → Served
-served m [] = All
+served m [] = Served.All
 served m (s ∷ rest) = andThen (servedAt m (s .address)) (served m rest)
 
 -- RAM with the bytes stored

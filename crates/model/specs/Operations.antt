@@ -5,19 +5,12 @@ use mathlib.Core.Bool.{Bool, false, _||_}
 use mathlib.Core.List.{List, [], _∷_}
 use lib.Dec.{eqb}
 use Rattle.types.specs.declared.code.Operation.{Operation}
-use Rattle.types.specs.declared.code.Operation.the-variants.{Unassigned}
-use Rattle.types.specs.declared.code.Operation.the-variants.{ADC, AND, ASL, BBC, BBS, BCC, BCS, BEQ, BMI}
-use Rattle.types.specs.declared.code.Operation.the-variants.{BNE, BPL, BRA, BRK, BVC, BVS, CLB, CLC, CLI}
-use Rattle.types.specs.declared.code.Operation.the-variants.{CLM, CLP, CLV, CMP, CPX, CPY, DEC, DEX, DEY}
-use Rattle.types.specs.declared.code.Operation.the-variants.{DIV, EOR, INC, INX, INY, JMP, JSR, LDA, LDM}
-use Rattle.types.specs.declared.code.Operation.the-variants.{LDT, LDX, LDY, LSR, MPY, MVN, MVP, NOP, ORA}
-use Rattle.types.specs.declared.code.Operation.the-variants.{PEA, PEI, PER, PHA, PHB, PHD, PHG, PHP, PHT}
-use Rattle.types.specs.declared.code.Operation.the-variants.{PHX, PHY, PLA, PLB, PLD, PLP, PLT, PLX, PLY}
-use Rattle.types.specs.declared.code.Operation.the-variants.{PSH, PUL, RLA, ROL, ROR, RTI, RTL, RTS, SBC}
-use Rattle.types.specs.declared.code.Operation.the-variants.{SEB, SEC, SEI, SEM, SEP, STA, STP, STX, STY}
-use Rattle.types.specs.declared.code.Operation.the-variants.{TAD, TAS, TAX, TAY, TBD, TBS, TBX, TBY, TDA}
-use Rattle.types.specs.declared.code.Operation.the-variants.{TDB, TSA, TSB, TSX, TXA, TXB, TXS, TXY, TYA}
-use Rattle.types.specs.declared.code.Operation.the-variants.{TYB, TYX, WIT, XAB}
+use Rattle.types.specs.declared.code.Operation.the-variants as ops
+use ops.{Unassigned, ADC, AND, ASL, BBC, BBS, BCC, BCS, BEQ, BMI, BNE, BPL, BRA, BRK, BVC, BVS, CLB, CLC, CLI, CLM}
+use ops.{CLP, CLV, CMP, CPX, CPY, DEC, DEX, DEY, DIV, EOR, INC, INX, INY, JMP, JSR, LDA, LDM, LDT, LDX, LDY, LSR}
+use ops.{MPY, MVN, MVP, NOP, ORA, PEA, PEI, PER, PHA, PHB, PHD, PHG, PHP, PHT, PHX, PHY, PLA, PLB, PLD, PLP, PLT}
+use ops.{PLX, PLY, PSH, PUL, RLA, ROL, ROR, RTI, RTL, RTS, SBC, SEB, SEC, SEI, SEM, SEP, STA, STP, STX, STY, TAD}
+use ops.{TAS, TAX, TAY, TBD, TBS, TBX, TBY, TDA, TDB, TSA, TSB, TSX, TXA, TXB, TXS, TXY, TYA, TYB, TYX, WIT, XAB}
 
 -- the manual's alphabetical order (4.2), behind an unassigned code
 abbrev pub operations : List Operation

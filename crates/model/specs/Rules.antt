@@ -7,19 +7,13 @@ use mathlib.Core.List.{List}
 use lib.Dec.{eqb, ltb}
 use lib.ListN.{length, getD, drop}
 use Rattle.types.specs.declared.code.Kind.{Kind}
-use Rattle.types.specs.declared.code.Kind.the-variants.{ByRts, ByRtl}
 use Rattle.types.specs.declared.code.Flow.{Flow}
-use Rattle.types.specs.declared.code.Flow.the-variants.{Next, Branch, Jump, Call, Return, Halt}
 use Rattle.types.specs.declared.code.Target.{Target}
-use Rattle.types.specs.declared.code.Target.the-variants.{NoTarget, Offset8, Offset16, Address16, Address24}
 use Rattle.types.specs.declared.code.WidthEffect.{WidthEffect}
-use Rattle.types.specs.declared.code.WidthEffect.the-variants.{KeepWidths, SetM, ClearM, SetBits, ClearBits}
 use Rattle.types.specs.declared.code.Instruction.{Instruction}
 use Rattle.types.specs.declared.code.Decoded.{Decoded}
-use Rattle.types.specs.declared.code.Decoded.the-variants.{Whole}
 use Rattle.types.specs.declared.rules.Want.{Want}
 use Rattle.types.specs.declared.rules.Owed.{Owed}
-use Rattle.types.specs.declared.rules.Owed.the-variants.{Nothing, One, Two}
 use Rattle.prelude.specs.Choice.{pick}
 use Rattle.types.specs.Status.{maskX, maskM}
 use Rattle.types.specs.Addresses.{bankSize, addressLimit}
@@ -49,11 +43,11 @@ lastByte operand n = operand / 256 ^ (n - 2) % 256
 -- 'next address plus signed offset (8 or 16 bits)'; 'JMP and JSR absolute .. stay in the instruction's bank'. Of an
 -- operand the bits count that the form has.
 unfoldable pub targetOf : Target → ℕ → ℕ → ℕ → ℕ
-targetOf NoTarget address n operand = nextAddress address n
-targetOf Offset8 address n operand = offsetBy 128 (nextAddress address n) (lastByte operand n)
-targetOf Offset16 address n operand = offsetBy 32_768 (nextAddress address n) (operand % bankSize)
-targetOf Address16 address n operand = inBankOf address (operand % bankSize)
-targetOf Address24 address n operand = operand % addressLimit
+targetOf Target.NoTarget address n operand = nextAddress address n
+targetOf Target.Offset8 address n operand = offsetBy 128 (nextAddress address n) (lastByte operand n)
+targetOf Target.Offset16 address n operand = offsetBy 32_768 (nextAddress address n) (operand % bankSize)
+targetOf Target.Address16 address n operand = inBankOf address (operand % bankSize)
+targetOf Target.Address24 address n operand = operand % addressLimit
 
 -- 'the widths in force after the instruction. Only SEM, CLM, SEP and CLP change them, by their fixed bits': the places
 -- of m and x in the status register
@@ -64,23 +58,23 @@ abbrev pub clearBit : ℕ → ℕ → ℕ
 clearBit width bit = pick (eqb bit 1) 0 width
 
 unfoldable pub mAfter : WidthEffect → ℕ → ℕ → ℕ
-mAfter KeepWidths m operand = m
-mAfter SetM m operand = 1
-mAfter ClearM m operand = 0
-mAfter SetBits m operand = setBit m (operand / maskM % 2)
-mAfter ClearBits m operand = clearBit m (operand / maskM % 2)
+mAfter WidthEffect.KeepWidths m operand = m
+mAfter WidthEffect.SetM m operand = 1
+mAfter WidthEffect.ClearM m operand = 0
+mAfter WidthEffect.SetBits m operand = setBit m (operand / maskM % 2)
+mAfter WidthEffect.ClearBits m operand = clearBit m (operand / maskM % 2)
 
 unfoldable pub xAfter : WidthEffect → ℕ → ℕ → ℕ
-xAfter KeepWidths x operand = x
-xAfter SetM x operand = x
-xAfter ClearM x operand = x
-xAfter SetBits x operand = setBit x (operand / maskX % 2)
-xAfter ClearBits x operand = clearBit x (operand / maskX % 2)
+xAfter WidthEffect.KeepWidths x operand = x
+xAfter WidthEffect.SetM x operand = x
+xAfter WidthEffect.ClearM x operand = x
+xAfter WidthEffect.SetBits x operand = setBit x (operand / maskX % 2)
+xAfter WidthEffect.ClearBits x operand = clearBit x (operand / maskX % 2)
 
 -- kinds as a mark has them
 abbrev pub kindNumber : Kind → ℕ
-kindNumber ByRts = 1
-kindNumber ByRtl = 2
+kindNumber Kind.ByRts = 1
+kindNumber Kind.ByRtl = 2
 
 abbrev pub want : ℕ → ℕ → Want
 want address mark = record { address = address; mark = mark }
@@ -103,13 +97,13 @@ markAfter effect operand mark =
 -- What an instruction owes, by its flow: at which addresses which marks must stand. `mark` is the instruction's own,
 -- `after` that of a successor, `there` the mark at the target.
 unfoldable pub owedBy : Flow → ℕ → ℕ → ℕ → ℕ → ℕ → Owed
-owedBy Next mark after next target there = One (want next after)
-owedBy Branch mark after next target there = Two (want next after) (want target after)
-owedBy Jump mark after next target there = One (want target after)
-owedBy (Call kind) mark after next target there =
-    Two (want target (markOfRoutine kind mark there)) (want next (markOnReturn mark there))
-owedBy (Return kind) mark after next target there = Nothing
-owedBy Halt mark after next target there = Nothing
+owedBy Flow.Next mark after next target there = Owed.One (want next after)
+owedBy Flow.Branch mark after next target there = Owed.Two (want next after) (want target after)
+owedBy Flow.Jump mark after next target there = Owed.One (want target after)
+owedBy (Flow.Call kind) mark after next target there =
+    Owed.Two (want target (markOfRoutine kind mark there)) (want next (markOnReturn mark there))
+owedBy (Flow.Return kind) mark after next target there = Owed.Nothing
+owedBy Flow.Halt mark after next target there = Owed.Nothing
 
 -- where an instruction at an address goes by its target
 abbrev pub targetAddress : Instruction → ℕ → ℕ
@@ -131,12 +125,12 @@ returnsBy kind mark =
     eqb (markKind mark) (kindNumber kind) && eqb (markM mark) (returnM mark) && eqb (markX mark) (returnX mark)
 
 unfoldable pub returnFits : Flow → ℕ → Bool
-returnFits Next mark = true
-returnFits Branch mark = true
-returnFits Jump mark = true
-returnFits (Call kind) mark = true
-returnFits (Return kind) mark = returnsBy kind mark
-returnFits Halt mark = true
+returnFits Flow.Next mark = true
+returnFits Flow.Branch mark = true
+returnFits Flow.Jump mark = true
+returnFits (Flow.Call kind) mark = true
+returnFits (Flow.Return kind) mark = returnsBy kind mark
+returnFits Flow.Halt mark = true
 
 -- a want is met by a marked start in the image with that mark
 pub record Met (marks : List ℕ) (base : ℕ) (w : Want) : Type 0 where
@@ -144,15 +138,15 @@ pub record Met (marks : List ℕ) (base : ℕ) (w : Want) : Type 0 where
   pub has-mark : markAt marks base (w .address) ≡ w .mark
 
 abbrev pub AllMet : List ℕ → ℕ → Owed → Type 0
-AllMet marks base Nothing = Unit {0}
-AllMet marks base (One w) = Met marks base w
-AllMet marks base (Two v w) = Met marks base v × Met marks base w
+AllMet marks base Owed.Nothing = Unit {0}
+AllMet marks base (Owed.One w) = Met marks base w
+AllMet marks base (Owed.Two v w) = Met marks base v × Met marks base w
 
 -- The rules at one start: its code is carried and the instruction ends within the image; no start on its later bytes;
 -- the rule of RTS and RTL; its successors.
 pub record StartRules (image marks : List ℕ) (base at : ℕ) : Type 0 where
   pub instruction : Instruction
-  pub whole : instructionAt image marks at ≡ Whole instruction
+  pub whole : instructionAt image marks at ≡ Decoded.Whole instruction
   pub no-overlap : (k : ℕ) → at < k → k < at + instruction .length → isStart (getD marks k 0) ≡ false
   pub returns : returnFits (instruction .entry .flow) (getD marks at 0) ≡ true
   pub successors : AllMet marks base (owedThere marks base at instruction)

@@ -6,17 +6,13 @@ use mathlib.Core.Bool.{Bool, true, false, not, _&&_, _||_}
 use mathlib.Core.List.{List, [], _∷_, _++_}
 use lib.Dec.{eqb, ltb, leb}
 use lib.ListN.{length, getD}
-use Rattle.types.specs.declared.code.Kind.the-variants.{ByRts, ByRtl}
+use Rattle.types.specs.declared.code.Kind.{Kind}
 use Rattle.types.specs.declared.machine.State.{State}
 use Rattle.types.specs.declared.machine.Answer.{Answer}
-use Rattle.types.specs.declared.machine.Answer.the-variants.{Completed, Called, Stopped}
-use Rattle.types.specs.declared.refusals.Refusal.the-variants as refusal
+use Rattle.types.specs.declared.refusals.Refusal.{Refusal}
 use Rattle.types.specs.declared.refusals.TestResult.{TestResult}
-use Rattle.types.specs.declared.refusals.TestResult.the-variants.{Passed, Failed}
 use Rattle.types.specs.declared.runs.End.{End}
-use Rattle.types.specs.declared.runs.End.the-variants.{Done, AtStop}
 use Rattle.types.specs.declared.runs.RunAnswer.{RunAnswer}
-use Rattle.types.specs.declared.runs.RunAnswer.the-variants.{NotRun, Ended}
 use Rattle.prelude.specs.Choice.{pick}
 use Rattle.types.specs.Refusals.{Tests, firstRefusal}
 use Rattle.types.specs.Addresses.{addressLimit}
@@ -39,15 +35,15 @@ stepLimit = 1_000_000
 
 -- 'A step is completed when it meets no stop'
 abbrev pub isCompleted : Answer → Bool
-isCompleted Completed = true
-isCompleted Called = true
-isCompleted (Stopped stop) = false
+isCompleted Answer.Completed = true
+isCompleted Answer.Called = true
+isCompleted (Answer.Stopped stop) = false
 
 -- 'completed steps whose code is a JSR, long or not'
 abbrev pub isCall : Answer → Bool
-isCall Completed = false
-isCall Called = true
-isCall (Stopped stop) = false
+isCall Answer.Completed = false
+isCall Answer.Called = true
+isCall (Answer.Stopped stop) = false
 
 -- A step of a history: the RAM and the state that it began from, and what it came to.
 pub record Event : Type 0 where
@@ -87,17 +83,17 @@ callsAmong = count isCall
 
 -- 'the end (0 when all asked steps are done, else the stop)'
 abbrev pub endAfter : Answer → End → End
-endAfter Completed more = more
-endAfter Called more = more
-endAfter (Stopped stop) more = AtStop stop
+endAfter Answer.Completed more = more
+endAfter Answer.Called more = more
+endAfter (Answer.Stopped stop) more = End.AtStop stop
 
 abbrev pub endOf : List Event → End
-endOf [] = Done
+endOf [] = End.Done
 endOf (e ∷ rest) = endAfter (e .result .answer) (endOf rest)
 
 abbrev pub endNumber : End → ℕ
-endNumber Done = 0
-endNumber (AtStop stop) = stopNumber stop
+endNumber End.Done = 0
+endNumber (End.AtStop stop) = stopNumber stop
 
 -- 'it leaves the state and RAM as they are after the last completed step, or as given if there is none'
 abbrev pub stateLeft : State → List Event → State
@@ -121,7 +117,7 @@ levelLimit = 8
 -- 'a kind other than 1 or 2 or an address above FFFFFF'
 unfoldable pub callFits : ℕ → Bool
 callFits entry =
-    (eqb (kindOf entry) (kindNumber ByRts) || eqb (kindOf entry) (kindNumber ByRtl))
+    (eqb (kindOf entry) (kindNumber Kind.ByRts) || eqb (kindOf entry) (kindNumber Kind.ByRtl))
     && ltb (returnOf entry) addressLimit
 
 abbrev pub callBroken : List ℕ → ℕ → Bool
@@ -140,9 +136,9 @@ stateFits s =
 abbrev pub runTests : Memory → Bool → ℕ → Tests
 runTests m fits asked =
     imageTests (length (m .image)) (length (m .image)) (m .base)
-    ++ ((ramFits (length (m .ram)) (m .base), refusal.Ram)
-    ∷ (fits, refusal.State)
-    ∷ (leb asked stepLimit, refusal.Steps)
+    ++ ((ramFits (length (m .ram)) (m .base), Refusal.Ram)
+    ∷ (fits, Refusal.State)
+    ∷ (leb asked stepLimit, Refusal.Steps)
     ∷ [])
 
 abbrev pub admission : Memory → State → ℕ → TestResult
@@ -152,8 +148,8 @@ admission m s asked = firstRefusal (runTests m (stateFits s) asked)
 
 -- 'A run is refused exactly when one of the numbers tested for a run holds ..; its history is empty.'
 unfoldable pub admittedHistory : TestResult → Memory → State → ℕ → List Event
-admittedHistory Passed m s asked = history m s asked
-admittedHistory (Failed why) m s asked = []
+admittedHistory TestResult.Passed m s asked = history m s asked
+admittedHistory (TestResult.Failed why) m s asked = []
 
 abbrev pub runHistory : Memory → State → ℕ → List Event
 runHistory m s asked = admittedHistory (admission m s asked) m s asked
@@ -161,8 +157,8 @@ runHistory m s asked = admittedHistory (admission m s asked) m s asked
 -- '.. and answers the first such number'; 'A run that is not refused answers exactly its history's end, its number of
 -- completed steps, and the number of its calls'
 abbrev pub answerBy : TestResult → List Event → RunAnswer
-answerBy Passed h = Ended (endOf h) (completedSteps h) (callsAmong h)
-answerBy (Failed why) h = NotRun why
+answerBy TestResult.Passed h = RunAnswer.Ended (endOf h) (completedSteps h) (callsAmong h)
+answerBy (TestResult.Failed why) h = RunAnswer.NotRun why
 
 -- A run's answer, and state and RAM after it. A step by itself is a run of one.
 pub record Ran : Type 0 where
@@ -176,7 +172,7 @@ ranBy a m s h = record { answer = answerBy a h; state = stateLeft s h; ram = ram
 
 -- what a run comes to that is not refused
 abbrev pub played : Memory → State → ℕ → Ran
-played m s asked = ranBy Passed m s (history m s asked)
+played m s asked = ranBy TestResult.Passed m s (history m s asked)
 
 unfoldable pub ran : Memory → State → ℕ → Ran
 ran m s asked = ranBy (admission m s asked) m s (runHistory m s asked)
@@ -184,7 +180,7 @@ ran m s asked = ranBy (admission m s asked) m s (runHistory m s asked)
 -- What a step comes to as a run of one: completed, completed as a call, or stopped.
 abbrev pub oneStep : Stepped → Ran
 oneStep t = record {
-  answer = Ended (endAfter (t .answer) Done) (bit (isCompleted (t .answer))) (bit (isCall (t .answer)));
+  answer = RunAnswer.Ended (endAfter (t .answer) End.Done) (bit (isCompleted (t .answer))) (bit (isCall (t .answer)));
   state = t .state;
   ram = t .ram;
 }

@@ -6,9 +6,7 @@ use mathlib.Core.List.{List}
 use lib.Dec.{eqb}
 use lib.ListN.{length}
 use Rattle.types.specs.declared.refusals.TestResult.{TestResult}
-use Rattle.types.specs.declared.refusals.TestResult.the-variants.{Passed, Failed}
 use Rattle.types.specs.declared.runs.RunAnswer.{RunAnswer}
-use Rattle.types.specs.declared.runs.RunAnswer.the-variants.{NotRun}
 use Rattle.types.specs.Refusals.{firstRefusal}
 use Rattle.model.specs.Memory.{Memory}
 use Rattle.model.specs.Run.{stateFits, runTests, Ran, played}
@@ -30,8 +28,8 @@ asBytes r = record { answer = r .answer; state = bytesOf (r .state); ram = r .ra
 
 -- 'A refusal leaves every buffer and the state as given'
 abbrev pub ranBytesBy : TestResult → Memory → List ℕ → ℕ → RanBytes
-ranBytesBy Passed m bytes asked = asBytes (played m (stateOf bytes) asked)
-ranBytesBy (Failed why) m bytes asked = record { answer = NotRun why; state = bytes; ram = m .ram }
+ranBytesBy TestResult.Passed m bytes asked = asBytes (played m (stateOf bytes) asked)
+ranBytesBy (TestResult.Failed why) m bytes asked = record { answer = RunAnswer.NotRun why; state = bytes; ram = m .ram }
 
 unfoldable pub ranBytes : Memory → List ℕ → ℕ → RanBytes
 ranBytes m bytes asked = ranBytesBy (firstRefusal (runTests m (bytesFit bytes) asked)) m bytes asked

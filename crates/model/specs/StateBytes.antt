@@ -2,14 +2,14 @@
 -- each), the number of open calls (two bytes, low first), then the entries, the first opened first: return address
 -- (four bytes, low first), kind (one byte), three bytes reserved. An entry is one number (Step, `entryOf`).
 -- Assumes nothing.
-use Prim.Native.Nat.{ℕ, zero, suc, _+_, _*_, _/_, _%_, _^_, _<_}
+use Prim.Native.Nat.{ℕ, _+_, _*_, _^_, _<_}
 use mathlib.Core.Path.{_≡_}
 use mathlib.Core.List.{List, [], _∷_, _++_}
-use lib.ListN.{length, getD, take, drop}
+use lib.ListN.{length, getD, drop}
 use Rattle.types.specs.declared.machine.Registers.{Registers}
 use Rattle.types.specs.declared.machine.Core.{Core}
 use Rattle.types.specs.declared.machine.State.{State}
-use Rattle.fields.specs.Fields.{number, fieldAt, joined, parted}
+use Rattle.fields.specs.Fields.{fieldAt, joined, parted}
 use Rattle.types.specs.Status.{statusOf, numberOf}
 use Rattle.model.specs.Step.{callLimit}
 

@@ -5,10 +5,10 @@
 use mathlib.Core.Path.{_≡_}
 use Prim.Native.Nat.{ℕ, _<_}
 use lib.Bits.{bitOr}
-use Rattle.types.specs.declared.code.Operation.the-variants.{CLP, SEP}
+use Rattle.types.specs.declared.code.Operation.{Operation}
 use Rattle.types.specs.declared.code.Instruction.{Instruction}
-use Rattle.types.specs.declared.code.Decoded.the-variants.{Whole}
-use Rattle.types.specs.declared.machine.Answer.the-variants.{Completed}
+use Rattle.types.specs.declared.code.Decoded.{Decoded}
+use Rattle.types.specs.declared.machine.Answer.{Answer}
 use Rattle.types.specs.declared.machine.State.{State}
 use Rattle.types.specs.Status.{numberOf}
 use Rattle.anywidth.specs.AnyWidth.{size, low, clearedBy}
@@ -24,12 +24,14 @@ byteBehind i = low 8 (i .operand)
 -- manual, SEP: PSL ← PSL ∨ IMM
 abbrev pub SepSets : Type 0
 SepSets =
-    (m : Memory) (s : State) (i : Instruction) → fetched m (s .core) ≡ Whole i → i .entry .operation ≡ SEP
-    → (step m s .answer ≡ Completed) × (ps (step m s .state) ≡ bitOr (ps s) (byteBehind i))
+    (m : Memory) (s : State) (i : Instruction) → fetched m (s .core) ≡ Decoded.Whole i
+    → i .entry .operation ≡ Operation.SEP
+    → (step m s .answer ≡ Answer.Completed) × (ps (step m s .state) ≡ bitOr (ps s) (byteBehind i))
 
 -- manual, CLP: PSL ← PSL ∧ not IMM, as CLB clears bits of data
 abbrev pub ClpClears : Type 0
 ClpClears =
-    (m : Memory) (s : State) (i : Instruction) → fetched m (s .core) ≡ Whole i → i .entry .operation ≡ CLP
+    (m : Memory) (s : State) (i : Instruction) → fetched m (s .core) ≡ Decoded.Whole i
+    → i .entry .operation ≡ Operation.CLP
     → ps s < size 16
-    → (step m s .answer ≡ Completed) × (ps (step m s .state) ≡ clearedBy 16 (byteBehind i) (ps s))
+    → (step m s .answer ≡ Answer.Completed) × (ps (step m s .state) ≡ clearedBy 16 (byteBehind i) (ps s))

@@ -7,28 +7,19 @@ use mathlib.Core.List.{List, [], _∷_}
 use lib.Dec.{eqb, ltb}
 use lib.ListN.{length, getD, set}
 use Rattle.types.specs.declared.code.Kind.{Kind}
-use Rattle.types.specs.declared.code.Kind.the-variants.{ByRts, ByRtl}
 use Rattle.types.specs.declared.code.Flow.{Flow}
-use Rattle.types.specs.declared.code.Flow.the-variants.{Next, Branch, Jump, Call, Return, Halt}
 use Rattle.types.specs.declared.code.Instruction.{Instruction}
 use Rattle.types.specs.declared.code.Decoded.{Decoded}
-use Rattle.types.specs.declared.code.Decoded.the-variants.{Whole, NotCarried, CutOff}
 use Rattle.types.specs.declared.machine.Registers.{Registers}
 use Rattle.types.specs.declared.machine.Core.{Core}
 use Rattle.types.specs.declared.machine.State.{State}
 use Rattle.types.specs.declared.machine.Stop.{Stop}
-use Rattle.types.specs.declared.machine.Stop.the-variants.{Outside, Uncarried, Halt as Halted, Unmapped}
-use Rattle.types.specs.declared.machine.Stop.the-variants.{Astray, Deep, ImageStore, Decimal}
 use Rattle.types.specs.declared.machine.Access.{Access}
-use Rattle.types.specs.declared.machine.Access.the-variants.{Operand, Addend, Address, Pull, DirectWord}
 use Rattle.types.specs.declared.machine.Data.{Data}
 use Rattle.types.specs.declared.machine.Store.{Store}
 use Rattle.types.specs.declared.machine.Served.{Served}
-use Rattle.types.specs.declared.machine.Served.the-variants.{All, Refused}
 use Rattle.types.specs.declared.machine.CallChange.{CallChange}
-use Rattle.types.specs.declared.machine.CallChange.the-variants.{Keep, Open, Close}
 use Rattle.types.specs.declared.machine.Answer.{Answer}
-use Rattle.types.specs.declared.machine.Answer.the-variants.{Completed, Called, Stopped}
 use Rattle.prelude.specs.Choice.{pick}
 use Rattle.types.specs.Addresses.{bankSize, inBankOf}
 use Rattle.model.specs.Decode.{decode}
@@ -60,14 +51,14 @@ kindOf entry = entry / entryUnit % 256
 
 -- the numbers of the stops
 abbrev pub stopNumber : Stop → ℕ
-stopNumber Outside = 20
-stopNumber Uncarried = 21
-stopNumber Halted = 22
-stopNumber Unmapped = 23
-stopNumber Astray = 24
-stopNumber Deep = 25
-stopNumber ImageStore = 26
-stopNumber Decimal = 27
+stopNumber Stop.Outside = 20
+stopNumber Stop.Uncarried = 21
+stopNumber Stop.Halt = 22
+stopNumber Stop.Unmapped = 23
+stopNumber Stop.Astray = 24
+stopNumber Stop.Deep = 25
+stopNumber Stop.ImageStore = 26
+stopNumber Stop.Decimal = 27
 
 -- 'PG and PC count on as one 24-bit number'
 abbrev pub placeOf : Core → ℕ
@@ -100,20 +91,20 @@ pub data Plan : Type 0 where
 -- 23 of a read
 abbrev pub onRead : {A : Type 0} → Outcome A → (A → Plan) → Plan
 onRead (done v) more = more v
-onRead unmapped more = stops Unmapped
+onRead unmapped more = stops Stop.Unmapped
 
 -- 27, 'ADC or SBC with D=1'
 abbrev pub isDecimal : Access → Registers → Bool
-isDecimal Operand r = false
-isDecimal Addend r = r .status .decimal
-isDecimal Address r = false
-isDecimal Pull r = false
-isDecimal DirectWord r = false
+isDecimal Access.Operand r = false
+isDecimal Access.Addend r = r .status .decimal
+isDecimal Access.Address r = false
+isDecimal Access.Pull r = false
+isDecimal Access.DirectWord r = false
 
 -- how many bytes a return address of a kind has
 abbrev pub returnBytes : Kind → ℕ
-returnBytes ByRts = 2
-returnBytes ByRtl = 3
+returnBytes Kind.ByRts = 2
+returnBytes Kind.ByRtl = 3
 
 module _ (c : Core) (i : Instruction) where
   abbrev pub r : Registers
@@ -141,17 +132,17 @@ module _ (c : Core) (i : Instruction) where
       worked (effectOf (i .entry .mode) (i .entry .accumulator) short (i .operand) next d r (i .entry .operation))
     where
       worked : Effect → Plan
-      worked e = changes (change (e .registers) (goes (e .taken)) Keep (e .stores))
+      worked e = changes (change (e .registers) (goes (e .taken)) CallChange.Keep (e .stores))
 
   unfoldable pub operates : Memory → (Bool → ℕ) → Plan
   operates m goes =
-      pick (isDecimal access r) (stops Decimal)
+      pick (isDecimal access r) (stops Stop.Decimal)
       (onRead (come m (dataOf access (i .entry .mode) (i .entry .accumulator) r short (i .operand))) (works goes))
 
   -- 'A call pushes the address of the instruction after it .., bank first for JSR long, then high byte, then low'
   abbrev pub pushesReturn : Kind → List Store
-  pushesReturn ByRts = store (r .s) (next / 256) ∷ store (pushedAt r 1) next ∷ []
-  pushesReturn ByRtl =
+  pushesReturn Kind.ByRts = store (r .s) (next / 256) ∷ store (pushedAt r 1) next ∷ []
+  pushesReturn Kind.ByRtl =
       store (r .s) (next / bankSize) ∷ store (pushedAt r 1) (next / 256) ∷ store (pushedAt r 2) next ∷ []
 
   -- 25, 'call with 64 open'
@@ -159,15 +150,16 @@ module _ (c : Core) (i : Instruction) where
   calls kind =
       pick (ltb (c .depth) callLimit)
       (changes
-      (change (withS (pushedAt r (returnBytes kind)) r) target (Open next (kindNumber kind)) (pushesReturn kind)))
-      (stops Deep)
+      (change (withS (pushedAt r (returnBytes kind)) r) target (CallChange.Open next (kindNumber kind))
+      (pushesReturn kind)))
+      (stops Stop.Deep)
 
   -- 'the return pulls it and goes there'; RTS stays in the instruction's bank
   abbrev pub pullsReturn : Kind → Act ℕ
-  pullsReturn ByRts = do
+  pullsReturn Kind.ByRts = do
     address ← pulledWord r
     ret (inBankOf place address)
-  pullsReturn ByRtl = pulledLong r
+  pullsReturn Kind.ByRtl = pulledLong r
 
   -- 24, 'no open call, other kind, or pulled address not the open call's', whose entry is given
   abbrev pub isReturn : ℕ → Kind → ℕ → Bool
@@ -177,17 +169,17 @@ module _ (c : Core) (i : Instruction) where
   unfoldable pub returnsTo : ℕ → Kind → ℕ → Plan
   returnsTo open-call kind address =
       pick (isReturn open-call kind address)
-      (changes (change (withS (pulledAt r (returnBytes kind)) r) address Close []))
-      (stops Astray)
+      (changes (change (withS (pulledAt r (returnBytes kind)) r) address CallChange.Close []))
+      (stops Stop.Astray)
 
   -- by flow; 22, 'STP or WIT'
   unfoldable pub planBy : Memory → ℕ → Flow → Plan
-  planBy m open-call Next = operates m (λ taken. next)
-  planBy m open-call Branch = operates m (λ taken. pick taken target next)
-  planBy m open-call Jump = changes (change r target Keep [])
-  planBy m open-call (Call kind) = calls kind
-  planBy m open-call (Return kind) = onRead (come m (pullsReturn kind)) (returnsTo open-call kind)
-  planBy m open-call Halt = stops Halted
+  planBy m open-call Flow.Next = operates m (λ taken. next)
+  planBy m open-call Flow.Branch = operates m (λ taken. pick taken target next)
+  planBy m open-call Flow.Jump = changes (change r target CallChange.Keep [])
+  planBy m open-call (Flow.Call kind) = calls kind
+  planBy m open-call (Flow.Return kind) = onRead (come m (pullsReturn kind)) (returnsTo open-call kind)
+  planBy m open-call Flow.Halt = stops Stop.Halt
 
 -- the entry of the call opened last
 abbrev pub lastOpened : State → ℕ
@@ -207,23 +199,23 @@ stepped answer s ram = record { answer = answer; state = s; ram = ram }
 
 -- 'A stop undoes its whole step.'
 abbrev pub stopped : Stop → Memory → State → Stepped
-stopped stop m s = stepped (Stopped stop) s (m .ram)
+stopped stop m s = stepped (Answer.Stopped stop) s (m .ram)
 
 -- the open calls after a step: an entry changes only when a call is opened in it
 abbrev pub depthAfter : CallChange → ℕ → ℕ
-depthAfter Keep depth = depth
-depthAfter (Open address kind) depth = depth + 1
-depthAfter Close depth = depth - 1
+depthAfter CallChange.Keep depth = depth
+depthAfter (CallChange.Open address kind) depth = depth + 1
+depthAfter CallChange.Close depth = depth - 1
 
 abbrev pub callsAfter : CallChange → ℕ → List ℕ → List ℕ
-callsAfter Keep depth calls = calls
-callsAfter (Open address kind) depth calls = set calls depth (entryOf address kind)
-callsAfter Close depth calls = calls
+callsAfter CallChange.Keep depth calls = calls
+callsAfter (CallChange.Open address kind) depth calls = set calls depth (entryOf address kind)
+callsAfter CallChange.Close depth calls = calls
 
 abbrev pub answerOf : CallChange → Answer
-answerOf Keep = Completed
-answerOf (Open address kind) = Called
-answerOf Close = Completed
+answerOf CallChange.Keep = Answer.Completed
+answerOf (CallChange.Open address kind) = Answer.Called
+answerOf CallChange.Close = Answer.Completed
 
 -- the widths after an instruction, whatever its operation left in the status
 abbrev pub widthsAfter : Instruction → Registers → Registers → Registers
@@ -252,17 +244,17 @@ stateAfter i s d = record {
 
 -- 23 and 26 of the stores, then all of them
 abbrev pub onServed : Served → Instruction → Change → Memory → State → Stepped
-onServed All i d m s = stepped (answerOf (d .calls)) (stateAfter i s d) (stored (d .stores) (m .ram))
-onServed (Refused stop) i d m s = stopped stop m s
+onServed Served.All i d m s = stepped (answerOf (d .calls)) (stateAfter i s d) (stored (d .stores) (m .ram))
+onServed (Served.Refused stop) i d m s = stopped stop m s
 
 abbrev pub finish : Plan → Instruction → Memory → State → Stepped
 finish (stops stop) i m s = stopped stop m s
 finish (changes d) i m s = onServed (served m (d .stores)) i d m s
 
 abbrev pub onDecoded : Decoded → Memory → State → Stepped
-onDecoded CutOff m s = stopped Outside m s
-onDecoded NotCarried m s = stopped Uncarried m s
-onDecoded (Whole i) m s = finish (plan m s i) i m s
+onDecoded Decoded.CutOff m s = stopped Stop.Outside m s
+onDecoded Decoded.NotCarried m s = stopped Stop.Uncarried m s
+onDecoded (Decoded.Whole i) m s = finish (plan m s i) i m s
 
 -- the step of a state
 unfoldable pub step : Memory → State → Stepped

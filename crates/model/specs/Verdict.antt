@@ -2,7 +2,7 @@
 -- lowest, for 5, 6, 7, 10, 8, 9. It also returns the offset of that start (of the lowest bad mark for 4; 0 for 1, 2,
 -- 3).'
 -- Assumes nothing.
-use Prim.Native.Nat.{ℕ, zero, suc, _+_, _-_}
+use Prim.Native.Nat.{ℕ, _+_, _-_}
 use mathlib.Core.Bool.{Bool, true, not, _&&_}
 use mathlib.Core.List.{List, [], _∷_, _++_}
 use lib.Dec.{eqb}
@@ -10,16 +10,11 @@ use lib.ListN.{length, getD}
 use Rattle.prelude.specs.First.{firstFrom}
 use Rattle.types.specs.declared.code.Instruction.{Instruction}
 use Rattle.types.specs.declared.code.Decoded.{Decoded}
-use Rattle.types.specs.declared.code.Decoded.the-variants.{Whole, NotCarried, CutOff}
 use Rattle.types.specs.declared.refusals.Refusal.{Refusal}
-use Rattle.types.specs.declared.refusals.Refusal.the-variants as refusal
 use Rattle.types.specs.declared.refusals.TestResult.{TestResult}
-use Rattle.types.specs.declared.refusals.TestResult.the-variants.{Passed, Failed}
 use Rattle.types.specs.declared.rules.Want.{Want}
 use Rattle.types.specs.declared.rules.Owed.{Owed}
-use Rattle.types.specs.declared.rules.Owed.the-variants.{Nothing, One, Two}
 use Rattle.types.specs.declared.rules.Verdict.{Verdict}
-use Rattle.types.specs.declared.rules.Verdict.the-variants.{Accepted, Refused}
 use Rattle.prelude.specs.Choice.{pick}
 use Rattle.model.specs.Image.{isStart, isFormed, lengthFits, baseFits, markAt, resetFits}
 use Rattle.types.specs.Refusals.{refusalNumber, Tests, firstRefusal, isFailed, answered}
@@ -37,38 +32,38 @@ unfoldable pub wantsStart : List ℕ → ℕ → Want → Bool
 wantsStart marks base w = isStart (markAt marks base (w .address))
 
 unfoldable pub allStarts : List ℕ → ℕ → Owed → Bool
-allStarts marks base Nothing = true
-allStarts marks base (One w) = wantsStart marks base w
-allStarts marks base (Two v w) = wantsStart marks base v && wantsStart marks base w
+allStarts marks base Owed.Nothing = true
+allStarts marks base (Owed.One w) = wantsStart marks base w
+allStarts marks base (Owed.Two v w) = wantsStart marks base v && wantsStart marks base w
 
 -- 9: 'one of those breaks its rule'
 unfoldable pub wantsMark : List ℕ → ℕ → Want → Bool
 wantsMark marks base w = eqb (markAt marks base (w .address)) (w .mark)
 
 unfoldable pub allMarks : List ℕ → ℕ → Owed → Bool
-allMarks marks base Nothing = true
-allMarks marks base (One w) = wantsMark marks base w
-allMarks marks base (Two v w) = wantsMark marks base v && wantsMark marks base w
+allMarks marks base Owed.Nothing = true
+allMarks marks base (Owed.One w) = wantsMark marks base w
+allMarks marks base (Owed.Two v w) = wantsMark marks base v && wantsMark marks base w
 
 -- the rules of a whole instruction: '7, 10, 8, 9'. 8 on every want comes before 9 on any.
 abbrev pub wholeTests : List ℕ → ℕ → ℕ → Instruction → Tests
 wholeTests marks base at i =
-    (isClear marks at (i .length), refusal.Overlap)
-    ∷ (returnFits (i .entry .flow) (getD marks at 0), refusal.Return)
-    ∷ (allStarts marks base (owedThere marks base at i), refusal.Flow)
-    ∷ (allMarks marks base (owedThere marks base at i), refusal.Widths)
+    (isClear marks at (i .length), Refusal.Overlap)
+    ∷ (returnFits (i .entry .flow) (getD marks at 0), Refusal.Return)
+    ∷ (allStarts marks base (owedThere marks base at i), Refusal.Flow)
+    ∷ (allMarks marks base (owedThere marks base at i), Refusal.Widths)
     ∷ []
 
 -- 5: 'code at a start is not carried'; 6: 'instruction, or the code behind a prefix, runs past the image'
 unfoldable pub decodedResult : List ℕ → ℕ → ℕ → Decoded → TestResult
-decodedResult marks base at NotCarried = Failed refusal.Code
-decodedResult marks base at CutOff = Failed refusal.CutOff
-decodedResult marks base at (Whole i) = firstRefusal (wholeTests marks base at i)
+decodedResult marks base at Decoded.NotCarried = TestResult.Failed Refusal.Code
+decodedResult marks base at Decoded.CutOff = TestResult.Failed Refusal.CutOff
+decodedResult marks base at (Decoded.Whole i) = firstRefusal (wholeTests marks base at i)
 
 -- the first rule that is broken at a place; where no instruction starts none is
 unfoldable pub startResult : List ℕ → List ℕ → ℕ → ℕ → TestResult
 startResult image marks base at =
-    pick (startAt marks at) (decodedResult marks base at (instructionAt image marks at)) Passed
+    pick (startAt marks at) (decodedResult marks base at (instructionAt image marks at)) TestResult.Passed
 
 -- a place that breaks a rule, and the lowest such, or the place past the marks
 abbrev pub brokenAt : List ℕ → List ℕ → ℕ → ℕ → Bool
@@ -81,8 +76,8 @@ badStart image marks base = firstFrom (brokenAt image marks base) 0 (length mark
 unfoldable pub startsVerdict : List ℕ → List ℕ → ℕ → Verdict
 startsVerdict image marks base =
     answered (startResult image marks base (badStart image marks base))
-    (λ why. Refused why (badStart image marks base))
-    Accepted
+    (λ why. Verdict.Refused why (badStart image marks base))
+    Verdict.Accepted
 
 -- 4: 'a mark not of the form above', and the lowest such
 abbrev pub unformedAt : List ℕ → ℕ → Bool
@@ -96,13 +91,13 @@ allFormed marks = eqb (badMark marks) (length marks)
 
 -- '1, 2': what every call asks of an image of so many bytes at a base, with so many marks
 abbrev pub imageTests : ℕ → ℕ → ℕ → Tests
-imageTests image marks base = (lengthFits image marks, refusal.Length) ∷ (baseFits base image, refusal.Base) ∷ []
+imageTests image marks base = (lengthFits image marks, Refusal.Length) ∷ (baseFits base image, Refusal.Base) ∷ []
 
 -- '1, 2, 4, 3': what the check and the writer ask
 abbrev pub marksTests : ℕ → List ℕ → ℕ → ℕ → Tests
 marksTests image marks base reset =
     imageTests image (length marks) base
-    ++ ((allFormed marks, refusal.Mark) ∷ (resetFits marks base reset, refusal.Reset) ∷ [])
+    ++ ((allFormed marks, Refusal.Mark) ∷ (resetFits marks base reset, Refusal.Reset) ∷ [])
 
 -- the offset '(of the lowest bad mark for 4; 0 for 1, 2, 3)'
 abbrev pub offsetOf : List ℕ → Refusal → ℕ
@@ -112,5 +107,5 @@ offsetOf marks why = pick (eqb (refusalNumber why) 4) (badMark marks) 0
 unfoldable pub verdict : List ℕ → List ℕ → ℕ → ℕ → Verdict
 verdict image marks base reset =
     answered (firstRefusal (marksTests (length image) marks base reset))
-    (λ why. Refused why (offsetOf marks why))
+    (λ why. Verdict.Refused why (offsetOf marks why))
     (startsVerdict image marks base)

@@ -3,18 +3,12 @@
 use Prim.Native.Nat.{ℕ}
 use mathlib.Core.List.{List, [], _∷_}
 use Rattle.types.specs.declared.code.Operation.{Operation}
-use Rattle.types.specs.declared.code.Operation.the-variants.{Unassigned, ADC, AND, ASL, BBC, BBS, BCC}
-use Rattle.types.specs.declared.code.Operation.the-variants.{BCS, BEQ, BMI, BNE, BPL, BRA, BRK, BVC, BVS}
-use Rattle.types.specs.declared.code.Operation.the-variants.{CLB, CLC, CLI, CLM, CLP, CLV, CMP, CPX, CPY}
-use Rattle.types.specs.declared.code.Operation.the-variants.{DEC, DEX, DEY, DIV, EOR, INC, INX, INY, JMP}
-use Rattle.types.specs.declared.code.Operation.the-variants.{JSR, LDA, LDM, LDT, LDX, LDY, LSR, MPY, MVN}
-use Rattle.types.specs.declared.code.Operation.the-variants.{MVP, NOP, ORA, PEA, PEI, PER, PHA, PHB, PHD}
-use Rattle.types.specs.declared.code.Operation.the-variants.{PHG, PHP, PHT, PHX, PHY, PLA, PLB, PLD, PLP}
-use Rattle.types.specs.declared.code.Operation.the-variants.{PLT, PLX, PLY, PSH, PUL, RLA, ROL, ROR, RTI}
-use Rattle.types.specs.declared.code.Operation.the-variants.{RTL, RTS, SBC, SEB, SEC, SEI, SEM, SEP, STA}
-use Rattle.types.specs.declared.code.Operation.the-variants.{STP, STX, STY, TAD, TAS, TAX, TAY, TBD, TBS}
-use Rattle.types.specs.declared.code.Operation.the-variants.{TBX, TBY, TDA, TDB, TSA, TSB, TSX, TXA, TXB}
-use Rattle.types.specs.declared.code.Operation.the-variants.{TXS, TXY, TYA, TYB, TYX, WIT, XAB}
+use Rattle.types.specs.declared.code.Operation.the-variants as ops
+use ops.{Unassigned, ADC, AND, ASL, BBC, BBS, BCC, BCS, BEQ, BMI, BNE, BPL, BRA, BRK, BVC, BVS, CLB, CLC, CLI, CLM}
+use ops.{CLP, CLV, CMP, CPX, CPY, DEC, DEX, DEY, DIV, EOR, INC, INX, INY, JMP, JSR, LDA, LDM, LDT, LDX, LDY, LSR}
+use ops.{MPY, MVN, MVP, NOP, ORA, PEA, PEI, PER, PHA, PHB, PHD, PHG, PHP, PHT, PHX, PHY, PLA, PLB, PLD, PLP, PLT}
+use ops.{PLX, PLY, PSH, PUL, RLA, ROL, ROR, RTI, RTL, RTS, SBC, SEB, SEC, SEI, SEM, SEP, STA, STP, STX, STY, TAD}
+use ops.{TAS, TAX, TAY, TBD, TBS, TBX, TBY, TDA, TDB, TSA, TSB, TSX, TXA, TXB, TXS, TXY, TYA, TYB, TYX, WIT, XAB}
 
 abbrev '-' : ℕ
 '-' = 45

@@ -5,11 +5,8 @@ use mathlib.Core.List.{List}
 use Prim.Native.Nat.{ℕ}
 use native.Mathlib.Omega.{arith}
 use Rattle.types.specs.declared.rules.Verdict.{Verdict}
-use Rattle.types.specs.declared.rules.Verdict.the-variants.{Accepted, Refused}
 use Rattle.types.specs.declared.lists.ListRead.{ListRead}
-use Rattle.types.specs.declared.lists.ListRead.the-variants.{NotRead, Read}
 use Rattle.types.specs.declared.lists.ListWritten.{ListWritten}
-use Rattle.types.specs.declared.lists.ListWritten.the-variants.{NotWritten, Written}
 use Rattle.model.specs.Verdict.{verdict}
 use Rattle.model.specs.MarkList.{readList, writeList}
 use Rattle.model.proofs.Meaning.{refused-small}
@@ -20,19 +17,19 @@ pub verdict-fits : (image marks : List ℕ) (base reset : ℕ) → Fits (verdict
 verdict-fits image marks base reset = by (verdict image marks base reset) refl
   where
     by : (v : Verdict) → verdict image marks base reset ≡ v → Fits v
-    by Accepted e = tt
-    by (Refused why at) e = refused-small image marks base reset at why e
+    by Verdict.Accepted e = tt
+    by (Verdict.Refused why at) e = refused-small image marks base reset at why e
 
 pub read-fits : (text marks : List ℕ) → ReadFits (readList text marks)
 read-fits text marks = by (readList text marks) refl
   where
     by : (a : ListRead) → readList text marks ≡ a → ReadFits a
-    by (NotRead why) e = tt
-    by (Read h) e = read-small text marks h e
+    by (ListRead.NotRead why) e = tt
+    by (ListRead.Read h) e = read-small text marks h e
 
 pub written-fits : (marks : List ℕ) (base reset : ℕ) (page : List ℕ) → WrittenFits (writeList marks base reset page)
 written-fits marks base reset page = by (writeList marks base reset page) refl
   where
     by : (a : ListWritten) → writeList marks base reset page ≡ a → WrittenFits a
-    by (NotWritten why) e = tt
-    by (Written n) e = omega (arith, written-small marks base reset n page e)
+    by (ListWritten.NotWritten why) e = tt
+    by (ListWritten.Written n) e = omega (arith, written-small marks base reset n page e)

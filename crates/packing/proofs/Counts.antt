@@ -6,10 +6,8 @@ use mathlib.Core.List.{List, [], _∷_}
 use Prim.Native.Nat.{ℕ, zero, suc, _≤_}
 use native.Mathlib.Omega.{arith}
 use Rattle.types.specs.declared.machine.Answer.{Answer}
-use Rattle.types.specs.declared.machine.Answer.the-variants.{Completed, Called, Stopped}
 use Rattle.types.specs.declared.machine.State.{State}
 use Rattle.types.specs.declared.refusals.TestResult.{TestResult}
-use Rattle.types.specs.declared.refusals.TestResult.the-variants.{Passed, Failed}
 use Rattle.types.specs.Refusals.{firstRefusal}
 use Rattle.prelude.specs.Choice.{bit}
 use Rattle.model.specs.Memory.{Memory}
@@ -22,9 +20,9 @@ use Rattle.model.proofs.Run.{by-first-step, admitted}
 use Rattle.packing.specs.Packed.{RunFits}
 
 one-call : (a : Answer) → bit (isCall a) ≤ bit (isCompleted a)
-one-call Completed = omega arith
-one-call Called = omega arith
-one-call (Stopped stop) = omega arith
+one-call Answer.Completed = omega arith
+one-call Answer.Called = omega arith
+one-call (Answer.Stopped stop) = omega arith
 
 calls-few : (h : List Event) → callsAmong h ≤ completedSteps h
 calls-few [] = omega arith
@@ -50,9 +48,9 @@ run-fits m bytes asked = by (firstRefusal (runTests m (bytesFit bytes) asked)) r
   where
     by : (a : TestResult) → firstRefusal (runTests m (bytesFit bytes) asked) ≡ a
         → RunFits (ranBytesBy a m bytes asked .answer)
-    by Passed e =
+    by TestResult.Passed e =
         let most = admitted m (bytesFit bytes) asked e .steps in
         let h = history m (stateOf bytes) asked in
         let steps = steps-few m (stateOf bytes) asked in
         (omega (arith, most, steps), omega (arith, most, steps, calls-few h))
-    by (Failed why) e = tt
+    by (TestResult.Failed why) e = tt

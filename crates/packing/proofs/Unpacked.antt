@@ -5,15 +5,10 @@ use mathlib.Core.Path.{_≡_, refl}
 use Prim.Native.Nat.{_+_, _*_, _/_, _^_, _<_}
 use native.Mathlib.Omega.{arith}
 use Rattle.types.specs.declared.rules.Verdict.{Verdict}
-use Rattle.types.specs.declared.rules.Verdict.the-variants.{Accepted, Refused}
 use Rattle.types.specs.declared.lists.ListRead.{ListRead}
-use Rattle.types.specs.declared.lists.ListRead.the-variants.{NotRead, Read}
 use Rattle.types.specs.declared.lists.ListWritten.{ListWritten}
-use Rattle.types.specs.declared.lists.ListWritten.the-variants.{NotWritten, Written}
 use Rattle.types.specs.declared.runs.End.{End}
-use Rattle.types.specs.declared.runs.End.the-variants.{Done, AtStop}
 use Rattle.types.specs.declared.runs.RunAnswer.{RunAnswer}
-use Rattle.types.specs.declared.runs.RunAnswer.the-variants.{NotRun, Ended}
 use Rattle.types.specs.Refusals.{refusalNumber}
 use Rattle.model.specs.Run.{endNumber}
 use Rattle.model.proofs.TestResults.{refusal-range}
@@ -24,22 +19,22 @@ use Rattle.packing.specs.Packed.{packedWritten, listWrittenNumbers, writ
 use Rattle.packing.specs.Packed.{packedRun, RunFits, answerNumbers, runNumbers}
 
 pub verdict-unpacked : (v : Verdict) → Fits v → checkNumbers (packedVerdict v) ≡ verdictNumbers v
-verdict-unpacked Accepted f = refl
-verdict-unpacked (Refused why at) f =
+verdict-unpacked Verdict.Accepted f = refl
+verdict-unpacked (Verdict.Refused why at) f =
     let result = refusalNumber why * 65_536 + at in
     let number : checkNumbers result .number ≡ refusalNumber why = omega arith in
     let offset : checkNumbers result .offset ≡ at = omega arith in
     λ j. record { number = number j; offset = offset j }
 
 pub read-unpacked : (a : ListRead) → ReadFits a → readNumbers (packedRead a) ≡ listReadNumbers a
-read-unpacked (NotRead why) f =
+read-unpacked (ListRead.NotRead why) f =
     let result = refusalNumber why in
     let below = refusal-range why .1 in
     let number : readNumbers result .number ≡ result = omega arith in
     let base : readNumbers result .base ≡ 0 = omega arith in
     let reset : readNumbers result .reset ≡ 0 = omega arith in
     λ j. record { number = number j; base = base j; reset = reset j }
-read-unpacked (Read h) f =
+read-unpacked (ListRead.Read h) f =
     let result = h .base * 256 + h .reset * 4_294_967_296 in
     let above : result / 2 ^ 8 ≡ h .base + 2 ^ 24 * h .reset = omega arith in
     let higher : result / 2 ^ 32 ≡ h .reset = omega arith in
@@ -49,23 +44,23 @@ read-unpacked (Read h) f =
     λ j. record { number = number j; base = base j; reset = reset j }
 
 pub written-unpacked : (a : ListWritten) → writtenNumbers (packedWritten a) ≡ listWrittenNumbers a
-written-unpacked (NotWritten why) =
+written-unpacked (ListWritten.NotWritten why) =
     let result = refusalNumber why in
     let below = refusal-range why .1 in
     let number : writtenNumbers result .number ≡ result = omega arith in
     let length : writtenNumbers result .length ≡ 0 = omega arith in
     λ j. record { number = number j; length = length j }
-written-unpacked (Written n) =
+written-unpacked (ListWritten.Written n) =
     let number : writtenNumbers (n * 256) .number ≡ 0 = omega arith in
     let length : writtenNumbers (n * 256) .length ≡ n = omega arith in
     λ j. record { number = number j; length = length j }
 
 end-below : (end : End) → endNumber end < 256
-end-below Done = omega arith
-end-below (AtStop stop) = omega (arith, stop-range stop .1)
+end-below End.Done = omega arith
+end-below (End.AtStop stop) = omega (arith, stop-range stop .1)
 
 pub run-unpacked : (a : RunAnswer) → RunFits a → runNumbers (packedRun a) ≡ answerNumbers a
-run-unpacked (NotRun why) f =
+run-unpacked (RunAnswer.NotRun why) f =
     let result = refusalNumber why in
     let below = refusal-range why .1 in
     let refusal : runNumbers result .refusal ≡ result = omega arith in
@@ -73,7 +68,7 @@ run-unpacked (NotRun why) f =
     let steps : runNumbers result .steps ≡ 0 = omega arith in
     let calls : runNumbers result .calls ≡ 0 = omega arith in
     λ j. record { refusal = refusal j; end = end j; steps = steps j; calls = calls j }
-run-unpacked (Ended stopped taken called) f =
+run-unpacked (RunAnswer.Ended stopped taken called) f =
     let result = 256 * endNumber stopped + 65_536 * taken + 1_099_511_627_776 * called in
     let below = end-below stopped in
     let above : result / 2 ^ 8 ≡ endNumber stopped + 2 ^ 8 * (taken + 2 ^ 24 * called) = omega arith in

@@ -3,13 +3,9 @@
 -- Assumes nothing.
 use Prim.Native.Nat.{ℕ, _+_, _*_, _/_, _%_, _^_, _≤_, _<_}
 use Rattle.types.specs.declared.rules.Verdict.{Verdict}
-use Rattle.types.specs.declared.rules.Verdict.the-variants.{Accepted, Refused}
 use Rattle.types.specs.declared.lists.ListRead.{ListRead}
-use Rattle.types.specs.declared.lists.ListRead.the-variants.{NotRead, Read}
 use Rattle.types.specs.declared.lists.ListWritten.{ListWritten}
-use Rattle.types.specs.declared.lists.ListWritten.the-variants.{NotWritten, Written}
 use Rattle.types.specs.declared.runs.RunAnswer.{RunAnswer}
-use Rattle.types.specs.declared.runs.RunAnswer.the-variants.{NotRun, Ended}
 use Rattle.types.specs.Addresses.{addressLimit, bankSize}
 use Rattle.types.specs.Refusals.{refusalNumber}
 use Rattle.model.specs.Run.{stepLimit, endNumber}
@@ -17,21 +13,21 @@ use Rattle.model.specs.Run.{stepLimit, endNumber}
 -- ---- the check: the number in the upper 16 bits, the offset in the lower; 0 is accepted
 
 abbrev pub packedVerdict : Verdict → ℕ
-packedVerdict Accepted = 0
-packedVerdict (Refused why offset) = refusalNumber why * 65_536 + offset
+packedVerdict Verdict.Accepted = 0
+packedVerdict (Verdict.Refused why offset) = refusalNumber why * 65_536 + offset
 
 -- an answer that fits so
 abbrev pub Fits : Verdict → Type 0
-Fits Accepted = Unit {0}
-Fits (Refused why offset) = offset < 65_536
+Fits Verdict.Accepted = Unit {0}
+Fits (Verdict.Refused why offset) = offset < 65_536
 
 pub record CheckNumbers : Type 0 where
   pub number : ℕ
   pub offset : ℕ
 
 abbrev pub verdictNumbers : Verdict → CheckNumbers
-verdictNumbers Accepted = record { number = 0; offset = 0 }
-verdictNumbers (Refused why offset) = record { number = refusalNumber why; offset = offset }
+verdictNumbers Verdict.Accepted = record { number = 0; offset = 0 }
+verdictNumbers (Verdict.Refused why offset) = record { number = refusalNumber why; offset = offset }
 
 -- as `m7700_check_image` takes them
 abbrev pub checkNumbers : ℕ → CheckNumbers
@@ -41,12 +37,12 @@ checkNumbers result = record { number = result / 2 ^ 16; offset = result % 2 ^ 1
 -- 32 to 55
 
 abbrev pub packedRead : ListRead → ℕ
-packedRead (NotRead why) = refusalNumber why
-packedRead (Read h) = h .base * 256 + h .reset * 4_294_967_296
+packedRead (ListRead.NotRead why) = refusalNumber why
+packedRead (ListRead.Read h) = h .base * 256 + h .reset * 4_294_967_296
 
 abbrev pub ReadFits : ListRead → Type 0
-ReadFits (NotRead why) = Unit {0}
-ReadFits (Read h) = (h .base < addressLimit) × (h .reset < bankSize)
+ReadFits (ListRead.NotRead why) = Unit {0}
+ReadFits (ListRead.Read h) = (h .base < addressLimit) × (h .reset < bankSize)
 
 pub record ReadNumbers : Type 0 where
   pub number : ℕ
@@ -54,8 +50,8 @@ pub record ReadNumbers : Type 0 where
   pub reset : ℕ
 
 abbrev pub listReadNumbers : ListRead → ReadNumbers
-listReadNumbers (NotRead why) = record { number = refusalNumber why; base = 0; reset = 0 }
-listReadNumbers (Read h) = record { number = 0; base = h .base; reset = h .reset }
+listReadNumbers (ListRead.NotRead why) = record { number = refusalNumber why; base = 0; reset = 0 }
+listReadNumbers (ListRead.Read h) = record { number = 0; base = h .base; reset = h .reset }
 
 -- as `m7700_read_mark_list` takes them
 abbrev pub readNumbers : ℕ → ReadNumbers
@@ -68,20 +64,20 @@ readNumbers result = record {
 -- ---- the writer: the number in bits 0 to 7; where that is 0, the list's length in bits 8 to 63
 
 abbrev pub packedWritten : ListWritten → ℕ
-packedWritten (NotWritten why) = refusalNumber why
-packedWritten (Written n) = n * 256
+packedWritten (ListWritten.NotWritten why) = refusalNumber why
+packedWritten (ListWritten.Written n) = n * 256
 
 abbrev pub WrittenFits : ListWritten → Type 0
-WrittenFits (NotWritten why) = Unit {0}
-WrittenFits (Written n) = n < 72_057_594_037_927_936
+WrittenFits (ListWritten.NotWritten why) = Unit {0}
+WrittenFits (ListWritten.Written n) = n < 72_057_594_037_927_936
 
 pub record WrittenNumbers : Type 0 where
   pub number : ℕ
   pub length : ℕ
 
 abbrev pub listWrittenNumbers : ListWritten → WrittenNumbers
-listWrittenNumbers (NotWritten why) = record { number = refusalNumber why; length = 0 }
-listWrittenNumbers (Written n) = record { number = 0; length = n }
+listWrittenNumbers (ListWritten.NotWritten why) = record { number = refusalNumber why; length = 0 }
+listWrittenNumbers (ListWritten.Written n) = record { number = 0; length = n }
 
 -- as `m7700_write_mark_list` takes them
 abbrev pub writtenNumbers : ℕ → WrittenNumbers
@@ -91,12 +87,12 @@ writtenNumbers result = record { number = result % 2 ^ 8; length = result / 2 ^ 
 -- calls in bits 40 to 63
 
 abbrev pub packedRun : RunAnswer → ℕ
-packedRun (NotRun why) = refusalNumber why
-packedRun (Ended end steps calls) = 256 * endNumber end + 65_536 * steps + 1_099_511_627_776 * calls
+packedRun (RunAnswer.NotRun why) = refusalNumber why
+packedRun (RunAnswer.Ended end steps calls) = 256 * endNumber end + 65_536 * steps + 1_099_511_627_776 * calls
 
 abbrev pub RunFits : RunAnswer → Type 0
-RunFits (NotRun why) = Unit {0}
-RunFits (Ended end steps calls) = (steps ≤ stepLimit) × (calls ≤ stepLimit)
+RunFits (RunAnswer.NotRun why) = Unit {0}
+RunFits (RunAnswer.Ended end steps calls) = (steps ≤ stepLimit) × (calls ≤ stepLimit)
 
 pub record RunNumbers : Type 0 where
   pub refusal : ℕ
@@ -105,8 +101,9 @@ pub record RunNumbers : Type 0 where
   pub calls : ℕ
 
 abbrev pub answerNumbers : RunAnswer → RunNumbers
-answerNumbers (NotRun why) = record { refusal = refusalNumber why; end = 0; steps = 0; calls = 0 }
-answerNumbers (Ended end steps calls) = record { refusal = 0; end = endNumber end; steps = steps; calls = calls }
+answerNumbers (RunAnswer.NotRun why) = record { refusal = refusalNumber why; end = 0; steps = 0; calls = 0 }
+answerNumbers (RunAnswer.Ended end steps calls) =
+    record { refusal = 0; end = endNumber end; steps = steps; calls = calls }
 
 -- as `m7700_unpacked_run` takes them
 abbrev pub runNumbers : ℕ → RunNumbers

@@ -10,8 +10,7 @@ use borrow.Author.Tests.{leb-true, eqb-true}
 use Rattle.types.specs.declared.machine.Core.{Core}
 use Rattle.types.specs.declared.refusals.Refusal.{Refusal}
 use Rattle.types.specs.declared.refusals.TestResult.{TestResult}
-use Rattle.types.specs.declared.refusals.TestResult.the-variants.{Passed, Failed}
-use Rattle.types.specs.declared.runs.RunAnswer.the-variants.{NotRun}
+use Rattle.types.specs.declared.runs.RunAnswer.{RunAnswer}
 use Rattle.types.specs.Refusals.{firstRefusal}
 use Rattle.model.specs.Memory.{Memory}
 use Rattle.model.specs.Step.{callLimit}
@@ -45,11 +44,12 @@ module _ (m : Memory) (bytes : List ℕ) (asked : ℕ) (c : Core) (calls : List 
   same-fits : taken ≡ bytesFit bytes
   same-fits = rw (← same-state) is-taken
 
-  pub run-refused : (why : Refusal) → a ≡ Failed why
-      → ranBytes m bytes asked ≡ record { answer = NotRun why; state = bytes; ram = m .ram }
+  pub run-refused : (why : Refusal) → a ≡ TestResult.Failed why
+      → ranBytes m bytes asked ≡ record { answer = RunAnswer.NotRun why; state = bytes; ram = m .ram }
   unfolding ranBytes
   run-refused why e = rw (← same-fits, ← is-admission, e) refl
 
-  pub run-taken : a ≡ Passed → (r : Ran) → r ≡ played m (state c calls) asked → ranBytes m bytes asked ≡ asBytes r
+  pub run-taken : a ≡ TestResult.Passed → (r : Ran) → r ≡ played m (state c calls) asked
+      → ranBytes m bytes asked ≡ asBytes r
   unfolding ranBytes
   run-taken e r is-run = rw (← same-fits, ← is-admission, e, is-run, same-state) refl

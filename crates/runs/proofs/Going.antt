@@ -8,11 +8,9 @@ use Prim.Native.Nat.{ℕ, suc, _+_, _-_, _/_, _%_, _≤_, _<_}
 use native.Mathlib.Omega.{arith}
 use lib.ListN.{length}
 use Rattle.types.specs.declared.machine.Answer.{Answer}
-use Rattle.types.specs.declared.machine.Answer.the-variants.{Completed, Called, Stopped}
 use Rattle.types.specs.declared.machine.Core.{Core}
 use Rattle.types.specs.declared.machine.State.{State}
 use Rattle.types.specs.declared.runs.End.{End}
-use Rattle.types.specs.declared.runs.End.the-variants.{Done}
 use Rattle.types.specs.Addresses.{bankSize}
 use Rattle.model.specs.Memory.{Memory, memory}
 use Rattle.prelude.specs.Choice.{bit}
@@ -36,10 +34,10 @@ made-of given place file e e′ e″ =
 module _ (m : Memory) (s : State) where
   -- the run ends so
   stop-ends : (n steps made : ℕ) → (a : Answer) → step m s .answer ≡ a → isCompleted a ≡ false
-      → further steps made (played m s (suc n)) ≡ ended (endAfter a Done) steps made s (m .ram)
-  stop-ends n steps made Completed e h = absurd (completed-stops h)
-  stop-ends n steps made Called e h = absurd (completed-stops h)
-  stop-ends n steps made (Stopped stop) e h = run-stops m s n steps made stop e
+      → further steps made (played m s (suc n)) ≡ ended (endAfter a End.Done) steps made s (m .ram)
+  stop-ends n steps made Answer.Completed e h = absurd (completed-stops h)
+  stop-ends n steps made Answer.Called e h = absurd (completed-stops h)
+  stop-ends n steps made (Answer.Stopped stop) e h = run-stops m s n steps made stop e
 
 module _ (image : List ℕ) (base : ℕ) (calls₀ ram₀ : List ℕ) (given : Core) (asked : ℕ) where
   abbrev whole : Ran
@@ -82,7 +80,7 @@ module _ (image : List ℕ) (base : ℕ) (calls₀ ram₀ : List ℕ) (given : C
     s = state (coreOf place depth file) calls
 
     pub ends : asked ≤ steps → (core : Core) → core ≡ coreOf place depth file
-        → leftBy (record { end = Done; steps = steps; calls = made; core = core }) calls ram ≡ whole
+        → leftBy (record { end = End.Done; steps = steps; calls = made; core = core }) calls ram ≡ whole
     ends h core e =
         let none : asked - steps ≡ 0 = omega arith in
         let last = rw none at (g .goes) in
@@ -114,7 +112,7 @@ module _ (image : List ℕ) (base : ℕ) (calls₀ ram₀ : List ℕ) (given : C
           by true = omega (arith, g .counted)
           by false = omega (arith, g .counted)
 
-      pub stops-so : isCompleted (turn .answer) ≡ false → (end : End) → end ≡ endAfter (turn .answer) Done
+      pub stops-so : isCompleted (turn .answer) ≡ false → (end : End) → end ≡ endAfter (turn .answer) End.Done
           → (core : Core) → core ≡ coreOf (turn .place) (turn .depth) file′
           → leftBy (record { end = end; steps = steps; calls = made; core = core }) calls′ ram′ ≡ whole
       stops-so c end e core e′ =

@@ -3,10 +3,10 @@
 use Prim.Native.Nat.{ℕ}
 use mathlib.Core.List.{List}
 use Rattle.runs.specs.declared.course.Course.{Course}
-use Rattle.types.specs.declared.runs.RunAnswer.the-variants.{Ended}
+use Rattle.types.specs.declared.runs.RunAnswer.{RunAnswer}
 use Rattle.model.specs.Run.{Ran}
 use Rattle.machine.specs.Turns.{state}
 
 abbrev pub leftBy : Course → List ℕ → List ℕ → Ran
 leftBy t calls ram =
-    record { answer = Ended (t .end) (t .steps) (t .calls); state = state (t .core) calls; ram = ram }
+    record { answer = RunAnswer.Ended (t .end) (t .steps) (t .calls); state = state (t .core) calls; ram = ram }

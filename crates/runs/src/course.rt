@@ -17,7 +17,7 @@ ghost use Rattle.codepages.specs.Packing.{numbers};
 ghost use Rattle.types.specs.Addresses.{addressLimit, bankSize};
 ghost use Rattle.model.specs.Image.{imageLimit};
 ghost use Rattle.model.specs.Memory.{memory};
-ghost use Rattle.types.specs.declared.runs.End.the-variants.{Done};
+ghost use Rattle.types.specs.declared.runs.End.{End};
 ghost use Rattle.model.specs.Run.{stepLimit, isCompleted, isCall, endAfter, played};
 ghost use Rattle.prelude.specs.Choice.{bit};
 ghost use Rattle.model.specs.Step.{callLimit, placeOf};
@@ -46,7 +46,7 @@ fn is_completed(answer: Answer) -> bool
 
 // The end of a run whose last step ended so.
 fn end_at(answer: Answer) -> End
-    ensures { λ r. ⌜ r ≡ endAfter answer Done ⌝ }
+    ensures { λ r. ⌜ r ≡ endAfter answer End.Done ⌝ }
 {
     match answer {
         Answer::Completed => End::Done,

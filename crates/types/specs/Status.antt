@@ -5,7 +5,7 @@ use Prim.Native.Nat.{ℕ, _+_, _*_, _/_, _%_}
 use mathlib.Core.Bool.{Bool}
 use lib.Dec.{eqb}
 use Rattle.types.specs.declared.machine.Status.{Status}
-use Rattle.prelude.specs.Choice.{pick, bit}
+use Rattle.prelude.specs.Choice.{bit}
 
 -- manual 2.9: the place of each flag, as its bit's value
 abbrev pub maskC : ℕ

@@ -1,7 +1,7 @@
 -- The code decides, with the widths.
 -- Assumes nothing.
 use Rattle.decoder.proofs.Frames.{framed-past, framed-at}
-use Rattle.decoder.specs.declared.Framed.the-variants.{Uncarried, Short}
+use Rattle.decoder.specs.declared.Framed.{Framed}
 use mathlib.Core.Path.{refl}
 use borrow.Author.Needs.{needs}
 use Rattle.decoder.proofs.frame_at.Statement.{statement}
@@ -23,14 +23,14 @@ returns-3 : tie.Need-returns-3
 returns-3 c =
     let code = c .before .before in
     let args = code .before .before .before .args in
-    framed-at (args .image .now) (args .at) (code .look .result) (args .m) (args .x) Uncarried (code .look .ensures)
-    (rw (c .enum-told .given .1) refl)
+    framed-at (args .image .now) (args .at) (code .look .result) (args .m) (args .x) Framed.Uncarried
+    (code .look .ensures) (rw (c .enum-told .given .1) refl)
 
 returns-4 : tie.Need-returns-4
 returns-4 c =
     let code = c .before .before in
     let args = code .before .before .before .args in
-    framed-at (args .image .now) (args .at) (code .look .result) (args .m) (args .x) Short (code .look .ensures)
+    framed-at (args .image .now) (args .at) (code .look .result) (args .m) (args .x) Framed.Short (code .look .ensures)
     (rw (c .enum-told2 .given .1) refl)
 
 pub frame-at-spec : {M : Type 1} → statement M

@@ -3,13 +3,13 @@
 use mathlib.Core.Path.{refl}
 use borrow.Author.Needs.{needs}
 use Rattle.prelude.proofs.Match.{no-key}
-use Rattle.types.specs.declared.code.Flow.the-variants.{Next}
+use Rattle.types.specs.declared.code.Flow.{Flow}
 use Rattle.codepages.specs.Packing.{flows}
 use Rattle.entries.proofs.flow_at.Statement.{statement}
 use Rattle.entries.proofs.flow_at.Tie as tie
 
 other : tie.Need-returns-8
-other c = no-key flows Next (c .before .args .n) refl (c .match .rest)
+other c = no-key flows Flow.Next (c .before .args .n) refl (c .match .rest)
 
 pub flow-at-spec : {M : Type 1} → statement M
 flow-at-spec =

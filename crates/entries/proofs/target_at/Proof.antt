@@ -3,13 +3,13 @@
 use mathlib.Core.Path.{refl}
 use borrow.Author.Needs.{needs}
 use Rattle.prelude.proofs.Match.{no-key}
-use Rattle.types.specs.declared.code.Target.the-variants.{NoTarget}
+use Rattle.types.specs.declared.code.Target.{Target}
 use Rattle.codepages.specs.Packing.{targets}
 use Rattle.entries.proofs.target_at.Statement.{statement}
 use Rattle.entries.proofs.target_at.Tie as tie
 
 other : tie.Need-returns-5
-other c = no-key targets NoTarget (c .before .args .n) refl (c .match .rest)
+other c = no-key targets Target.NoTarget (c .before .args .n) refl (c .match .rest)
 
 pub target-at-spec : {M : Type 1} → statement M
 target-at-spec =

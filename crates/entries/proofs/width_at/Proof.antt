@@ -3,13 +3,13 @@
 use mathlib.Core.Path.{refl}
 use borrow.Author.Needs.{needs}
 use Rattle.prelude.proofs.Match.{no-key}
-use Rattle.types.specs.declared.code.DataWidth.the-variants.{NoData}
+use Rattle.types.specs.declared.code.DataWidth.{DataWidth}
 use Rattle.codepages.specs.Packing.{widths}
 use Rattle.entries.proofs.width_at.Statement.{statement}
 use Rattle.entries.proofs.width_at.Tie as tie
 
 other : tie.Need-returns-5
-other c = no-key widths NoData (c .before .args .n) refl (c .match .rest)
+other c = no-key widths DataWidth.NoData (c .before .args .n) refl (c .match .rest)
 
 pub width-at-spec : {M : Type 1} → statement M
 width-at-spec =

@@ -4,7 +4,7 @@ use mathlib.Core.Path.{refl}
 use Rattle.cpu.specs.File.{registersOf}
 use Rattle.cpu.specs.View.{viewed}
 use Rattle.memory.specs.Listed.{listed}
-use Rattle.types.specs.declared.machine.CallChange.the-variants.{Keep}
+use Rattle.types.specs.declared.machine.CallChange.{CallChange}
 use Rattle.types.specs.declared.machine.Registers.{Registers}
 use Rattle.model.specs.Memory.{Memory, memory}
 use Rattle.machine.proofs.Turning.{stops-at-stores, completes}
@@ -29,8 +29,8 @@ returns c =
     let a = start served .args in
     let why = rw (served .served-all .ensures) at (c .before .before .served .given .1) in (
       (λ calls.
-          stops-at-stores (a .i) (m served) (a .place) (a .depth) (a .registers .now) calls (after served) (a .to) Keep
-          (listed (a .effect .stores)) _ (c .stopped .result) (c .stopped .ensures) why),
+          stops-at-stores (a .i) (m served) (a .place) (a .depth) (a .registers .now) calls (after served) (a .to)
+          CallChange.Keep (listed (a .effect .stores)) _ (c .stopped .result) (c .stopped .ensures) why),
       start served .pre .0,
     )
 
@@ -42,7 +42,8 @@ returns-2 c =
     let a = start served .args in
     let all = rw (served .served-all .ensures) at (told .enum-told .given .1) in (
       (λ calls.
-          completes (a .i) (m served) (a .place) (a .depth) (a .registers .now) calls (after served) (a .to) Keep
+          completes (a .i) (m served) (a .place) (a .depth) (a .registers .now) calls (after served) (a .to)
+          CallChange.Keep
           (listed (a .effect .stores)) (c .put .last .0) calls (written .write .last .0) all (c .put .ensures .0) refl
           (written .write .ensures)),
       c .put .ensures .1,

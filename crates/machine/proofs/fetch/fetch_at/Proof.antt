@@ -4,7 +4,7 @@ use mathlib.Core.Path.{ap}
 use Prim.Native.Nat.{ℕ, _-_}
 use native.Mathlib.Omega.{arith}
 use Rattle.decoder.proofs.Frames.{fits-at, decoded-fits, decoded-uncarried, decoded-short}
-use Rattle.types.specs.declared.code.Decoded.the-variants.{Whole, NotCarried, CutOff}
+use Rattle.types.specs.declared.code.Decoded.{Decoded}
 use Rattle.model.proofs.Step.{fetched-under}
 use Rattle.machine.specs.declared.fetch.Fetched.{Fetched}
 use Rattle.machine.specs.Fetches.{instruction}
@@ -44,7 +44,7 @@ returns-2 c =
     let i = instruction (with-operand (read .result)) in
     let fits = fits-at (a .image .now) at (m .result) (x .result) (framed .result) (framed .ensures) f (frame .1) in (
       fetched-at (a .image .now) (a .base) (a .place) (a .status) (start .pre .1) (start .pre .2)
-          (omega (arith, from)) (m .result) (x .result) (m .ensures .0) (x .ensures .0) (Whole i)
+          (omega (arith, from)) (m .result) (x .result) (m .ensures .0) (x .ensures .0) (Decoded.Whole i)
           (decoded-fits (a .image .now) at (m .result) (x .result) (framed .result) (framed .ensures) f i (frame .1)
           (ap (λ n. instruction (with-operand n)) (read .ensures .0))),
       (fits .2, read .ensures .1),
@@ -59,7 +59,7 @@ returns-3 c =
     let x = c .before .before .before .bit-at2 in
     let framed = c .before .before .frame-at in (
       fetched-at (a .image .now) (a .base) (a .place) (a .status) (start .pre .1) (start .pre .2)
-          (omega (arith, from)) (m .result) (x .result) (m .ensures .0) (x .ensures .0) NotCarried
+          (omega (arith, from)) (m .result) (x .result) (m .ensures .0) (x .ensures .0) Decoded.NotCarried
           (decoded-uncarried (a .image .now) (a .place - a .base) (m .result) (x .result) (framed .result)
           (framed .ensures) (c .enum-told .given .1)),
       tt,
@@ -74,7 +74,7 @@ returns-4 c =
     let x = c .before .before .before .bit-at2 in
     let framed = c .before .before .frame-at in (
       fetched-at (a .image .now) (a .base) (a .place) (a .status) (start .pre .1) (start .pre .2)
-          (omega (arith, from)) (m .result) (x .result) (m .ensures .0) (x .ensures .0) CutOff
+          (omega (arith, from)) (m .result) (x .result) (m .ensures .0) (x .ensures .0) Decoded.CutOff
           (decoded-short (a .image .now) (a .place - a .base) (m .result) (x .result) (framed .result)
           (framed .ensures) (c .enum-told2 .given .1)),
       tt,

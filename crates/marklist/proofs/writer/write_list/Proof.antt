@@ -6,7 +6,7 @@ use native.Mathlib.Nat.{mod-lt}
 use native.Mathlib.Omega.{arith}
 use mathlib.Core.Path.{_≡_, sym, _∙_}
 use lib.ListN.{length}
-use Rattle.types.specs.declared.refusals.TestResult.the-variants.{Passed}
+use Rattle.types.specs.declared.refusals.TestResult.{TestResult}
 use Rattle.types.specs.Addresses.{bankSize}
 use Rattle.model.specs.Image.{imageLimit}
 use Rattle.types.specs.Refusals.{Tests, firstRefusal}
@@ -33,7 +33,7 @@ module _ (told : tie.After-enum-told) where
   abbrev tests : Tests
   tests = marksTests (length marks) marks (start .args .base) (start .args .reset)
 
-  passed : Passed ≡ firstRefusal tests
+  passed : TestResult.Passed ≡ firstRefusal tests
   passed = sym (told .enum-told .given .1) ∙ told .before .before .test-marks .ensures
 
   few : length marks ≤ imageLimit
