@@ -1,2 +1,2 @@
 pub mod Tasks
-pub mod Works
+pub mod ActionEffects

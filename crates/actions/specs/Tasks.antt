@@ -3,7 +3,7 @@
 use Prim.Native.Nat.{ℕ, _/_, _%_}
 use mathlib.Core.List.{List, [], _∷_}
 use lib.ListN.{getD}
-use Rattle.types.specs.declared.machine.Access.{Access}
+use Rattle.types.specs.declared.machine.OperandUse.{OperandUse}
 use Rattle.actions.specs.declared.tasks.Action.{Action}
 
 -- What is done; with which value, flag or mask or in which way, where the action has a choice; the register's place in
@@ -12,7 +12,7 @@ pub record Task : Type 0 where
   pub action : Action
   pub choice : ℕ
   pub destination : ℕ
-  pub access : Access
+  pub access : OperandUse
 
 -- each field's values in the order of their numbers
 abbrev pub actions : List Action
@@ -22,8 +22,8 @@ actions =
     Action.Modify ∷ Action.Rotate ∷ Action.Swap ∷ Action.ChangeBits ∷ Action.ChangeFlags ∷ Action.Branch ∷
     Action.BranchBits ∷ []
 
-abbrev pub accesses : List Access
-accesses = Access.Operand ∷ Access.Addend ∷ Access.Address ∷ Access.Pull ∷ Access.DirectWord ∷ []
+abbrev pub accesses : List OperandUse
+accesses = OperandUse.Operand ∷ OperandUse.Addend ∷ OperandUse.Address ∷ OperandUse.Pull ∷ OperandUse.DirectWord ∷ []
 
 -- the task that a number keeps
 unfoldable pub unpackedTask : ℕ → Task
@@ -31,5 +31,5 @@ unpackedTask n = record {
   action = getD actions (n % 32) Action.Leave;
   choice = n / 32 % 32;
   destination = n / 1024 % 8;
-  access = getD accesses (n / 8192) Access.Operand;
+  access = getD accesses (n / 8192) OperandUse.Operand;
 }

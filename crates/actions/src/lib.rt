@@ -46,10 +46,10 @@ ghost use Rattle.prelude.specs.Choice.{pick};
 ghost use Rattle.model.specs.Decode.{operandLimit};
 ghost use Rattle.types.specs.Addresses.{addressLimit};
 ghost use Rattle.cpu.specs.File.{fileSize};
-ghost use Rattle.cpu.specs.Rows as rows;
-ghost use Rattle.cpu.specs.View.{Makes};
+ghost use Rattle.cpu.specs.FileEffects as rows;
+ghost use Rattle.cpu.specs.CodeEffects.{Makes};
 ghost use Rattle.actions.specs.Tasks.{unpackedTask};
-ghost use Rattle.actions.specs.Works as spec;
+ghost use Rattle.actions.specs.ActionEffects as spec;
 
 // A register off the stack, with N and Z.
 fn pulls_data(to: usize, short: bool, v: u16, registers: &[u16; FILE_SIZE]) -> Effect

@@ -1,7 +1,7 @@
 // A task in one number: its action, the action's choice, the register that is put, and what is asked of memory, side by
 // side, so that the machine's step chooses among actions and not among operations. specs/Tasks.antt says where each
 // field stands and what it means.
-use types::machine::Access;
+use types::machine::OperandUse;
 ghost use mathlib.Core.Path.{_≡_};
 ghost use Prim.Native.Nat.{_<_};
 ghost use Rattle.actions.specs.Tasks.{unpackedTask};
@@ -126,14 +126,14 @@ pub(crate) fn destination_of(task: u32) -> usize
 }
 
 // What a task asks of memory.
-pub fn access_of(task: u32) -> Access
+pub fn operand_use_of(task: u32) -> OperandUse
     ensures { λ r. ⌜ r ≡ unpackedTask task .access ⌝ }
 {
     match task / ACCESS {
-        1 => Access::Addend,
-        2 => Access::Address,
-        3 => Access::Pull,
-        4 => Access::DirectWord,
-        _ => Access::Operand,
+        1 => OperandUse::Addend,
+        2 => OperandUse::Address,
+        3 => OperandUse::Pull,
+        4 => OperandUse::DirectWord,
+        _ => OperandUse::Operand,
     }
 }

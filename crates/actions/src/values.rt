@@ -17,7 +17,7 @@ ghost use Rattle.prelude.specs.Choice.{pick};
 ghost use Rattle.model.specs.Decode.{operandLimit};
 ghost use Rattle.types.specs.Addresses.{addressLimit};
 ghost use Rattle.types.specs.Status.{statusOf};
-ghost use Rattle.actions.specs.Works as spec;
+ghost use Rattle.actions.specs.ActionEffects as spec;
 
 // Choices from here on are registers.
 const REGISTERS: usize = 16;

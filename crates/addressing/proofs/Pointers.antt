@@ -17,16 +17,16 @@ use Rattle.memory.specs.Reads.{wordRead, longRead}
 use Rattle.memory.proofs.Views.{word-done, word-unmapped, long-done, long-unmapped}
 use Rattle.types.specs.declared.code.Accumulator.{Accumulator as Named}
 use Rattle.types.specs.declared.code.Mode.{Mode}
-use Rattle.types.specs.declared.machine.Access.{Access}
+use Rattle.types.specs.declared.machine.OperandUse.{OperandUse}
 use Rattle.types.specs.declared.machine.Registers.{Registers}
-use Rattle.types.specs.declared.machine.Residence.{Residence}
-use Rattle.model.specs.Memory.{Memory, Act, ret, _>>=_, Outcome, done, unmapped, come}
+use Rattle.types.specs.declared.machine.OperandPlace.{OperandPlace}
+use Rattle.model.specs.Memory.{Memory, Act, ret, _>>=_, Outcome, done, unmapped, evaluate}
 use Rattle.model.specs.Memory.{readWord, readLong, readData}
 use Rattle.anywidth.specs.AnyWidth.{size, low}
-use Rattle.model.specs.Addressing.{bits, dataAt, addressOf, residenceOf, operandBy, dataOf}
+use Rattle.model.specs.Addressing.{bits, dataAt, addressOf, operandPlaceOf, operandBy, dataOf}
 use Rattle.types.specs.declared.machine.Data.{Data}
-use Rattle.model.proofs.machine.Access.{the-type}
-use Rattle.model.proofs.Memory.{onDone, come-bind, after-done, after-unmapped}
+use Rattle.model.proofs.machine.OperandUse.{the-type}
+use Rattle.model.proofs.Memory.{onDone, evaluate-bind, after-done, after-unmapped}
 
 most : (short : Bool) → size (bits short) ≤ 65_536
 most true = omega arith
@@ -38,38 +38,38 @@ pub indexed : (short wanted : Bool) (v x r : ℕ) → short ≡ wanted → v ≡
 indexed short wanted v x r e e′ h = (rw (← e, ← e′) (h .0), omega (arith, most short))
 
 module _ (m : Memory) (at : ℕ) (f : ℕ → ℕ) where
-  module _ (w : WordRead) (e : w ≡ wordRead (come m (readWord at))) where
+  module _ (w : WordRead) (e : w ≡ wordRead (evaluate m (readWord at))) where
     pub word-found : (v : ℕ) → w ≡ WordRead.Word v
-        → AddressRead.At (f v) ≡ addressRead (come m (readWord at >>= (λ p. ret (f p))))
+        → AddressRead.At (f v) ≡ addressRead (evaluate m (readWord at >>= (λ p. ret (f p))))
     word-found v e′ =
         ap addressRead
-        (sym (after-done m (readWord at) (λ p. ret (f p)) v (word-done (come m (readWord at)) w v e e′)))
+        (sym (after-done m (readWord at) (λ p. ret (f p)) v (word-done (evaluate m (readWord at)) w v e e′)))
 
     pub word-missing : w ≡ WordRead.Unmapped
-        → AddressRead.Unmapped ≡ addressRead (come m (readWord at >>= (λ p. ret (f p))))
+        → AddressRead.Unmapped ≡ addressRead (evaluate m (readWord at >>= (λ p. ret (f p))))
     word-missing e′ =
         ap addressRead
-        (sym (after-unmapped m (readWord at) (λ p. ret (f p)) (word-unmapped (come m (readWord at)) w e e′)))
+        (sym (after-unmapped m (readWord at) (λ p. ret (f p)) (word-unmapped (evaluate m (readWord at)) w e e′)))
 
-  module _ (w : LongRead) (e : w ≡ longRead (come m (readLong at))) where
+  module _ (w : LongRead) (e : w ≡ longRead (evaluate m (readLong at))) where
     pub long-found : (v : ℕ) → w ≡ LongRead.Long v
-        → AddressRead.At (f v) ≡ addressRead (come m (readLong at >>= (λ p. ret (f p))))
+        → AddressRead.At (f v) ≡ addressRead (evaluate m (readLong at >>= (λ p. ret (f p))))
     long-found v e′ =
         ap addressRead
-        (sym (after-done m (readLong at) (λ p. ret (f p)) v (long-done (come m (readLong at)) w v e e′)))
+        (sym (after-done m (readLong at) (λ p. ret (f p)) v (long-done (evaluate m (readLong at)) w v e e′)))
 
     pub long-missing : w ≡ LongRead.Unmapped
-        → AddressRead.Unmapped ≡ addressRead (come m (readLong at >>= (λ p. ret (f p))))
+        → AddressRead.Unmapped ≡ addressRead (evaluate m (readLong at >>= (λ p. ret (f p))))
     long-missing e′ =
         ap addressRead
-        (sym (after-unmapped m (readLong at) (λ p. ret (f p)) (long-unmapped (come m (readLong at)) w e e′)))
+        (sym (after-unmapped m (readLong at) (λ p. ret (f p)) (long-unmapped (evaluate m (readLong at)) w e e′)))
 
-module _ (m : Memory) (at : ℕ) (w : LongRead) (e : w ≡ longRead (come m (readLong at))) where
-  pub long-itself : (v : ℕ) → w ≡ LongRead.Long v → AddressRead.At v ≡ addressRead (come m (readLong at))
-  long-itself v e′ = ap addressRead (sym (long-done (come m (readLong at)) w v e e′))
+module _ (m : Memory) (at : ℕ) (w : LongRead) (e : w ≡ longRead (evaluate m (readLong at))) where
+  pub long-itself : (v : ℕ) → w ≡ LongRead.Long v → AddressRead.At v ≡ addressRead (evaluate m (readLong at))
+  long-itself v e′ = ap addressRead (sym (long-done (evaluate m (readLong at)) w v e e′))
 
-  pub long-nowhere : w ≡ LongRead.Unmapped → AddressRead.Unmapped ≡ addressRead (come m (readLong at))
-  long-nowhere e′ = ap addressRead (sym (long-unmapped (come m (readLong at)) w e e′))
+  pub long-nowhere : w ≡ LongRead.Unmapped → AddressRead.Unmapped ≡ addressRead (evaluate m (readLong at))
+  long-nowhere e′ = ap addressRead (sym (long-unmapped (evaluate m (readLong at)) w e e′))
 
 address-done : (o : Outcome ℕ) (a : AddressRead) (v : ℕ) → a ≡ addressRead o → a ≡ AddressRead.At v → o ≡ done v
 address-done (done u) a v e e′ = cc
@@ -80,61 +80,61 @@ address-unmapped (done u) a e e′ = cc
 address-unmapped unmapped a e e′ = cc
 
 -- data at an address that an action comes to
-module _ (m : Memory) (act : Act ℕ) (short : Bool) (a : AddressRead) (e : a ≡ addressRead (come m act)) where
+module _ (m : Memory) (act : Act ℕ) (short : Bool) (a : AddressRead) (e : a ≡ addressRead (evaluate m act)) where
   abbrev itself : ℕ → Act Data
   itself at = ret (dataAt at 0)
 
   abbrev then : ℕ → Act Data
   then at = readData short at >>= (λ v. ret (dataAt at v))
 
-  alone-nowhere : a ≡ AddressRead.Unmapped → DataRead.Unmapped ≡ dataRead (come m (act >>= itself))
-  alone-nowhere e′ = ap dataRead (sym (after-unmapped m act itself (address-unmapped (come m act) a e e′)))
+  alone-nowhere : a ≡ AddressRead.Unmapped → DataRead.Unmapped ≡ dataRead (evaluate m (act >>= itself))
+  alone-nowhere e′ = ap dataRead (sym (after-unmapped m act itself (address-unmapped (evaluate m act) a e e′)))
 
-  alone-found : (at : ℕ) → a ≡ AddressRead.At at → DataRead.Found (dataAt at 0) ≡ dataRead (come m (act >>= itself))
-  alone-found at e′ = ap dataRead (sym (after-done m act itself at (address-done (come m act) a at e e′)))
+  alone-found : (at : ℕ) → a ≡ AddressRead.At at → DataRead.Found (dataAt at 0) ≡ dataRead (evaluate m (act >>= itself))
+  alone-found at e′ = ap dataRead (sym (after-done m act itself at (address-done (evaluate m act) a at e e′)))
 
-  there-nowhere : a ≡ AddressRead.Unmapped → DataRead.Unmapped ≡ dataRead (come m (act >>= then))
-  there-nowhere e′ = ap dataRead (sym (after-unmapped m act then (address-unmapped (come m act) a e e′)))
+  there-nowhere : a ≡ AddressRead.Unmapped → DataRead.Unmapped ≡ dataRead (evaluate m (act >>= then))
+  there-nowhere e′ = ap dataRead (sym (after-unmapped m act then (address-unmapped (evaluate m act) a e e′)))
 
-  module _ (at : ℕ) (e′ : a ≡ AddressRead.At at) (w : WordRead) (read : w ≡ wordRead (come m (readData short at))) where
-    reached : come m (act >>= then) ≡ come m (then at)
-    reached = after-done m act then at (address-done (come m act) a at e e′)
+  module _ (at : ℕ) (e′ : a ≡ AddressRead.At at) (w : WordRead) (read : w ≡ wordRead (evaluate m (readData short at))) where
+    reached : evaluate m (act >>= then) ≡ evaluate m (then at)
+    reached = after-done m act then at (address-done (evaluate m act) a at e e′)
 
-    there-found : (v : ℕ) → w ≡ WordRead.Word v → DataRead.Found (dataAt at v) ≡ dataRead (come m (act >>= then))
+    there-found : (v : ℕ) → w ≡ WordRead.Word v → DataRead.Found (dataAt at v) ≡ dataRead (evaluate m (act >>= then))
     there-found v e″ =
         ap dataRead (sym (reached ∙ after-done m (readData short at) (λ u. ret (dataAt at u)) v
-        (word-done (come m (readData short at)) w v read e″)))
+        (word-done (evaluate m (readData short at)) w v read e″)))
 
-    there-missing : w ≡ WordRead.Unmapped → DataRead.Unmapped ≡ dataRead (come m (act >>= then))
+    there-missing : w ≡ WordRead.Unmapped → DataRead.Unmapped ≡ dataRead (evaluate m (act >>= then))
     there-missing e″ =
         ap dataRead (sym (reached ∙ after-unmapped m (readData short at) (λ u. ret (dataAt at u))
-        (word-unmapped (come m (readData short at)) w read e″)))
+        (word-unmapped (evaluate m (readData short at)) w read e″)))
 
 -- the same at the address of a mode, which may be asked alone
 module _ (m : Memory) (mode : Mode) (r : Registers) (short : Bool) (operand : ℕ) where
   abbrev act : Act ℕ
   act = addressOf mode r operand
 
-  module _ (a : AddressRead) (e : a ≡ addressRead (come m act)) where
+  module _ (a : AddressRead) (e : a ≡ addressRead (evaluate m act)) where
     pub data-nowhere : (alone : Bool) → a ≡ AddressRead.Unmapped
-        → DataRead.Unmapped ≡ dataRead (come m (reachedBy alone mode r short operand))
+        → DataRead.Unmapped ≡ dataRead (evaluate m (reachedBy alone mode r short operand))
     data-nowhere true e′ = alone-nowhere m act short a e e′
     data-nowhere false e′ = there-nowhere m act short a e e′
 
     pub address-found : (alone : Bool) → alone ≡ true → (at : ℕ) → a ≡ AddressRead.At at
-        → DataRead.Found (dataAt at 0) ≡ dataRead (come m (reachedBy alone mode r short operand))
+        → DataRead.Found (dataAt at 0) ≡ dataRead (evaluate m (reachedBy alone mode r short operand))
     address-found true t at e′ = alone-found m act short a e at e′
     address-found false t at e′ = cc
 
     module _ (at : ℕ) (e′ : a ≡ AddressRead.At at) (w : WordRead)
-        (read : w ≡ wordRead (come m (readData short at))) where
+        (read : w ≡ wordRead (evaluate m (readData short at))) where
       pub data-found : (alone : Bool) → alone ≡ false → (v : ℕ) → w ≡ WordRead.Word v
-          → DataRead.Found (dataAt at v) ≡ dataRead (come m (reachedBy alone mode r short operand))
+          → DataRead.Found (dataAt at v) ≡ dataRead (evaluate m (reachedBy alone mode r short operand))
       data-found true t v e″ = cc
       data-found false t v e″ = there-found m act short a e at e′ w read v e″
 
       pub data-missing : (alone : Bool) → alone ≡ false → w ≡ WordRead.Unmapped
-          → DataRead.Unmapped ≡ dataRead (come m (reachedBy alone mode r short operand))
+          → DataRead.Unmapped ≡ dataRead (evaluate m (reachedBy alone mode r short operand))
       data-missing true t e″ = cc
       data-missing false t e″ = there-missing m act short a e at e′ w read e″
 
@@ -143,27 +143,27 @@ past-keys tag past h = ⊎-elim (λ e. omega arith) (λ h′. ⊎-elim (λ e. om
 
 -- what is asked of the mode's data, where the code looks for it
 module _ (mode : Mode) (register : Named) (r : Registers) (short : Bool) (operand : ℕ) where
-  operand-found : (place : Residence)
+  operand-found : (place : OperandPlace)
       → operandBy place mode register r short operand ≡ foundAt place false mode register r short operand
   unfolding operandBy
-  operand-found Residence.Memory = refl
-  operand-found Residence.Instruction = refl
-  operand-found Residence.Register = refl
+  operand-found OperandPlace.Memory = refl
+  operand-found OperandPlace.Instruction = refl
+  operand-found OperandPlace.Register = refl
 
-  pub asked : (access : Access) → OneOf (0 ∷ 1 ∷ 2 ∷ []) (tagOf the-type access)
+  pub asked : (access : OperandUse) → OneOf (0 ∷ 1 ∷ 2 ∷ []) (tagOf the-type access)
       → dataOf access mode register r short operand
       ≡ foundAt (residenceBy (isAddress access) mode) (isAddress access) mode register r short operand
   unfolding dataOf
-  asked Access.Operand h = operand-found (residenceOf mode)
-  asked Access.Addend h = operand-found (residenceOf mode)
-  asked Access.Address h = refl
-  asked Access.Pull h = absurd (past-keys 3 (omega arith) h)
-  asked Access.DirectWord h = absurd (past-keys 4 (omega arith) h)
+  asked OperandUse.Operand h = operand-found (operandPlaceOf mode)
+  asked OperandUse.Addend h = operand-found (operandPlaceOf mode)
+  asked OperandUse.Address h = refl
+  asked OperandUse.Pull h = absurd (past-keys 3 (omega arith) h)
+  asked OperandUse.DirectWord h = absurd (past-keys 4 (omega arith) h)
 
 -- data alone, as its action comes to it
 pub value-only : (m : Memory) (act : Act ℕ)
-    → aloneOf (wordRead (come m act)) ≡ dataRead (come m (act >>= (λ v. ret (dataAt 0 v))))
-value-only m act = by (come m act) ∙ ap dataRead (sym (come-bind m act (λ v. ret (dataAt 0 v))))
+    → aloneOf (wordRead (evaluate m act)) ≡ dataRead (evaluate m (act >>= (λ v. ret (dataAt 0 v))))
+value-only m act = by (evaluate m act) ∙ ap dataRead (sym (evaluate-bind m act (λ v. ret (dataAt 0 v))))
   where
     by : (o : Outcome ℕ) → aloneOf (wordRead o) ≡ dataRead (onDone o (λ v. done (dataAt 0 v)))
     by (done v) = refl

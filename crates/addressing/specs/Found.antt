@@ -7,12 +7,12 @@ use Rattle.addressing.specs.declared.reach.DataRead.{DataRead}
 use Rattle.memory.specs.declared.reads.WordRead.{WordRead}
 use Rattle.types.specs.declared.code.Mode.{Mode}
 use Rattle.types.specs.declared.code.Accumulator.{Accumulator as Named}
-use Rattle.types.specs.declared.machine.Access.{Access}
+use Rattle.types.specs.declared.machine.OperandUse.{OperandUse}
 use Rattle.types.specs.declared.machine.Data.{Data}
 use Rattle.types.specs.declared.machine.Registers.{Registers}
-use Rattle.types.specs.declared.machine.Residence.{Residence}
+use Rattle.types.specs.declared.machine.OperandPlace.{OperandPlace}
 use Rattle.anywidth.specs.AnyWidth.{low}
-use Rattle.model.specs.Addressing.{bits, dataAt, accumulatorOf, addressOf, residenceOf, inMemory}
+use Rattle.model.specs.Addressing.{bits, dataAt, accumulatorOf, addressOf, operandPlaceOf, inMemory}
 use Rattle.prelude.specs.Choice.{pick}
 use Rattle.model.specs.Memory.{Act, ret, _>>=_, Outcome, done, unmapped}
 
@@ -30,16 +30,16 @@ aloneOf (WordRead.Word v) = DataRead.Found (dataAt 0 v)
 aloneOf WordRead.Unmapped = DataRead.Unmapped
 
 -- whether the address alone is asked
-abbrev pub isAddress : Access → Bool
-isAddress Access.Operand = false
-isAddress Access.Addend = false
-isAddress Access.Address = true
-isAddress Access.Pull = false
-isAddress Access.DirectWord = false
+abbrev pub isAddress : OperandUse → Bool
+isAddress OperandUse.Operand = false
+isAddress OperandUse.Addend = false
+isAddress OperandUse.Address = true
+isAddress OperandUse.Pull = false
+isAddress OperandUse.DirectWord = false
 
 -- where the data of a mode lies, in memory where its address alone is asked
-abbrev pub residenceBy : Bool → Mode → Residence
-residenceBy alone mode = pick alone Residence.Memory (residenceOf mode)
+abbrev pub residenceBy : Bool → Mode → OperandPlace
+residenceBy alone mode = pick alone OperandPlace.Memory (operandPlaceOf mode)
 
 -- what a mode names in memory: the address alone, or the data there
 abbrev pub reachedBy : Bool → Mode → Registers → Bool → ℕ → Act Data
@@ -49,8 +49,8 @@ reachedBy true mode r short operand = do
 reachedBy false mode r short operand = inMemory mode r short operand
 
 -- what a mode names, by where it lies
-abbrev pub foundAt : Residence → Bool → Mode → Named → Registers → Bool → ℕ → Act Data
-foundAt Residence.Memory alone mode register r short operand = reachedBy alone mode r short operand
-foundAt Residence.Instruction alone mode register r short operand = ret (dataAt 0 (low (bits short) operand))
-foundAt Residence.Register alone mode register r short operand =
+abbrev pub foundAt : OperandPlace → Bool → Mode → Named → Registers → Bool → ℕ → Act Data
+foundAt OperandPlace.Memory alone mode register r short operand = reachedBy alone mode r short operand
+foundAt OperandPlace.Instruction alone mode register r short operand = ret (dataAt 0 (low (bits short) operand))
+foundAt OperandPlace.Register alone mode register r short operand =
     ret (dataAt 0 (low (bits short) (accumulatorOf register r)))

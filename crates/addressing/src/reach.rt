@@ -1,6 +1,6 @@
 // The address of an instruction's data by its mode, and the data there.
+use cpu::effects::operand_place_of;
 use cpu::effects::pulled_at;
-use cpu::effects::residence_of;
 use cpu::file::DPR;
 use cpu::file::DT;
 use cpu::file::FILE_SIZE;
@@ -22,16 +22,16 @@ use types::addresses::low_long;
 use types::addresses::low_word;
 use types::code::Accumulator;
 use types::code::Mode;
-use types::machine::Access;
 use types::machine::Data;
-use types::machine::Residence;
+use types::machine::OperandPlace;
+use types::machine::OperandUse;
 use types::machine::Status;
 ghost use mathlib.Core.Path.{_≡_};
 ghost use Prim.Native.Nat.{_≤_, _<_};
 ghost use Rattle.cpu.specs.File.{registersOf};
 ghost use Rattle.model.specs.Addressing as spec;
 ghost use Rattle.types.specs.Addresses.{addressLimit};
-ghost use Rattle.model.specs.Memory.{memory, come, readLong};
+ghost use Rattle.model.specs.Memory.{memory, evaluate, readLong};
 ghost use Rattle.addressing.specs.Found.{addressRead, dataRead, aloneOf};
 ghost use Rattle.addressing.specs.Found.{isAddress, residenceBy, reachedBy, foundAt};
 
@@ -93,7 +93,7 @@ fn by_word(
     at: u32,
 ) -> AddressRead
     ensures { λ r. ⌜
-        r ≡ addressRead (come (memory (now (ram .entry)) (now (image .entry)) base)
+        r ≡ addressRead (evaluate (memory (now (ram .entry)) (now (image .entry)) base)
         (spec.byWord (registersOf (now (registers .entry))) at))
         ⌝ }
 {
@@ -115,7 +115,7 @@ fn by_word_y(
     at: u32,
 ) -> AddressRead
     ensures { λ r. ⌜
-        r ≡ addressRead (come (memory (now (ram .entry)) (now (image .entry)) base)
+        r ≡ addressRead (evaluate (memory (now (ram .entry)) (now (image .entry)) base)
         (spec.byWordY (registersOf (now (registers .entry))) at))
         ⌝ }
 {
@@ -130,7 +130,7 @@ fn by_word_y(
 
 // The address that three bytes at a place hold.
 fn by_long(ram: &[u8], image: &[u8], base: u32, at: u32) -> AddressRead
-    ensures { λ r. ⌜ r ≡ addressRead (come (memory (now (ram .entry)) (now (image .entry)) base) (readLong at)) ⌝ }
+    ensures { λ r. ⌜ r ≡ addressRead (evaluate (memory (now (ram .entry)) (now (image .entry)) base) (readLong at)) ⌝ }
 {
     let read = long_from(ram, image, base, at as u64, at as u64 + 1, at as u64 + 2);
     match read {
@@ -148,7 +148,7 @@ fn by_long_y(
     at: u32,
 ) -> AddressRead
     ensures { λ r. ⌜
-        r ≡ addressRead (come (memory (now (ram .entry)) (now (image .entry)) base)
+        r ≡ addressRead (evaluate (memory (now (ram .entry)) (now (image .entry)) base)
         (spec.byLongY (registersOf (now (registers .entry))) at))
         ⌝ }
 {
@@ -169,7 +169,7 @@ fn address_of(
     operand: u64,
 ) -> AddressRead
     ensures { λ r. ⌜
-        r ≡ addressRead (come (memory (now (ram .entry)) (now (image .entry)) base)
+        r ≡ addressRead (evaluate (memory (now (ram .entry)) (now (image .entry)) base)
         (spec.addressOf mode (registersOf (now (registers .entry))) operand))
         ⌝ }
 {
@@ -245,7 +245,7 @@ fn in_memory(
     operand: u64,
 ) -> DataRead
     ensures { λ r. ⌜
-        r ≡ dataRead (come (memory (now (ram .entry)) (now (image .entry)) base)
+        r ≡ dataRead (evaluate (memory (now (ram .entry)) (now (image .entry)) base)
         (reachedBy alone mode (registersOf (now (registers .entry))) short operand))
         ⌝ }
 {
@@ -264,13 +264,13 @@ fn in_memory(
 }
 
 // Where the data of a mode lies, in memory where its address alone is asked.
-fn residence_by(alone: bool, mode: Mode) -> Residence
+fn residence_by(alone: bool, mode: Mode) -> OperandPlace
     ensures { λ r. ⌜ r ≡ residenceBy alone mode ⌝ }
 {
     if alone {
-        return Residence::Memory;
+        return OperandPlace::Memory;
     }
-    residence_of(mode)
+    operand_place_of(mode)
 }
 
 // What a mode names: the address alone, or the data.
@@ -286,18 +286,18 @@ fn operand_by(
     operand: u64,
 ) -> DataRead
     ensures { λ r. ⌜
-        r ≡ dataRead (come (memory (now (ram .entry)) (now (image .entry)) base)
+        r ≡ dataRead (evaluate (memory (now (ram .entry)) (now (image .entry)) base)
         (foundAt (residenceBy alone mode) alone mode named (registersOf (now (registers .entry))) short operand))
         ⌝ }
 {
     let residence = residence_by(alone, mode);
     match residence {
-        Residence::Memory => in_memory(ram, image, base, alone, mode, registers, short, operand),
-        Residence::Instruction => DataRead::Found(Data {
+        OperandPlace::Memory => in_memory(ram, image, base, alone, mode, registers, short, operand),
+        OperandPlace::Instruction => DataRead::Found(Data {
             address: 0,
             value: low(short, operand),
         }),
-        Residence::Register => DataRead::Found(Data {
+        OperandPlace::Register => DataRead::Found(Data {
             address: 0,
             value: low(short, accumulator_in(named, registers) as u64),
         }),
@@ -315,15 +315,15 @@ fn value_alone(read: WordRead) -> DataRead
 }
 
 // Whether the address alone is asked.
-fn is_address(access: Access) -> bool
+fn is_address(access: OperandUse) -> bool
     ensures { λ r. ⌜ r ≡ isAddress access ⌝ }
 {
     match access {
-        Access::Operand => false,
-        Access::Addend => false,
-        Access::Address => true,
-        Access::Pull => false,
-        Access::DirectWord => false,
+        OperandUse::Operand => false,
+        OperandUse::Addend => false,
+        OperandUse::Address => true,
+        OperandUse::Pull => false,
+        OperandUse::DirectWord => false,
     }
 }
 
@@ -332,7 +332,7 @@ pub fn data_of(
     ram: &[u8],
     image: &[u8],
     base: u32,
-    access: Access,
+    access: OperandUse,
     mode: Mode,
     named: Accumulator,
     registers: &[u16; FILE_SIZE],
@@ -340,12 +340,12 @@ pub fn data_of(
     operand: u64,
 ) -> DataRead
     ensures { λ r. ⌜
-        r ≡ dataRead (come (memory (now (ram .entry)) (now (image .entry)) base)
+        r ≡ dataRead (evaluate (memory (now (ram .entry)) (now (image .entry)) base)
         (spec.dataOf access mode named (registersOf (now (registers .entry))) short operand))
         ⌝ }
 {
     match access {
-        Access::Operand | Access::Addend | Access::Address => operand_by(
+        OperandUse::Operand | OperandUse::Addend | OperandUse::Address => operand_by(
             ram,
             image,
             base,
@@ -356,7 +356,7 @@ pub fn data_of(
             short,
             operand,
         ),
-        Access::Pull => value_alone(data_from(
+        OperandUse::Pull => value_alone(data_from(
             ram,
             image,
             base,
@@ -364,7 +364,7 @@ pub fn data_of(
             pulled_at(registers[S], 1) as u64,
             pulled_at(registers[S], 2) as u64,
         )),
-        Access::DirectWord => {
+        OperandUse::DirectWord => {
             let page = direct(registers, operand) as u64;
             value_alone(word_from(ram, image, base, page, page + 1))
         }

@@ -18,7 +18,7 @@ use Rattle.model.specs.MarkList.{readList, marksRead, marksBy}
 use Rattle.prelude.proofs.Choice.{one-or-none}
 use Rattle.model.proofs.Image.{right-length}
 use Rattle.model.proofs.Verdict.{accepted-rules}
-use Rattle.answer.specs.declared.answers.Answer.{Answer}
+use Rattle.answer.specs.declared.answers.FileAnswer.{FileAnswer}
 use Rattle.answer.specs.AnswerLine.{listLimit, verdictAnswer, answerOf, listAnswer, answerFor}
 
 starts-most : (marks : List ℕ) → startCount marks ≤ length marks
@@ -34,7 +34,7 @@ accepted-few image marks base reset e =
 
 module _ (image text marks : List ℕ) (alike : length marks ≡ length image) where
   pub list-refused : (why : Refusal) → readList text marks ≡ ListRead.NotRead why
-      → Answer.Refused why 0 ≡ listAnswer image text
+      → FileAnswer.Refused why 0 ≡ listAnswer image text
   unfolding listAnswer answerOf readList
   list-refused why e = rw (← alike, e)
 
@@ -44,16 +44,16 @@ module _ (image text marks : List ℕ) (alike : length marks ≡ length image) w
   list-taken h e = rw (← alike, e)
 
 module _ (image text : List ℕ) where
-  pub long-list : listLimit < length text → Answer.Unread ≡ answerFor image text
+  pub long-list : listLimit < length text → FileAnswer.Unread ≡ answerFor image text
   unfolding answerFor
   long-list h = rw (lt-leb (length text) listLimit h)
 
   module _ (short : length text ≤ listLimit) where
-    pub long-image : imageLimit < length image → Answer.Unread ≡ answerFor image text
+    pub long-image : imageLimit < length image → FileAnswer.Unread ≡ answerFor image text
     unfolding answerFor
     long-image h = rw (le-leb (length text) listLimit short, lt-leb (length image) imageLimit h)
 
-    pub both-short : (answer : Answer) → answer ≡ listAnswer image text → length image ≤ imageLimit
+    pub both-short : (answer : FileAnswer) → answer ≡ listAnswer image text → length image ≤ imageLimit
         → answer ≡ answerFor image text
     unfolding answerFor
     both-short answer e h = rw (le-leb (length text) listLimit short, le-leb (length image) imageLimit h) e

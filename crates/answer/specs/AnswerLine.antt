@@ -14,33 +14,33 @@ use Rattle.types.specs.Refusals.{refusalNumber}
 use Rattle.model.specs.Image.{imageLimit, startCount}
 use Rattle.model.specs.Verdict.{verdict}
 use Rattle.model.specs.MarkList.{tab, lineEnd, decimalDigits, headerShown, marksOf, readAs}
-use Rattle.answer.specs.declared.answers.Answer.{Answer}
+use Rattle.answer.specs.declared.answers.FileAnswer.{FileAnswer}
 
 -- 'A list file over 61,440 bytes'
 abbrev pub listLimit : ℕ
 listLimit = 61_440
 
 -- 'A and the number of starts', or 'R, number, offset'
-unfoldable pub answerBy : Verdict → List ℕ → Answer
-answerBy Verdict.Accepted marks = Answer.Accepted (startCount marks)
-answerBy (Verdict.Refused why offset) marks = Answer.Refused why offset
+unfoldable pub answerBy : Verdict → List ℕ → FileAnswer
+answerBy Verdict.Accepted marks = FileAnswer.Accepted (startCount marks)
+answerBy (Verdict.Refused why offset) marks = FileAnswer.Refused why offset
 
-unfoldable pub verdictAnswer : List ℕ → List ℕ → ℕ → ℕ → Answer
+unfoldable pub verdictAnswer : List ℕ → List ℕ → ℕ → ℕ → FileAnswer
 verdictAnswer image marks base reset = answerBy (verdict image marks base reset) marks
 
 -- a list that is refused has no offset ('0 where none is given'); else its marks, base and reset are the check's
-unfoldable pub answerOf : ListRead → List ℕ → List ℕ → Answer
-answerOf (ListRead.NotRead why) image text = Answer.Refused why 0
+unfoldable pub answerOf : ListRead → List ℕ → List ℕ → FileAnswer
+answerOf (ListRead.NotRead why) image text = FileAnswer.Refused why 0
 answerOf (ListRead.Read h) image text = verdictAnswer image (marksOf h text) (h .base) (h .reset)
 
 -- the list is read for as many marks as the image has bytes
-unfoldable pub listAnswer : List ℕ → List ℕ → Answer
+unfoldable pub listAnswer : List ℕ → List ℕ → FileAnswer
 listAnswer image text = answerOf (readAs (headerShown text) text (length image)) image text
 
 -- 'A list file over 61,440 bytes, an image file over the limit', before all else
-unfoldable pub answerFor : List ℕ → List ℕ → Answer
+unfoldable pub answerFor : List ℕ → List ℕ → FileAnswer
 answerFor image text =
-    pick (leb (length text) listLimit && leb (length image) imageLimit) (listAnswer image text) Answer.Unread
+    pick (leb (length text) listLimit && leb (length image) imageLimit) (listAnswer image text) FileAnswer.Unread
 
 -- a number in decimal without a leading zero, and the byte that closes its field; no number here has over five digits
 unfoldable pub numberField : ℕ → ℕ → List ℕ
@@ -58,10 +58,10 @@ abbrev pub unreadLine : List ℕ
 unreadLine = 0x4C ∷ lineEnd ∷ []
 
 -- the line of an answer
-unfoldable pub lineFor : Answer → List ℕ
-lineFor Answer.Unread = unreadLine
-lineFor (Answer.Accepted count) = letterField 0x41 count lineEnd
-lineFor (Answer.Refused why offset) = refusedLine (refusalNumber why) offset
+unfoldable pub lineFor : FileAnswer → List ℕ
+lineFor FileAnswer.Unread = unreadLine
+lineFor (FileAnswer.Accepted count) = letterField 0x41 count lineEnd
+lineFor (FileAnswer.Refused why offset) = refusedLine (refusalNumber why) offset
 
 -- the line for the bytes of an image file and of a list file
 unfoldable pub answerLine : List ℕ → List ℕ → List ℕ

@@ -1,5 +1,5 @@
 // The line that shows an answer.
-use crate::answers::Answer;
+use crate::answers::FileAnswer;
 use marklist::lines::LINE_END;
 use marklist::lines::TAB;
 use text::digits::digit_count;
@@ -53,13 +53,13 @@ fn put_unread(page: &mut [u8]) -> usize
 }
 
 // Writes the line of an answer at the front of a page, and returns its length.
-pub fn put_answer(page: &mut [u8], answer: Answer) -> usize
+pub fn put_answer(page: &mut [u8], answer: FileAnswer) -> usize
     requires { ⌜ spec.lineLimit ≤ length (now page) ⌝ }
     ensures { λ r. ⌜ spec.Put (spec.lineFor answer) spec.lineLimit r (now (page .entry)) (now (page .exit)) ⌝ }
 {
     match answer {
-        Answer::Unread => put_unread(page),
-        Answer::Accepted(count) => put_letter(page, b'A', count, LINE_END),
-        Answer::Refused { why, offset } => put_refused(page, refusal_number(why), offset),
+        FileAnswer::Unread => put_unread(page),
+        FileAnswer::Accepted(count) => put_letter(page, b'A', count, LINE_END),
+        FileAnswer::Refused { why, offset } => put_refused(page, refusal_number(why), offset),
     }
 }

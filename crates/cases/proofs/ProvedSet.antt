@@ -13,7 +13,7 @@ use lib.Dec.{eqb, ltb}
 use lib.ListN.{length, getD, set}
 use lib.Seq.{getD-set-same}
 use Rattle.types.specs.declared.machine.State.{State}
-use Rattle.types.specs.declared.machine.Answer.{Answer}
+use Rattle.types.specs.declared.machine.StepAnswer.{StepAnswer}
 use Rattle.types.specs.declared.machine.Stop.{Stop}
 use Rattle.types.specs.declared.refusals.TestResult.{TestResult}
 use Rattle.model.specs.CodePages.{plain, pages}
@@ -24,7 +24,7 @@ use Rattle.model.specs.Rules.{targetOf, mAfter, xAfter, markOfRoutine, markOnRe
 use Rattle.model.specs.Rules.{returnsBy, returnFits}
 use Rattle.types.specs.Refusals.{firstRefusal}
 use Rattle.prelude.specs.First.{firstFrom}
-use Rattle.model.specs.Verdict.{isClear, wantsStart, allStarts, wantsMark, allMarks}
+use Rattle.model.specs.Verdict.{isClear, isStartAt, allStarts, hasMarkAt, allMarks}
 use Rattle.model.specs.Verdict.{decodedResult, startResult, badMark, badStart, startsVerdict, verdict}
 use Rattle.text.specs.Digits.{digit, digits, digitValue, value, digitCount}
 use Rattle.text.specs.Text.{startsWith}
@@ -35,15 +35,15 @@ use Rattle.prelude.specs.Choice.{bit}
 use Rattle.model.specs.Memory.{Memory, memory, byteAt, servedAt}
 use Rattle.model.specs.Addressing.{operandBy, dataOf}
 use Rattle.model.specs.Effects.{effectOf}
-use Rattle.model.specs.Step.{callLimit, entryOf, bytesFrom, operates, calls, returnsTo, planBy, stepped, step}
+use Rattle.model.specs.Step.{callLimit, callRecord, bytesFrom, operates, calls, returnsTo, planBy, stepped, step}
 use Rattle.model.specs.Run.{stepLimit, levelLimit, history, ramFits, callsFit, stateFits, admission}
-use Rattle.model.specs.Run.{played, ran}
+use Rattle.model.specs.Run.{executed, ran}
 use Rattle.model.specs.StateBytes.{coreOf}
 use Rattle.model.specs.Guarantee.{Every}
 use Rattle.prelude.proofs.Choice.{both-true}
 use Rattle.model.proofs.RoundTrips.{read-then-written}
 use Rattle.model.proofs.Run.{admitted-ran}
-use Rattle.cases.specs.Rows.{listOf, Silent, Named, Claim, listed, does, stops, returns, Row, Listed, RanTo}
+use Rattle.cases.specs.Rows.{listOf, Unspecified, Named, Claim, listed, does, stops, returns, Row, Listed, RanTo}
 use Rattle.cases.specs.Rows.{Claimed, Holds}
 use Rattle.cases.specs.ProvedSet.{widthMarks, widthList, ram, fromReset, begun}
 use Rattle.cases.specs.ProvedSet.{case1, case2, case3, case4, case5, case6, case7, case8, case9, case10}
@@ -54,7 +54,7 @@ use Rattle.cases.proofs.Returning.{goes-by, stops-by, returning}
 computed : Unit {0}
 unfolding plain pages entryAt judged decodeOn decode isFormed lengthFits baseFits markAt resetFits
     targetOf mAfter xAfter markOfRoutine markOnReturn markAfter owedBy owedAt returnsBy returnFits firstFrom isClear
-    wantsStart allStarts wantsMark allMarks decodedResult startResult badMark badStart firstRefusal
+    isStartAt allStarts hasMarkAt allMarks decodedResult startResult badMark badStart firstRefusal
     startsVerdict verdict digit digits digitValue value digitCount startsWith headerText kindLetter fields
     lengthDigitsShown headerShown isHeader bitShown kindShown fieldsMark isLine markShown lineSize marksShown linesLeft
     linesText marksOf leftOf isList readAs readList marksBy marksRead byteAt servedAt operandBy dataOf effectOf
@@ -84,13 +84,13 @@ module _ (r : Row) where
   abbrev Computes : Claim → Type 0
   Computes (listed text) = Listed r text
   Computes (does s ram asked calls after) =
-      Taken s ram × (asked ≤ stepLimit) × RanTo s ram (played (on ram) s asked) 0 asked calls after
+      Taken s ram × (asked ≤ stepLimit) × RanTo s ram (executed (on ram) s asked) 0 asked calls after
   Computes (stops s ram stop steps calls after) =
-      Taken s ram × ((k : ℕ) → RanTo s ram (played (on ram) s (more steps (suc k))) stop steps calls after)
-  Computes (returns s ram) = Taken s ram × (step (on ram) s ≡ stepped Answer.Completed s ram)
+      Taken s ram × ((k : ℕ) → RanTo s ram (executed (on ram) s (more steps (suc k))) stop steps calls after)
+  Computes (returns s ram) = Taken s ram × (step (on ram) s ≡ stepped StepAnswer.Completed s ram)
 
   ran-so : (s : State) (ram : List ℕ) (n end steps calls : ℕ) (after : List Named) → Taken s ram → n ≤ stepLimit
-      → RanTo s ram (played (on ram) s n) end steps calls after → RanTo s ram (ran (on ram) s n) end steps calls after
+      → RanTo s ram (executed (on ram) s n) end steps calls after → RanTo s ram (ran (on ram) s n) end steps calls after
   ran-so s ram n end steps calls after taken few so = rw (admitted-ran (on ram) s n (taken n few) .1) so
 
   claimed : (c : Claim) → Computes c → Claimed r c
@@ -118,7 +118,7 @@ same-flag : (flag : Bool) → eqb (bit flag) 1 ≡ flag
 same-flag true = refl
 same-flag false = refl
 
-module _ (v : Silent) where
+module _ (v : Unspecified) where
   -- a state that fits is taken
   taken : (r : Row) (size : ℕ) (s : State) → lengthFits (length (r .image)) (length (r .image)) ≡ true
       → baseFits (r .base) (length (r .image)) ≡ true → ramFits size (r .base) ≡ true → stateFits s ≡ true
@@ -198,7 +198,7 @@ module _ (v : Silent) where
 
   -- case 6: the entries, the state and the RAM from its call on, then its steps
   abbrev opened : List ℕ
-  opened = set (listOf callLimit (v .entries)) (v .fewer) (entryOf 0xC003 1)
+  opened = set (listOf callLimit (v .entries)) (v .fewer) (callRecord 0xC003 1)
 
   abbrev since : ℕ → ℕ → ℕ → State
   since pc s depth = record { core = begun v pc s depth .core; calls = opened }
@@ -207,25 +207,25 @@ module _ (v : Silent) where
   pushed = set (set (ram v 512) 0x01FF 0xC0) 0x01FE 0x03
 
   -- what RTS finds opened last
-  last-opened : getD opened (v .fewer + 1 - 1) 0 ≡ entryOf 0xC003 1
+  last-opened : getD opened (v .fewer + 1 - 1) 0 ≡ callRecord 0xC003 1
   last-opened =
       let back : v .fewer + 1 - 1 ≡ v .fewer = omega arith in
       rw back
-      (getD-set-same (listOf callLimit (v .entries)) (v .fewer) (entryOf 0xC003 1) 0
+      (getD-set-same (listOf callLimit (v .entries)) (v .fewer) (callRecord 0xC003 1) 0
       (rw (length-list-of callLimit (v .entries)) (v .fewer-below)))
 
   jsr : step (on (case6 v) (ram v 512)) (begun v 0xC000 0x01FF (v .fewer))
-      ≡ stepped Answer.Called (since 0xC004 0x01FD (v .fewer + 1)) pushed
+      ≡ stepped StepAnswer.Called (since 0xC004 0x01FD (v .fewer + 1)) pushed
   unfolding computed
   jsr = rw (room, same-m, same-x)
 
   rts : step (on (case6 v) pushed) (since 0xC004 0x01FD (v .fewer + 1))
-      ≡ stepped Answer.Completed (since 0xC003 0x01FF (v .fewer + 1 - 1)) pushed
+      ≡ stepped StepAnswer.Completed (since 0xC003 0x01FF (v .fewer + 1 - 1)) pushed
   unfolding computed
   rts = rw (lt-ltb 0 (v .fewer + 1) (omega arith), last-opened, same-m, same-x)
 
   stp : step (on (case6 v) pushed) (since 0xC003 0x01FF (v .fewer + 1 - 1))
-      ≡ stepped (Answer.Stopped Stop.Halt) (since 0xC003 0x01FF (v .fewer + 1 - 1)) pushed
+      ≡ stepped (StepAnswer.Stopped Stop.Halt) (since 0xC003 0x01FF (v .fewer + 1 - 1)) pushed
   unfolding computed
   stp = refl
 
@@ -288,7 +288,7 @@ module _ (v : Silent) where
       (holds1, (holds2, (holds3, (holds4, (holds5, (holds6, (holds7, (holds8, (holds9, (holds10, tt))))))))))
 
 -- there are such a state and such a RAM: the theorem is not empty
-pub some-silent : Silent
+pub some-silent : Unspecified
 unfolding computed coreOf
 some-silent = record {
   core = coreOf [];

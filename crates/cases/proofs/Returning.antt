@@ -9,7 +9,7 @@ use Prim.Native.Nat.{ℕ, zero, suc, _≤_}
 use native.Mathlib.Omega.{arith}
 use lib.ListN.{replicate}
 use Rattle.types.specs.declared.machine.State.{State}
-use Rattle.types.specs.declared.machine.Answer.{Answer}
+use Rattle.types.specs.declared.machine.StepAnswer.{StepAnswer}
 use Rattle.types.specs.declared.refusals.TestResult.{TestResult}
 use Rattle.types.specs.declared.runs.End.{End}
 use Rattle.types.specs.declared.runs.RunAnswer.{RunAnswer}
@@ -43,7 +43,7 @@ module _ (m : Memory) (s : State) (n : ℕ) (r : Stepped) (is : step m s ≡ r) 
 module _ (m : Memory) (s : State) where
   -- the event of such a step
   abbrev still : Event
-  still = known m s (stepped Answer.Completed s (m .ram))
+  still = known m s (stepped StepAnswer.Completed s (m .ram))
 
   begins : (n : ℕ) → Every (λ e. (e .state ≡ s) × (e .ram ≡ m .ram)) (replicate n still)
   begins zero = tt
@@ -69,11 +69,11 @@ module _ (m : Memory) (s : State) where
   ram-back zero = refl
   ram-back (suc n) = ram-back n
 
-  module _ (same : step m s ≡ stepped Answer.Completed s (m .ram)) where
+  module _ (same : step m s ≡ stepped StepAnswer.Completed s (m .ram)) where
     repeated : (n : ℕ) → history m s n ≡ replicate n still
     unfolding history
     repeated zero = refl
-    repeated (suc n) = goes-by m s n (stepped Answer.Completed s (m .ram)) same refl (replicate n still) (repeated n)
+    repeated (suc n) = goes-by m s n (stepped StepAnswer.Completed s (m .ram)) same refl (replicate n still) (repeated n)
 
     -- a run that is not refused
     run-back : (n : ℕ) → admission m s n ≡ TestResult.Passed

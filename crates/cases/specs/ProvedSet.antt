@@ -7,7 +7,7 @@ use lib.ListN.{set}
 use Rattle.types.specs.declared.machine.State.{State}
 use Rattle.model.specs.Arithmetic.{withWidths, withA, withS, withStatus}
 use Rattle.model.specs.Guarantee.{Every}
-use Rattle.cases.specs.Rows.{listOf, bytesOf, Silent, stateAt, Judged, accepted, refused}
+use Rattle.cases.specs.Rows.{listOf, ascii, Unspecified, stateAt, Judged, accepted, refused}
 use Rattle.cases.specs.Rows.{holdsA, holdsByte, unchanged, Claim, listed, does, stops, returns, Row, Holds}
 
 -- 'Base 00C000, reset C000': every case has these
@@ -31,11 +31,11 @@ widthMarks = 0x01 ∷ 0x00 ∷ 0x00 ∷ 0x01 ∷ 0x03 ∷ 0x00 ∷ 0x03 ∷ []
 -- case 1's list
 abbrev pub widthList : List ℕ
 widthList =
-    bytesOf "I\t00C000\t7\tC000\n"
-    ++ bytesOf "C000\t0\t0\tN\t0\t0\n"
-    ++ bytesOf "C003\t0\t0\tN\t0\t0\n"
-    ++ bytesOf "C004\t1\t0\tN\t0\t0\n"
-    ++ bytesOf "C006\t1\t0\tN\t0\t0\n"
+    ascii "I\t00C000\t7\tC000\n"
+    ++ ascii "C000\t0\t0\tN\t0\t0\n"
+    ++ ascii "C003\t0\t0\tN\t0\t0\n"
+    ++ ascii "C004\t1\t0\tN\t0\t0\n"
+    ++ ascii "C006\t1\t0\tN\t0\t0\n"
 
 -- 'Image 20 04 C0 DB 60 at C000, marks 01 00 00 01 09'
 abbrev pub callImage : List ℕ
@@ -48,7 +48,7 @@ callMarks = 0x01 ∷ 0x00 ∷ 0x00 ∷ 0x01 ∷ 0x09 ∷ []
 abbrev pub marked : ℕ → ℕ → List ℕ → List ℕ
 marked address mark marks = set marks (address - 0xC000) mark
 
-module _ (v : Silent) where
+module _ (v : Unspecified) where
   -- 'RAM 512': so many bytes, whatever they are
   abbrev pub ram : ℕ → List ℕ
   ram size = listOf size (v .bytes)
@@ -122,4 +122,4 @@ module _ (v : Silent) where
 
 -- every row holds
 abbrev pub ProvedSet : Type 0
-ProvedSet = (v : Silent) → Every Holds (table v)
+ProvedSet = (v : Unspecified) → Every Holds (table v)

@@ -31,14 +31,14 @@ listOf zero f = []
 listOf (suc n) f = let rest = listOf n (λ k. f (suc k)) in f 0 ∷ rest
 
 -- the bytes of a text in ASCII
-abbrev pub bytesOf : String → List ℕ
-bytesOf text = listOf (len text) (λ k. code (charAt text k))
+abbrev pub ascii : String → List ℕ
+ascii text = listOf (len text) (λ k. code (charAt text k))
 
 -- ---- where a run starts
 
 -- Where 01 is silent: the registers and the open calls of a state that a run takes (number 12); a number of open calls
 -- that leaves room for one more; how many bytes RAM has (11), and what they are. A case holds whatever these are.
-pub record Silent : Type 0 where
+pub record Unspecified : Type 0 where
   pub core : Core
   pub entries : ℕ → ℕ
   pub state-fits : stateFits (record { core = core; calls = listOf callLimit entries }) ≡ true
@@ -50,7 +50,7 @@ pub record Silent : Type 0 where
   pub bytes : ℕ → ℕ
 
 -- the machine with these registers at an address of bank 0, so many calls open
-abbrev pub stateAt : Silent → Registers → ℕ → ℕ → State
+abbrev pub stateAt : Unspecified → Registers → ℕ → ℕ → State
 stateAt v r pc depth = record {
   core = record { registers = r; pc = pc; pg = 0; depth = depth };
   calls = listOf callLimit (v .entries);

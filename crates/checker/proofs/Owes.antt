@@ -17,15 +17,15 @@ use Rattle.types.specs.declared.code.Flow.{Flow}
 use Rattle.types.specs.declared.code.Instruction.{Instruction}
 use Rattle.types.specs.declared.refusals.Refusal.{Refusal}
 use Rattle.types.specs.declared.refusals.TestResult.{TestResult}
-use Rattle.types.specs.declared.rules.Want.{Want}
-use Rattle.types.specs.declared.rules.Owed.{Owed}
+use Rattle.types.specs.declared.rules.Requirement.{Requirement}
+use Rattle.types.specs.declared.rules.Requirements.{Requirements}
 use Rattle.prelude.specs.Choice.{pick}
 use Rattle.types.specs.Addresses.{addressLimit}
 use Rattle.model.specs.Image.{isStart, markM, markX, markKind, returnM, returnX, markOf, markAt}
 use Rattle.types.specs.Refusals.{firstRefusal}
 use Rattle.model.specs.Rules.{kindNumber, markOfRoutine, markOnReturn, markAfter, mAfter, xAfter}
 use Rattle.model.specs.Rules.{owedBy, owedAt, returnFits}
-use Rattle.model.specs.Verdict.{wantsStart, allStarts, wantsMark, allMarks}
+use Rattle.model.specs.Verdict.{isStartAt, allStarts, hasMarkAt, allMarks}
 use Rattle.prelude.proofs.Choice.{both-true}
 use Rattle.model.proofs.Widths.{same-fields}
 use Rattle.checker.specs.Owes.{returnTests, owedTests, MarksOfStarts}
@@ -76,15 +76,15 @@ after-start effect operand mark =
     (returnX mark)
 
 module _ (marks : List ℕ) (base : ℕ) where
-  one-start : (w : Want) → isStart (w .mark) ≡ true → wantsMark marks base w ≡ true → wantsStart marks base w ≡ true
-  unfolding wantsMark wantsStart
+  one-start : (w : Requirement) → isStart (w .mark) ≡ true → hasMarkAt marks base w ≡ true → isStartAt marks base w ≡ true
+  unfolding hasMarkAt isStartAt
   one-start w odd h = rw (eqb-true (markAt marks base (w .address)) (w .mark) h) odd
 
-  two-starts : (v w : Want) → isStart (v .mark) ≡ true → isStart (w .mark) ≡ true
-      → MarksOfStarts marks base (Owed.Two v w)
+  two-starts : (v w : Requirement) → isStart (v .mark) ≡ true → isStart (w .mark) ≡ true
+      → MarksOfStarts marks base (Requirements.Two v w)
   unfolding allMarks allStarts
   two-starts v w odd odd′ h =
-      let both = both-true (wantsMark marks base v) (wantsMark marks base w) h in
+      let both = both-true (hasMarkAt marks base v) (hasMarkAt marks base w) h in
       rw (one-start v odd (both .0), one-start w odd′ (both .1)) refl
 
   owes-starts : (flow : Flow) (mark after next to there : ℕ) → isStart after ≡ true
@@ -107,10 +107,10 @@ module _ (marks : List ℕ) (base : ℕ) where
 -- ---- 10 only where nothing is owed
 
 -- whether something is owed
-abbrev pub owes : Owed → Bool
-owes Owed.Nothing = false
-owes (Owed.One w) = true
-owes (Owed.Two v w) = true
+abbrev pub owes : Requirements → Bool
+owes Requirements.Nothing = false
+owes (Requirements.One w) = true
+owes (Requirements.Two v w) = true
 
 by-flow : (flow : Flow) (mark after next to there : ℕ) → owes (owedBy flow mark after next to there) ≡ true
     → returnFits flow mark ≡ true
@@ -126,7 +126,7 @@ module _ (marks : List ℕ) (base : ℕ) (i : Instruction) (address mark : ℕ) 
   abbrev flow : Flow
   flow = i .entry .flow
 
-  abbrev owed : Owed
+  abbrev owed : Requirements
   owed = owedAt marks base i address mark
 
   no-return : owes owed ≡ true → returnFits flow mark ≡ true
@@ -138,7 +138,7 @@ module _ (marks : List ℕ) (base : ℕ) (i : Instruction) (address mark : ℕ) 
   unfolding firstRefusal
   something-owed e s = rw (no-return e) s
 
-  pub nothing-owed : {so : TestResult} → owed ≡ Owed.Nothing → so ≡ firstRefusal (returnTests flow mark)
+  pub nothing-owed : {so : TestResult} → owed ≡ Requirements.Nothing → so ≡ firstRefusal (returnTests flow mark)
       → so ≡ firstRefusal (returnTests flow mark ++ owedTests marks base owed)
   unfolding firstRefusal allStarts allMarks
   nothing-owed {so} e s = rw e (by (returnFits flow mark) s)

@@ -19,17 +19,17 @@ use Rattle.model.specs.Verdict.{startAt, startResult, brokenAt}
 use Rattle.model.proofs.Decode.{decodes}
 use Rattle.prelude.proofs.First.{Passed, one-more-passed, passed-all}
 use Rattle.model.proofs.Verdict.{start-rules}
-use Rattle.checker.specs.declared.start.Step.{Step}
-use Rattle.checker.specs.Steps.{bytesOf, bytesAt, stepAt}
+use Rattle.checker.specs.declared.start.StartResult.{StartResult}
+use Rattle.checker.specs.Steps.{lengthOf, bytesAt, stepAt}
 
 module _ (image marks : List ℕ) (at : ℕ) where
   abbrev decoded-here : Decoded
   decoded-here = instructionAt image marks at
 
-  bytes-few : (1 ≤ bytesOf decoded-here) × (bytesOf decoded-here ≤ 6)
+  bytes-few : (1 ≤ lengthOf decoded-here) × (lengthOf decoded-here ≤ 6)
   bytes-few = by decoded-here refl
     where
-      by : (d : Decoded) → decoded-here ≡ d → (1 ≤ bytesOf d) × (bytesOf d ≤ 6)
+      by : (d : Decoded) → decoded-here ≡ d → (1 ≤ lengthOf d) × (lengthOf d ≤ 6)
       by (Decoded.Whole i) e =
           let d = decodes (drop at image) (markM (getD marks at 0)) (markX (getD marks at 0)) i e in (
             d .at-least,
@@ -43,7 +43,7 @@ module _ (image marks : List ℕ) (at : ℕ) where
   unfolding bytesAt
   step-bytes = by (startAt marks at)
     where
-      by : (b : Bool) → (1 ≤ pick b (bytesOf decoded-here) 1) × (pick b (bytesOf decoded-here) 1 ≤ 6)
+      by : (b : Bool) → (1 ≤ pick b (lengthOf decoded-here) 1) × (pick b (lengthOf decoded-here) 1 ≤ 6)
       by true = bytes-few
       by false = (omega arith, omega arith)
 
@@ -59,7 +59,7 @@ module _ (image marks : List ℕ) (base at : ℕ) where
   at-no-start k h = rw h refl
 
   over : StartRules image marks base at → startResult image marks base at ≡ TestResult.Passed → Passed broken 0 at
-      → Passed broken 0 (at + bytesOf (decoded-here image marks at))
+      → Passed broken 0 (at + lengthOf (decoded-here image marks at))
   over r h p = rw (r .whole) (omega arith, λ k low high. by k high (ltb k at) (ltb at k) refl refl)
     where
       by : (k : ℕ) → k < at + r .instruction .length → (a b : Bool) → ltb k at ≡ a → ltb at k ≡ b → broken k ≡ false
@@ -74,7 +74,7 @@ module _ (image marks : List ℕ) (base at : ℕ) where
   unfolding bytesAt
   stepped h p = by (startAt marks at) refl
     where
-      by : (b : Bool) → startAt marks at ≡ b → Passed broken 0 (at + pick b (bytesOf (decoded-here image marks at)) 1)
+      by : (b : Bool) → startAt marks at ≡ b → Passed broken 0 (at + pick b (lengthOf (decoded-here image marks at)) 1)
       by true e = over (start-rules image marks base at e h) h p
       by false e = one-more-passed broken 0 at p (not-broken h)
 
@@ -84,7 +84,7 @@ passed-past test i n p past =
     passed-all test 0 n n (omega arith, λ k low high. p .1 k low (omega arith)) (omega arith) (omega arith)
 
 -- the fields of a step
-module _ (image marks : List ℕ) (base at : ℕ) (s : Step) (e : s ≡ stepAt image marks base at) where
+module _ (image marks : List ℕ) (base at : ℕ) (s : StartResult) (e : s ≡ stepAt image marks base at) where
   pub step-result : {so : TestResult} → s .result ≡ so → startResult image marks base at ≡ so
   step-result r = rw e at r
 

@@ -6,7 +6,7 @@ use mathlib.Core.Bool.{true}
 use mathlib.Core.List.{List, [], _∷_}
 use Rattle.types.specs.declared.code.Flow.{Flow}
 use Rattle.types.specs.declared.refusals.Refusal.{Refusal}
-use Rattle.types.specs.declared.rules.Owed.{Owed}
+use Rattle.types.specs.declared.rules.Requirements.{Requirements}
 use Rattle.types.specs.Refusals.{Tests}
 use Rattle.model.specs.Rules.{returnFits}
 use Rattle.model.specs.Verdict.{allStarts, allMarks}
@@ -16,10 +16,10 @@ abbrev pub returnTests : Flow → ℕ → Tests
 returnTests flow mark = (returnFits flow mark, Refusal.Return) ∷ []
 
 -- 8, 9
-abbrev pub owedTests : List ℕ → ℕ → Owed → Tests
+abbrev pub owedTests : List ℕ → ℕ → Requirements → Tests
 owedTests marks base owed =
     (allStarts marks base owed, Refusal.Flow) ∷ (allMarks marks base owed, Refusal.Widths) ∷ []
 
 -- the marks that are wanted are those of starts: where all stand there, all are starts
-abbrev pub MarksOfStarts : List ℕ → ℕ → Owed → Type 0
+abbrev pub MarksOfStarts : List ℕ → ℕ → Requirements → Type 0
 MarksOfStarts marks base owed = allMarks marks base owed ≡ true → allStarts marks base owed ≡ true

@@ -15,7 +15,7 @@ use types::rules::Verdict;
 ghost use mathlib.Core.Path.{_≡_};
 ghost use Prim.Native.Nat.{_+_, _≤_, _<_};
 ghost use lib.ListN.{length};
-ghost use Rattle.codepages.specs.Packing.{numbers};
+ghost use Rattle.codepages.specs.Packing.{packedPages};
 ghost use Rattle.prelude.specs.Choice.{pick};
 ghost use Rattle.types.specs.Addresses.{addressLimit, bankSize};
 ghost use Rattle.model.specs.Image.{isStart, startCount};
@@ -24,7 +24,7 @@ ghost use Rattle.model.specs.Verdict as spec;
 // The starts in turn, from the lowest: the first that breaks a rule refuses. Where an instruction breaks none, no
 // start stands on its later bytes, and they are stepped over.
 fn starts_verdict(codes: &CodePages, image: &[u8], marks: &[u8], base: u32) -> Verdict
-    requires { ⌜ (now codes ≡ numbers) × (base + length (now marks) ≤ addressLimit) ⌝ }
+    requires { ⌜ (now codes ≡ packedPages) × (base + length (now marks) ≤ addressLimit) ⌝ }
     ensures { λ r. ⌜ r ≡ spec.startsVerdict (now (image .entry)) (now (marks .entry)) base ⌝ }
 {
     let mut i = 0;

@@ -1,5 +1,5 @@
 // What a start owes its successors.
-use decoder::Frame;
+use decoder::Layout;
 use decoder::operand_at;
 use entries::effect_of;
 use entries::flow_of;
@@ -15,8 +15,8 @@ use successors::widths::x_after;
 use types::code::Flow;
 use types::code::Kind;
 use types::code::WidthEffect;
-use types::rules::Owed;
-use types::rules::Want;
+use types::rules::Requirement;
+use types::rules::Requirements;
 ghost use mathlib.Core.Path.{_≡_};
 ghost use Prim.Native.Nat.{_+_, _-_, _*_, _/_, _%_, _≤_, _<_};
 ghost use lib.ListN.{length, drop};
@@ -26,7 +26,7 @@ ghost use Rattle.types.specs.declared.code.Flow.{Flow};
 ghost use Rattle.model.specs.Decode.{operandOf};
 ghost use Rattle.model.specs.Rules as rules;
 ghost use Rattle.codepages.specs.Packing.{unpacked};
-ghost use Rattle.decoder.specs.Frame.{Fitting, instructionOf};
+ghost use Rattle.decoder.specs.Layout.{Fitting, instructionOf};
 
 // The mark of a start with these fields.
 fn mark_of(m: u8, x: u8, kind: u8, rm: u8, rx: u8) -> u8
@@ -52,28 +52,33 @@ fn mark_kept(mark: u8) -> u8
     mark / 2 % 64 * 2 + 1
 }
 
-// The mark with the widths after the instruction of a frame. Most keep them, and their operand need not be read.
-fn mark_after_frame(image: &[u8], at: usize, frame: Frame, mark: u8) -> u8
-    requires { ⌜ Fitting (length (now image) - at) frame ⌝ }
+// The mark with the widths after the instruction of a layout. Most keep them, and their operand need not be read.
+fn mark_after_layout(image: &[u8], at: usize, layout: Layout, mark: u8) -> u8
+    requires { ⌜ Fitting (length (now image) - at) layout ⌝ }
     ensures { λ r. ⌜
-        r ≡ rules.markAfter (unpacked (frame .number) .effect)
-        (operandOf (drop at (now (image .entry))) (frame .prefix) (frame .length)) mark
+        r ≡ rules.markAfter (unpacked (layout .number) .effect)
+        (operandOf (drop at (now (image .entry))) (layout .prefix) (layout .length)) mark
         ⌝ }
 {
-    if keeps_widths(frame.number) {
+    if keeps_widths(layout.number) {
         return mark_kept(mark);
     }
-    let effect = effect_of(frame.number);
-    mark_after(effect, operand_at(image, at, frame), mark)
+    let effect = effect_of(layout.number);
+    mark_after(effect, operand_at(image, at, layout), mark)
 }
 
-// Where the instruction of a frame at an address goes by its target.
-fn target_of_frame(image: &[u8], at: usize, frame: Frame, address: u32) -> u32
-    requires { ⌜ Fitting (length (now image) - at) frame × (address < addressLimit) ⌝ }
-    ensures { λ r. ⌜ r ≡ rules.targetAddress (instructionOf (drop at (now (image .entry))) frame) address ⌝ }
+// Where the instruction of a layout at an address goes by its target.
+fn target_of_layout(image: &[u8], at: usize, layout: Layout, address: u32) -> u32
+    requires { ⌜ Fitting (length (now image) - at) layout × (address < addressLimit) ⌝ }
+    ensures { λ r. ⌜ r ≡ rules.targetAddress (instructionOf (drop at (now (image .entry))) layout) address ⌝ }
 {
-    let target = target_form_of(frame.number);
-    target_of(target, address, frame.length, operand_at(image, at, frame))
+    let target = target_form_of(layout.number);
+    target_of(
+        target,
+        address,
+        layout.length,
+        operand_at(image, at, layout),
+    )
 }
 
 // The mark at an address, 0 outside the image. Below the base the difference wraps, so that one comparison is enough:
@@ -85,10 +90,10 @@ pub(crate) fn mark_in(marks: &[u8], base: u32, address: u32) -> u8
     byte_at(marks, wrapping_sub_u32(address, base) as usize)
 }
 
-fn want(address: u32, mark: u8) -> Want
-    ensures { λ r. ⌜ r ≡ rules.want address mark ⌝ }
+fn requirement(address: u32, mark: u8) -> Requirement
+    ensures { λ r. ⌜ r ≡ rules.requirement address mark ⌝ }
 {
-    Want { address, mark }
+    Requirement { address, mark }
 }
 
 // The mark that a call wants at its target.
@@ -114,57 +119,57 @@ fn mark_on_return(mark: u8, there: u8) -> u8
 }
 
 // What a call at an address with a mark owes, by its target and the address after it.
-fn owed_by_call(marks: &[u8], base: u32, kind: Kind, mark: u8, next: u32, to: u32) -> Owed
+fn owed_by_call(marks: &[u8], base: u32, kind: Kind, mark: u8, next: u32, to: u32) -> Requirements
     requires { ⌜ base + length (now marks) ≤ addressLimit ⌝ }
     ensures { λ r. ⌜ r ≡ rules.owedBy (Flow.Call kind) mark 0 next to (markAt (now (marks .entry)) base to) ⌝ }
 {
     let there = mark_in(marks, base, to);
-    Owed::Two(
-        want(to, mark_of_routine(kind, mark, there)),
-        want(next, mark_on_return(mark, there)),
+    Requirements::Two(
+        requirement(to, mark_of_routine(kind, mark, there)),
+        requirement(next, mark_on_return(mark, there)),
     )
 }
 
-// What the instruction of a frame at a place of the image, with a mark there, owes. Each flow reads what it needs.
+// What the instruction of a layout at a place of the image, with a mark there, owes. Each flow reads what it needs.
 pub(crate) fn owed_at(
     image: &[u8],
     marks: &[u8],
     base: u32,
     at: usize,
-    frame: Frame,
+    layout: Layout,
     mark: u8,
-) -> Owed
+) -> Requirements
     requires { ⌜
-        Fitting (length (now image) - at) frame × (base + length (now marks) ≤ addressLimit) × (at < length (now marks))
+        Fitting (length (now image) - at) layout × (base + length (now marks) ≤ addressLimit) × (at < length (now marks))
         ⌝ }
     ensures { λ r. ⌜
-        r ≡ rules.owedAt (now (marks .entry)) base (instructionOf (drop at (now (image .entry))) frame) (base + at) mark
+        r ≡ rules.owedAt (now (marks .entry)) base (instructionOf (drop at (now (image .entry))) layout) (base + at) mark
         ⌝ }
 {
     let address = base + at as u32;
-    let next = next_address(address, frame.length);
-    match flow_of(frame.number) {
+    let next = next_address(address, layout.length);
+    match flow_of(layout.number) {
         Flow::Next => {
             // Most instructions go this way: it needs no call.
-            if keeps_widths(frame.number) {
-                return Owed::One(want(next, mark_kept(mark)));
+            if keeps_widths(layout.number) {
+                return Requirements::One(requirement(next, mark_kept(mark)));
             }
-            Owed::One(want(next, mark_after_frame(image, at, frame, mark)))
+            Requirements::One(requirement(next, mark_after_layout(image, at, layout, mark)))
         }
         Flow::Branch => {
-            let after = mark_after_frame(image, at, frame, mark);
-            let to = target_of_frame(image, at, frame, address);
-            Owed::Two(want(next, after), want(to, after))
+            let after = mark_after_layout(image, at, layout, mark);
+            let to = target_of_layout(image, at, layout, address);
+            Requirements::Two(requirement(next, after), requirement(to, after))
         }
         Flow::Jump => {
-            let after = mark_after_frame(image, at, frame, mark);
-            Owed::One(want(target_of_frame(image, at, frame, address), after))
+            let after = mark_after_layout(image, at, layout, mark);
+            Requirements::One(requirement(target_of_layout(image, at, layout, address), after))
         }
         Flow::Call(kind) => {
-            let to = target_of_frame(image, at, frame, address);
+            let to = target_of_layout(image, at, layout, address);
             owed_by_call(marks, base, kind, mark, next, to)
         }
-        Flow::Return(_) => Owed::Nothing,
-        Flow::Halt => Owed::Nothing,
+        Flow::Return(_) => Requirements::Nothing,
+        Flow::Halt => Requirements::Nothing,
     }
 }

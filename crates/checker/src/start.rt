@@ -2,9 +2,9 @@
 use crate::owed::mark_in;
 use crate::owed::owed_at;
 use codepages::CodePages;
-use decoder::Frame;
-use decoder::Framed;
-use decoder::frame_at;
+use decoder::Layout;
+use decoder::LayoutRead;
+use decoder::layout_at;
 use entries::flow_of;
 use fields::byte_at;
 use fields::low_bytes;
@@ -15,49 +15,49 @@ use types::code::Flow;
 use types::code::Kind;
 use types::refusals::Refusal;
 use types::refusals::TestResult;
-use types::rules::Owed;
-use types::rules::Want;
+use types::rules::Requirement;
+use types::rules::Requirements;
 ghost use mathlib.Core.Path.{_≡_};
 ghost use Prim.Native.Nat.{_+_, _-_, _≤_, _<_};
 ghost use mathlib.Core.Bool.{_&&_};
 ghost use lib.Dec.{ltb, leb};
 ghost use lib.ListN.{length, take, drop};
-ghost use Rattle.codepages.specs.Packing.{numbers};
+ghost use Rattle.codepages.specs.Packing.{packedPages};
 ghost use Rattle.types.specs.Addresses.{addressLimit};
 ghost use Rattle.types.specs.Refusals.{firstRefusal};
 ghost use Rattle.model.specs.Rules as rules;
 ghost use Rattle.model.specs.Verdict as verdict;
 ghost use Rattle.fields.specs.Fields.{number};
 ghost use Rattle.prelude.specs.First.{firstFrom};
-ghost use Rattle.decoder.specs.Frame.{Fitting, FittingIn, instructionOf, decodedOf};
+ghost use Rattle.decoder.specs.Layout.{Fitting, FittingIn, instructionOf, decodedOf};
 ghost use Rattle.checker.specs.Steps.{decodedStep, stepAt};
 ghost use Rattle.checker.specs.Owes.{returnTests, owedTests, MarksOfStarts};
 
-fn wants_start(marks: &[u8], base: u32, w: Want) -> bool
+fn is_start_at(marks: &[u8], base: u32, w: Requirement) -> bool
     requires { ⌜ base + length (now marks) ≤ addressLimit ⌝ }
-    ensures { λ r. ⌜ r ≡ verdict.wantsStart (now (marks .entry)) base w ⌝ }
+    ensures { λ r. ⌜ r ≡ verdict.isStartAt (now (marks .entry)) base w ⌝ }
 {
     is_start(mark_in(marks, base, w.address))
 }
 
-fn wants_mark(marks: &[u8], base: u32, w: Want) -> bool
+fn has_mark_at(marks: &[u8], base: u32, w: Requirement) -> bool
     requires { ⌜ base + length (now marks) ≤ addressLimit ⌝ }
-    ensures { λ r. ⌜ r ≡ verdict.wantsMark (now (marks .entry)) base w ⌝ }
+    ensures { λ r. ⌜ r ≡ verdict.hasMarkAt (now (marks .entry)) base w ⌝ }
 {
     mark_in(marks, base, w.address) == w.mark
 }
 
 // Number 8: every want's address is a marked start.
-fn all_starts(marks: &[u8], base: u32, owed: Owed) -> bool
+fn all_starts(marks: &[u8], base: u32, owed: Requirements) -> bool
     requires { ⌜ base + length (now marks) ≤ addressLimit ⌝ }
     ensures { λ r. ⌜ r ≡ verdict.allStarts (now (marks .entry)) base owed ⌝ }
 {
     match owed {
-        Owed::Nothing => true,
-        Owed::One(w) => wants_start(marks, base, w),
-        Owed::Two(v, w) => {
-            if wants_start(marks, base, v) {
-                return wants_start(marks, base, w);
+        Requirements::Nothing => true,
+        Requirements::One(w) => is_start_at(marks, base, w),
+        Requirements::Two(v, w) => {
+            if is_start_at(marks, base, v) {
+                return is_start_at(marks, base, w);
             }
             false
         }
@@ -65,16 +65,16 @@ fn all_starts(marks: &[u8], base: u32, owed: Owed) -> bool
 }
 
 // Number 9: every want's mark stands there.
-fn all_marks(marks: &[u8], base: u32, owed: Owed) -> bool
+fn all_marks(marks: &[u8], base: u32, owed: Requirements) -> bool
     requires { ⌜ base + length (now marks) ≤ addressLimit ⌝ }
     ensures { λ r. ⌜ r ≡ verdict.allMarks (now (marks .entry)) base owed ⌝ }
 {
     match owed {
-        Owed::Nothing => true,
-        Owed::One(w) => wants_mark(marks, base, w),
-        Owed::Two(v, w) => {
-            if wants_mark(marks, base, v) {
-                return wants_mark(marks, base, w);
+        Requirements::Nothing => true,
+        Requirements::One(w) => has_mark_at(marks, base, w),
+        Requirements::Two(v, w) => {
+            if has_mark_at(marks, base, v) {
+                return has_mark_at(marks, base, w);
             }
             false
         }
@@ -168,7 +168,7 @@ fn test_return(flow: Flow, mark: u8) -> TestResult
 }
 
 // 8, 9. The marks that are wanted are those of starts, so that 9 is asked first: where it passes 8 does.
-fn test_owed(marks: &[u8], base: u32, owed: Owed) -> TestResult
+fn test_owed(marks: &[u8], base: u32, owed: Requirements) -> TestResult
     requires { ⌜ (base + length (now marks) ≤ addressLimit) × MarksOfStarts (now marks) base owed ⌝ }
     ensures { λ r. ⌜ r ≡ firstRefusal (owedTests (now (marks .entry)) base owed) ⌝ }
 {
@@ -181,53 +181,59 @@ fn test_owed(marks: &[u8], base: u32, owed: Owed) -> TestResult
     TestResult::Failed(Refusal::Widths)
 }
 
-// The rules of the instruction of a frame at a place: 7, 10, 8, 9. What owes something is no return, and passes 10.
-fn test_whole(image: &[u8], marks: &[u8], base: u32, at: usize, frame: Frame) -> TestResult
+// The rules of the instruction of a layout at a place: 7, 10, 8, 9. What owes something is no return, and passes 10.
+fn test_whole(image: &[u8], marks: &[u8], base: u32, at: usize, layout: Layout) -> TestResult
     requires { ⌜
-        Fitting (length (now image) - at) frame × (base + length (now marks) ≤ addressLimit) × (at < length (now marks))
+        Fitting (length (now image) - at) layout × (base + length (now marks) ≤ addressLimit) × (at < length (now marks))
         ⌝ }
     ensures { λ r. ⌜
         r ≡ firstRefusal (verdict.wholeTests (now (marks .entry)) base
-        at (instructionOf (drop at (now (image .entry))) frame))
+        at (instructionOf (drop at (now (image .entry))) layout))
         ⌝ }
 {
     let mark = byte_at(marks, at);
-    if !is_clear(marks, at, frame.length) {
+    if !is_clear(marks, at, layout.length) {
         return TestResult::Failed(Refusal::Overlap);
     }
-    let owed = owed_at(image, marks, base, at, frame, mark);
+    let owed = owed_at(image, marks, base, at, layout, mark);
     match owed {
-        Owed::Nothing => test_return(flow_of(frame.number), mark),
-        Owed::One(_) => test_owed(marks, base, owed),
-        Owed::Two(_, _) => test_owed(marks, base, owed),
+        Requirements::Nothing => test_return(flow_of(layout.number), mark),
+        Requirements::One(_) => test_owed(marks, base, owed),
+        Requirements::Two(_, _) => test_owed(marks, base, owed),
     }
 }
 
 // A place of the image: the first rule that is broken there, and how many bytes stand there, one where no instruction
 // is read.
-pub(crate) struct Step {
+pub(crate) struct StartResult {
     pub(crate) result: TestResult,
     pub(crate) bytes: u8,
 }
 
-// The step of a frame at a place.
-fn framed_step(image: &[u8], marks: &[u8], base: u32, at: usize, framed: Framed) -> Step
+// The step of a layout at a place.
+fn layout_result(
+    image: &[u8],
+    marks: &[u8],
+    base: u32,
+    at: usize,
+    layout: LayoutRead,
+) -> StartResult
     requires { ⌜
-        FittingIn (length (now image) - at) framed × (base + length (now marks) ≤ addressLimit)
+        FittingIn (length (now image) - at) layout × (base + length (now marks) ≤ addressLimit)
         × (at < length (now marks))
         ⌝ }
-    ensures { λ r. ⌜ r ≡ decodedStep (now (marks .entry)) base at (decodedOf (drop at (now (image .entry))) framed) ⌝ }
+    ensures { λ r. ⌜ r ≡ decodedStep (now (marks .entry)) base at (decodedOf (drop at (now (image .entry))) layout) ⌝ }
 {
-    match framed {
-        Framed::Fits(frame) => Step {
-            result: test_whole(image, marks, base, at, frame),
-            bytes: frame.length,
+    match layout {
+        LayoutRead::Fits(layout) => StartResult {
+            result: test_whole(image, marks, base, at, layout),
+            bytes: layout.length,
         },
-        Framed::Uncarried => Step {
+        LayoutRead::Uncarried => StartResult {
             result: TestResult::Failed(Refusal::Code),
             bytes: 1,
         },
-        Framed::Short => Step {
+        LayoutRead::Short => StartResult {
             result: TestResult::Failed(Refusal::CutOff),
             bytes: 1,
         },
@@ -235,19 +241,25 @@ fn framed_step(image: &[u8], marks: &[u8], base: u32, at: usize, framed: Framed)
 }
 
 // The step at a place.
-pub(crate) fn step_at(codes: &CodePages, image: &[u8], marks: &[u8], base: u32, at: usize) -> Step
+pub(crate) fn step_at(
+    codes: &CodePages,
+    image: &[u8],
+    marks: &[u8],
+    base: u32,
+    at: usize,
+) -> StartResult
     requires { ⌜
-        (now codes ≡ numbers) × (base + length (now marks) ≤ addressLimit) × (at < length (now marks))
+        (now codes ≡ packedPages) × (base + length (now marks) ≤ addressLimit) × (at < length (now marks))
         ⌝ }
     ensures { λ r. ⌜ r ≡ stepAt (now (image .entry)) (now (marks .entry)) base at ⌝ }
 {
     let mark = byte_at(marks, at);
     if !is_start(mark) {
-        return Step {
+        return StartResult {
             result: TestResult::Passed,
             bytes: 1,
         };
     }
-    let framed = frame_at(codes, image, at, mark / 2 % 2, mark / 4 % 2);
-    framed_step(image, marks, base, at, framed)
+    let layout = layout_at(codes, image, at, mark / 2 % 2, mark / 4 % 2);
+    layout_result(image, marks, base, at, layout)
 }

@@ -11,7 +11,7 @@ use lib.ListN.{getD, List·getD-map}
 use Rattle.types.specs.declared.code.WidthEffect.{WidthEffect}
 use Rattle.model.specs.CodePages.{Form, none, plain, behind42, behind89, pages}
 use Rattle.model.specs.CodeMap.{entryOf, entryAt}
-use Rattle.codepages.specs.Packing.{unpacked, packed, packedPage, numbers, numberAt}
+use Rattle.codepages.specs.Packing.{unpacked, packed, packedPage, packedPages, packedAt}
 
 -- the cell of a table of rows
 abbrev cell : {A : Type 0} → List (List A) → ℕ → ℕ → A → A
@@ -37,8 +37,8 @@ module _ (prefix : ℕ) (page : List (List Form)) where
       ∙ ap (λ l. cell l row column (entryOf prefix none)) same
       ∙ cell-map (entryOf prefix) page row column none
 
-pub unpacked-at : (page code : ℕ) → unpacked (numberAt numbers page code) ≡ entryAt page code
-unfolding unpacked numbers entryAt pages plain behind42 behind89
+pub unpacked-at : (page code : ℕ) → unpacked (packedAt packedPages page code) ≡ entryAt page code
+unfolding unpacked packedPages entryAt pages plain behind42 behind89
 unpacked-at zero code = cell-same 0 plain refl refl refl (code / 16) (code % 16)
 unpacked-at (suc zero) code = cell-same 1 behind42 refl refl refl (code / 16) (code % 16)
 unpacked-at (suc (suc zero)) code = cell-same 1 behind89 refl refl refl (code / 16) (code % 16)

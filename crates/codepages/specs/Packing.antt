@@ -157,10 +157,10 @@ abbrev pub packedPage : ℕ → List (List Form) → List (List ℕ)
 packedPage prefix page = map (map (λ f. packed (entryOf prefix f))) page
 
 -- the three pages as numbers
-unfoldable pub numbers : List (List (List ℕ))
+unfoldable pub packedPages : List (List (List ℕ))
 unfolding plain behind42 behind89
-numbers = packedPage 0 plain ∷ packedPage 1 behind42 ∷ packedPage 1 behind89 ∷ []
+packedPages = packedPage 0 plain ∷ packedPage 1 behind42 ∷ packedPage 1 behind89 ∷ []
 
 -- the number of a code of a page
-abbrev pub numberAt : List (List (List ℕ)) → ℕ → ℕ → ℕ
-numberAt codes page code = getD (getD (getD codes page []) (code / 16) []) (code % 16) 0
+abbrev pub packedAt : List (List (List ℕ)) → ℕ → ℕ → ℕ
+packedAt codes page code = getD (getD (getD codes page []) (code / 16) []) (code % 16) 0

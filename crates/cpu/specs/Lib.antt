@@ -1,3 +1,3 @@
 pub mod File
-pub mod Rows
-pub mod View
+pub mod FileEffects
+pub mod CodeEffects

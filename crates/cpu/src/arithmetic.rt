@@ -4,10 +4,10 @@
 use crate::effects::Effect;
 use crate::effects::bytes;
 use crate::effects::leaves;
+use crate::effects::operand_place_of;
 use crate::effects::pulled_at;
 use crate::effects::puts;
 use crate::effects::puts_both;
-use crate::effects::residence_of;
 use crate::effects::stores_to;
 use crate::file::A;
 use crate::file::B;
@@ -32,16 +32,16 @@ use datawidth::top_bit;
 use datawidth::wide;
 use types::code::Mode;
 use types::machine::Data;
-use types::machine::Residence;
+use types::machine::OperandPlace;
 use types::machine::Status;
 use types::machine::bit_of;
 ghost use mathlib.Core.Path.{_≡_};
 ghost use Prim.Native.Nat.{_≤_, _<_};
-ghost use Rattle.model.specs.Addressing.{bits, residenceOf};
+ghost use Rattle.model.specs.Addressing.{bits, operandPlaceOf};
 ghost use Rattle.types.specs.Status.{statusOf};
 ghost use Rattle.cpu.specs.File.{fileSize};
-ghost use Rattle.cpu.specs.Rows as rows;
-ghost use Rattle.cpu.specs.View.{Makes, seen};
+ghost use Rattle.cpu.specs.FileEffects as rows;
+ghost use Rattle.cpu.specs.CodeEffects.{Makes, asWorked};
 
 // A register gets data, and N and Z with it.
 pub fn loads(to: usize, short: bool, v: u64, status: u16, registers: &[u16; FILE_SIZE]) -> Effect
@@ -65,7 +65,7 @@ pub struct Worked {
 
 // ADC: the sum, its C and its V.
 fn added(short: bool, a: u16, v: u16, status: u16) -> Worked
-    ensures { λ r. ⌜ seen r ≡ rows.added (bits short) a v (statusOf status) ⌝ }
+    ensures { λ r. ⌜ asWorked r ≡ rows.added (bits short) a v (statusOf status) ⌝ }
 {
     let carry = is_set(Status::C, status);
     let value = sum(a, v, carry);
@@ -78,7 +78,7 @@ fn added(short: bool, a: u16, v: u16, status: u16) -> Worked
 
 // SBC: the difference, its C and its V.
 fn subtracted(short: bool, a: u16, v: u16, status: u16) -> Worked
-    ensures { λ r. ⌜ seen r ≡ rows.subtracted (bits short) a v (statusOf status) ⌝ }
+    ensures { λ r. ⌜ asWorked r ≡ rows.subtracted (bits short) a v (statusOf status) ⌝ }
 {
     let carry = is_set(Status::C, status);
     let value = difference(short, a, v, carry);
@@ -91,7 +91,7 @@ fn subtracted(short: bool, a: u16, v: u16, status: u16) -> Worked
 
 // ADC, SBC, AND, ORA, EOR, in the order of their numbers; any other number is ADC.
 fn combined(which: usize, short: bool, a: u16, v: u16, status: u16) -> Worked
-    ensures { λ r. ⌜ seen r ≡ rows.combined which (bits short) a v (statusOf status) ⌝ }
+    ensures { λ r. ⌜ asWorked r ≡ rows.combined which (bits short) a v (statusOf status) ⌝ }
 {
     match which {
         1 => subtracted(short, a, v, status),
@@ -114,7 +114,7 @@ fn combined(which: usize, short: bool, a: u16, v: u16, status: u16) -> Worked
 // ASL, LSR, ROL, ROR, INC, DEC, in the order of their numbers; any other number is ASL.
 fn modified(which: usize, short: bool, v: u64, status: u16) -> Worked
     requires { ⌜ v ≤ 65_535 ⌝ }
-    ensures { λ r. ⌜ seen r ≡ rows.modified which (bits short) v (statusOf status) ⌝ }
+    ensures { λ r. ⌜ asWorked r ≡ rows.modified which (bits short) v (statusOf status) ⌝ }
 {
     match which {
         1 => Worked {
@@ -225,20 +225,20 @@ pub fn modifies(
 ) -> Effect
     requires { ⌜ to < fileSize ⌝ }
     ensures { λ r. ⌜
-        Makes r (now (registers .entry)) (rows.modifying (now (registers .entry)) to short (residenceOf mode)
+        Makes r (now (registers .entry)) (rows.modifying (now (registers .entry)) to short (operandPlaceOf mode)
         (given .address) (rows.modified which (bits short) (given .value) (rows.status (now (registers .entry)))))
         ⌝ }
 {
     let done = modified(which, short, wide(given.value), registers[PS]);
-    let residence = residence_of(mode);
+    let residence = operand_place_of(mode);
     match residence {
-        Residence::Memory => stores_to(
+        OperandPlace::Memory => stores_to(
             short,
             given.address,
             wide(low(short, done.value)),
             with_result(short, done.value, done.status),
         ),
-        Residence::Instruction => loads(to, short, done.value, done.status, registers),
-        Residence::Register => loads(to, short, done.value, done.status, registers),
+        OperandPlace::Instruction => loads(to, short, done.value, done.status, registers),
+        OperandPlace::Register => loads(to, short, done.value, done.status, registers),
     }
 }

@@ -8,7 +8,7 @@ use memory::stores::Stores;
 use std::num::wrapping_add_u16;
 use std::num::wrapping_sub_u16;
 use types::code::Mode;
-use types::machine::Residence;
+use types::machine::OperandPlace;
 use types::machine::Store;
 ghost use mathlib.Core.Path.{_≡_};
 ghost use mathlib.Core.Bool.{false};
@@ -19,7 +19,7 @@ ghost use Rattle.model.specs.Addressing as addressing;
 ghost use Rattle.model.specs.Effects as spec;
 ghost use Rattle.types.specs.Addresses.{bankSize};
 ghost use Rattle.cpu.specs.File.{registersOf};
-ghost use Rattle.cpu.specs.View.{kept, Makes};
+ghost use Rattle.cpu.specs.CodeEffects.{codeEffect, Makes};
 
 // Two registers at most get a value, and then the status gets its own: a register that is not to change is named by the
 // status' place. Promises by `viewed` (specs/View.antt) settle what the registers then are, the stores and the branch.
@@ -90,7 +90,7 @@ pub(crate) fn bytes(short: bool) -> u16
 
 // Two registers and the status.
 pub(crate) fn puts_both(first: usize, value: u16, second: usize, other: u16, status: u16) -> Effect
-    ensures { λ r. ⌜ r ≡ kept first value second other status Stores.None false ⌝ }
+    ensures { λ r. ⌜ r ≡ codeEffect first value second other status Stores.None false ⌝ }
 {
     Effect {
         first,
@@ -105,21 +105,21 @@ pub(crate) fn puts_both(first: usize, value: u16, second: usize, other: u16, sta
 
 // A register and the status.
 pub fn puts(place: usize, value: u16, status: u16) -> Effect
-    ensures { λ r. ⌜ r ≡ kept place value 7 0 status Stores.None false ⌝ }
+    ensures { λ r. ⌜ r ≡ codeEffect place value 7 0 status Stores.None false ⌝ }
 {
     puts_both(place, value, PS, 0, status)
 }
 
 // The status alone.
 pub fn leaves(status: u16) -> Effect
-    ensures { λ r. ⌜ r ≡ kept 7 0 7 0 status Stores.None false ⌝ }
+    ensures { λ r. ⌜ r ≡ codeEffect 7 0 7 0 status Stores.None false ⌝ }
 {
     puts(PS, 0, status)
 }
 
 // The status, and whether a branch is taken.
 pub fn branches_if(taken: bool, status: u16) -> Effect
-    ensures { λ r. ⌜ r ≡ kept 7 0 7 0 status Stores.None taken ⌝ }
+    ensures { λ r. ⌜ r ≡ codeEffect 7 0 7 0 status Stores.None taken ⌝ }
 {
     Effect {
         first: PS,
@@ -135,7 +135,7 @@ pub fn branches_if(taken: bool, status: u16) -> Effect
 // Data into memory, and the status.
 pub fn stores_to(short: bool, address: u32, v: u64, status: u16) -> Effect
     ensures { λ r. ⌜
-        (r ≡ kept 7 0 7 0 status (r .stores) false) × (listed (r .stores) ≡ spec.storesOf short address v)
+        (r ≡ codeEffect 7 0 7 0 status (r .stores) false) × (listed (r .stores) ≡ spec.storesOf short address v)
         ⌝ }
 {
     Effect {
@@ -167,38 +167,38 @@ pub fn pushes(short: bool, v: u64, registers: &[u16; FILE_SIZE]) -> Effect
 }
 
 // Where the data of a mode lies.
-pub fn residence_of(mode: Mode) -> Residence
-    ensures { λ r. ⌜ r ≡ addressing.residenceOf mode ⌝ }
+pub fn operand_place_of(mode: Mode) -> OperandPlace
+    ensures { λ r. ⌜ r ≡ addressing.operandPlaceOf mode ⌝ }
 {
     match mode {
-        Mode::Implied => Residence::Register,
-        Mode::Immediate => Residence::Instruction,
-        Mode::Accumulator => Residence::Register,
-        Mode::Direct => Residence::Memory,
-        Mode::DirectBit => Residence::Memory,
-        Mode::DirectIndexedX => Residence::Memory,
-        Mode::DirectIndexedY => Residence::Memory,
-        Mode::DirectIndirect => Residence::Memory,
-        Mode::DirectIndexedXIndirect => Residence::Memory,
-        Mode::DirectIndirectIndexedY => Residence::Memory,
-        Mode::DirectIndirectLong => Residence::Memory,
-        Mode::DirectIndirectLongIndexedY => Residence::Memory,
-        Mode::Absolute => Residence::Memory,
-        Mode::AbsoluteBit => Residence::Memory,
-        Mode::AbsoluteIndexedX => Residence::Memory,
-        Mode::AbsoluteIndexedY => Residence::Memory,
-        Mode::AbsoluteLong => Residence::Memory,
-        Mode::AbsoluteLongIndexedX => Residence::Memory,
-        Mode::AbsoluteIndirect => Residence::Register,
-        Mode::AbsoluteIndirectLong => Residence::Register,
-        Mode::AbsoluteIndexedXIndirect => Residence::Register,
-        Mode::Stack => Residence::Register,
-        Mode::Relative => Residence::Register,
-        Mode::DirectBitRelative => Residence::Memory,
-        Mode::AbsoluteBitRelative => Residence::Memory,
-        Mode::StackPointerRelative => Residence::Memory,
-        Mode::StackPointerRelativeIndirectIndexedY => Residence::Memory,
-        Mode::BlockTransfer => Residence::Register,
+        Mode::Implied => OperandPlace::Register,
+        Mode::Immediate => OperandPlace::Instruction,
+        Mode::Accumulator => OperandPlace::Register,
+        Mode::Direct => OperandPlace::Memory,
+        Mode::DirectBit => OperandPlace::Memory,
+        Mode::DirectIndexedX => OperandPlace::Memory,
+        Mode::DirectIndexedY => OperandPlace::Memory,
+        Mode::DirectIndirect => OperandPlace::Memory,
+        Mode::DirectIndexedXIndirect => OperandPlace::Memory,
+        Mode::DirectIndirectIndexedY => OperandPlace::Memory,
+        Mode::DirectIndirectLong => OperandPlace::Memory,
+        Mode::DirectIndirectLongIndexedY => OperandPlace::Memory,
+        Mode::Absolute => OperandPlace::Memory,
+        Mode::AbsoluteBit => OperandPlace::Memory,
+        Mode::AbsoluteIndexedX => OperandPlace::Memory,
+        Mode::AbsoluteIndexedY => OperandPlace::Memory,
+        Mode::AbsoluteLong => OperandPlace::Memory,
+        Mode::AbsoluteLongIndexedX => OperandPlace::Memory,
+        Mode::AbsoluteIndirect => OperandPlace::Register,
+        Mode::AbsoluteIndirectLong => OperandPlace::Register,
+        Mode::AbsoluteIndexedXIndirect => OperandPlace::Register,
+        Mode::Stack => OperandPlace::Register,
+        Mode::Relative => OperandPlace::Register,
+        Mode::DirectBitRelative => OperandPlace::Memory,
+        Mode::AbsoluteBitRelative => OperandPlace::Memory,
+        Mode::StackPointerRelative => OperandPlace::Memory,
+        Mode::StackPointerRelativeIndirectIndexedY => OperandPlace::Memory,
+        Mode::BlockTransfer => OperandPlace::Register,
     }
 }
 

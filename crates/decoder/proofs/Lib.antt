@@ -1,4 +1,4 @@
 -- The laws that the proofs of the functions share.
-pub mod Frames
+pub mod Layouts
 pub mod Lengths
 pub mod Operands

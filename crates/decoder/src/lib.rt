@@ -1,7 +1,7 @@
 // The decoder: what stands at a place of an image, at given widths. The code pages are lent, since a constant is copied
 // at each use; so their readers ask that those lent are the definition's.
 use codepages::CodePages;
-use codepages::number_at;
+use codepages::packed_at;
 use entries::bytes_of;
 use entries::is_carried;
 use entries::unpack;
@@ -20,28 +20,28 @@ ghost use lib.Dec.{eqb};
 ghost use Rattle.prelude.specs.Choice.{pick};
 ghost use Rattle.model.specs.CodeMap.{entryAt, moreBytes, lengthAt};
 ghost use Rattle.model.specs.Decode as spec;
-ghost use Rattle.codepages.specs.Packing.{numbers, numberAt, unpacked};
-ghost use Rattle.decoder.specs.declared.Looked.{Looked};
-ghost use Rattle.decoder.specs.Frame.{framed, coded, framedBy, instructionOf, Fitting};
+ghost use Rattle.codepages.specs.Packing.{packedPages, packedAt, unpacked};
+ghost use Rattle.decoder.specs.declared.CodeRead.{CodeRead};
+ghost use Rattle.decoder.specs.Layout.{layoutRead, codeRead, layoutBy, instructionOf, Fitting};
 
 // What a code and the widths decide of an instruction, before its operand is read: the number of its entry, how many
 // prefix bytes it has, its length.
-pub struct Frame {
+pub struct Layout {
     pub number: u32,
     pub prefix: u8,
     pub length: u8,
 }
 
-// A frame that fits into the bytes that are left; a code that is not carried; or too few bytes.
-pub enum Framed {
-    Fits(Frame),
+// A layout that fits into the bytes that are left; a code that is not carried; or too few bytes.
+pub enum LayoutRead {
+    Fits(Layout),
     Uncarried,
     Short,
 }
 
 // The code at a place, before the widths enter: the number of its entry and how many prefix bytes stand before it; a
 // code that is not carried; or too few bytes.
-pub enum Looked {
+pub enum CodeRead {
     Code(u32, u8),
     Uncarried,
     Short,
@@ -49,10 +49,10 @@ pub enum Looked {
 
 // The entry of a code of a page.
 pub fn entry_at(codes: &CodePages, page: usize, code: u8) -> Entry
-    requires { ⌜ (now codes ≡ numbers) × (page < 3) ⌝ }
+    requires { ⌜ (now codes ≡ packedPages) × (page < 3) ⌝ }
     ensures { λ r. ⌜ r ≡ entryAt page code ⌝ }
 {
-    unpack(number_at(codes, page, code))
+    unpack(packed_at(codes, page, code))
 }
 
 // One byte more at a width of 0.
@@ -90,15 +90,15 @@ fn length_of(number: u32, m: u8, x: u8) -> u8
     bytes_of(number) + ((more >> (number / 134_217_728 % 4)) % 2) as u8
 }
 
-// The frame of a carried code, where so many bytes are left.
-fn fit(left: usize, prefix: u8, number: u32, m: u8, x: u8) -> Framed
-    ensures { λ r. ⌜ r ≡ framedBy left (Looked.Code number prefix) m x ⌝ }
+// The layout of a carried code, where so many bytes are left.
+fn fit(left: usize, prefix: u8, number: u32, m: u8, x: u8) -> LayoutRead
+    ensures { λ r. ⌜ r ≡ layoutBy left (CodeRead.Code number prefix) m x ⌝ }
 {
     let length = length_of(number, m, x);
     if left < length as usize {
-        return Framed::Short;
+        return LayoutRead::Short;
     }
-    Framed::Fits(Frame {
+    LayoutRead::Fits(Layout {
         number,
         prefix,
         length,
@@ -119,64 +119,64 @@ fn page_of(first: u8) -> usize
 }
 
 // The code at a place whose first byte is no carried code of the first page.
-fn look_behind(codes: &CodePages, image: &[u8], at: usize) -> Looked
+fn code_behind_prefix(codes: &CodePages, image: &[u8], at: usize) -> CodeRead
     requires { ⌜
-        (now codes ≡ numbers) × (at < length (now image))
-        × (unpacked (numberAt numbers 0 (getD (now image) at 0)) .carried ≡ false)
+        (now codes ≡ packedPages) × (at < length (now image))
+        × (unpacked (packedAt packedPages 0 (getD (now image) at 0)) .carried ≡ false)
         ⌝ }
-    ensures { λ r. ⌜ r ≡ coded (drop at (now (image .entry))) ⌝ }
+    ensures { λ r. ⌜ r ≡ codeRead (drop at (now (image .entry))) ⌝ }
 {
     let page = page_of(image[at]);
     if page == 0 {
-        return Looked::Uncarried;
+        return CodeRead::Uncarried;
     }
     if image.len() - at <= 1 {
-        return Looked::Short;
+        return CodeRead::Short;
     }
-    let number = number_at(codes, page, image[at + 1]);
+    let number = packed_at(codes, page, image[at + 1]);
     if !is_carried(number) {
-        return Looked::Uncarried;
+        return CodeRead::Uncarried;
     }
-    Looked::Code(number, 1)
+    CodeRead::Code(number, 1)
 }
 
 // The code at a place. Most stand on the first page, where no prefix is a carried code.
-fn look(codes: &CodePages, image: &[u8], at: usize) -> Looked
-    requires { ⌜ (now codes ≡ numbers) × (at < length (now image)) ⌝ }
-    ensures { λ r. ⌜ r ≡ coded (drop at (now (image .entry))) ⌝ }
+fn code_at(codes: &CodePages, image: &[u8], at: usize) -> CodeRead
+    requires { ⌜ (now codes ≡ packedPages) × (at < length (now image)) ⌝ }
+    ensures { λ r. ⌜ r ≡ codeRead (drop at (now (image .entry))) ⌝ }
 {
-    let number = number_at(codes, 0, image[at]);
+    let number = packed_at(codes, 0, image[at]);
     if is_carried(number) {
-        return Looked::Code(number, 0);
+        return CodeRead::Code(number, 0);
     }
-    look_behind(codes, image, at)
+    code_behind_prefix(codes, image, at)
 }
 
-// The frame of what stands at a place of an image, at the widths m and x.
-pub fn frame_at(codes: &CodePages, image: &[u8], at: usize, m: u8, x: u8) -> Framed
-    requires { ⌜ now codes ≡ numbers ⌝ }
-    ensures { λ r. ⌜ r ≡ framed (drop at (now (image .entry))) m x ⌝ }
+// The layout of what stands at a place of an image, at the widths m and x.
+pub fn layout_at(codes: &CodePages, image: &[u8], at: usize, m: u8, x: u8) -> LayoutRead
+    requires { ⌜ now codes ≡ packedPages ⌝ }
+    ensures { λ r. ⌜ r ≡ layoutRead (drop at (now (image .entry))) m x ⌝ }
 {
     if image.len() <= at {
-        return Framed::Short;
+        return LayoutRead::Short;
     }
-    match look(codes, image, at) {
-        Looked::Code(number, prefix) => fit(image.len() - at, prefix, number, m, x),
-        Looked::Uncarried => Framed::Uncarried,
-        Looked::Short => Framed::Short,
+    match code_at(codes, image, at) {
+        CodeRead::Code(number, prefix) => fit(image.len() - at, prefix, number, m, x),
+        CodeRead::Uncarried => LayoutRead::Uncarried,
+        CodeRead::Short => LayoutRead::Short,
     }
 }
 
-// The operand of a frame at a place of an image: the bytes behind the code as one number. Asks that the frame fits, as
+// The operand of a layout at a place of an image: the bytes behind the code as one number. Asks that the layout fits, as
 // one that is read there does, so that no byte is tested.
-pub fn operand_at(image: &[u8], at: usize, frame: Frame) -> u64
-    requires { ⌜ Fitting (length (now image) - at) frame ⌝ }
+pub fn operand_at(image: &[u8], at: usize, layout: Layout) -> u64
+    requires { ⌜ Fitting (length (now image) - at) layout ⌝ }
     ensures { λ r. ⌜
-        (r ≡ spec.operandOf (drop at (now (image .entry))) (frame .prefix) (frame .length)) × (r < 1_099_511_627_776)
+        (r ≡ spec.operandOf (drop at (now (image .entry))) (layout .prefix) (layout .length)) × (r < 1_099_511_627_776)
         ⌝ }
 {
-    let prefix = frame.prefix;
-    let length = frame.length;
+    let prefix = layout.prefix;
+    let length = layout.length;
     let from = at + prefix as usize + 1;
     if from + 6 <= image.len() {
         return low_bytes(six_bytes(image, from), length - prefix - 1);
@@ -185,33 +185,33 @@ pub fn operand_at(image: &[u8], at: usize, frame: Frame) -> u64
     number(&image[from..end])
 }
 
-// The instruction of a frame at a place of an image.
-fn instruction_at(image: &[u8], at: usize, frame: Frame) -> Instruction
-    requires { ⌜ Fitting (length (now image) - at) frame ⌝ }
-    ensures { λ r. ⌜ r ≡ instructionOf (drop at (now (image .entry))) frame ⌝ }
+// The instruction of a layout at a place of an image.
+fn instruction_at(image: &[u8], at: usize, layout: Layout) -> Instruction
+    requires { ⌜ Fitting (length (now image) - at) layout ⌝ }
+    ensures { λ r. ⌜ r ≡ instructionOf (drop at (now (image .entry))) layout ⌝ }
 {
     Instruction {
-        entry: unpack(frame.number),
-        length: frame.length,
-        operand: operand_at(image, at, frame),
+        entry: unpack(layout.number),
+        length: layout.length,
+        operand: operand_at(image, at, layout),
     }
 }
 
 // What stands at a place of an image, at the widths m and x.
 pub fn decode_at(codes: &CodePages, image: &[u8], at: usize, m: u8, x: u8) -> Decoded
-    requires { ⌜ now codes ≡ numbers ⌝ }
+    requires { ⌜ now codes ≡ packedPages ⌝ }
     ensures { λ r. ⌜ r ≡ spec.decode (drop at (now (image .entry))) m x ⌝ }
 {
-    match frame_at(codes, image, at, m, x) {
-        Framed::Fits(frame) => Decoded::Whole(instruction_at(image, at, frame)),
-        Framed::Uncarried => Decoded::NotCarried,
-        Framed::Short => Decoded::CutOff,
+    match layout_at(codes, image, at, m, x) {
+        LayoutRead::Fits(layout) => Decoded::Whole(instruction_at(image, at, layout)),
+        LayoutRead::Uncarried => Decoded::NotCarried,
+        LayoutRead::Short => Decoded::CutOff,
     }
 }
 
 // What the bytes begin with, at the widths m and x: the decoder as a whole, for users of the library.
 pub fn decode(codes: &CodePages, bytes: &[u8], m: u8, x: u8) -> Decoded
-    requires { ⌜ now codes ≡ numbers ⌝ }
+    requires { ⌜ now codes ≡ packedPages ⌝ }
     ensures { λ r. ⌜ r ≡ spec.decode (now (bytes .entry)) m x ⌝ }
 {
     decode_at(codes, bytes, 0, m, x)

@@ -27,11 +27,11 @@ use Rattle.model.specs.Grounds.{AnswersBy, WrongBytes, runGrounds, readGrounds,
 use Rattle.model.specs.MarkList.{marksBy, marksRead, pageBy, pageWritten}
 use Rattle.model.specs.Memory.{memory}
 use Rattle.model.specs.Step.{stopNumber, step}
-use Rattle.model.specs.Run.{Event, withRam, history, endOf, endNumber, completedSteps, callsAmong, played, ran, oneStep}
+use Rattle.model.specs.Run.{Event, withRam, history, endOf, endNumber, completedSteps, callsAmong, executed, ran, oneStep}
 use Rattle.model.specs.Run.{admission, admittedHistory, runHistory, Run, runsFrom}
-use Rattle.model.specs.StateBytes.{stateSize, stateOf, bytesOf}
+use Rattle.model.specs.StateBytes.{stateSize, stateOf, stateBytes}
 use Rattle.model.specs.RunBytes.{asBytes}
-use Rattle.model.specs.Guarantee.{Every, EndsWell, done, stopped, Accounted, admitted, refused}
+use Rattle.model.specs.Guarantee.{Every, EndsWell, done, stopped, RunOutcome, admitted, refused}
 use Rattle.model.proofs.CodeMap.{carried-length}
 use Rattle.model.proofs.Verdict.{accepts-exactly}
 use Rattle.model.proofs.Meaning.{refused-means}
@@ -39,7 +39,7 @@ use Rattle.model.proofs.TestResults.{refusal-range}
 use Rattle.model.proofs.FirstGround.{numbers-by}
 use Rattle.model.proofs.Grounds.{run-bytes-answers, read-answers, write-answers}
 use Rattle.model.proofs.RoundTrips.{read-then-written, written-then-read}
-use Rattle.model.proofs.Run.{stops-leave, played-one}
+use Rattle.model.proofs.Run.{stops-leave, executed-one}
 use Rattle.model.proofs.RunBytes.{bytes-ran, said-left, long-left, taken, refused-leaves, none-leaves}
 use Rattle.model.proofs.Guarantee.{guarantee}
 use Rattle.demands.specs.Calls.{holds, CheckCall, ReadCall, WriteCall, RunCall, numbers, memoryOf, stateGiven}
@@ -173,7 +173,7 @@ module _ (c : RunCall) (zero : numbers c .refusal ≡ 0) where
   -- what is shown of a call that is not refused
   when-taken : {P : Type 0}
       → (runHistory (memoryOf c) (stateGiven c) (c .steps) ≡ history (memoryOf c) (stateGiven c) (c .steps)
-      → ranOf c ≡ asBytes (played (memoryOf c) (stateGiven c) (c .steps)) → P) → P
+      → ranOf c ≡ asBytes (executed (memoryOf c) (stateGiven c) (c .steps)) → P) → P
   when-taken {P} shows = by (ranOf c .answer) refl (run-numbers c)
     where
       by : (a : RunAnswer) → ranOf c .answer ≡ a → numbers c ≡ answerNumbers a → P
@@ -191,13 +191,13 @@ module _ (c : RunCall) (zero : numbers c .refusal ≡ 0) where
 
   one-step : c .steps ≡ 1
       → (numbers c ≡ answerNumbers (oneStep (step (memoryOf c) (stateGiven c)) .answer))
-      × (c .state-left ≡ bytesOf (step (memoryOf c) (stateGiven c) .state))
+      × (c .state-left ≡ stateBytes (step (memoryOf c) (stateGiven c) .state))
       × (c .ram-left ≡ step (memoryOf c) (stateGiven c) .ram)
   one-step one = when-taken (λ same run.
       let m = memoryOf c in
       let s = stateGiven c in
       let stepped : ranOf c ≡ asBytes (oneStep (step m s)) =
-      run ∙ ap (λ n. asBytes (played m s n)) one ∙ ap asBytes (played-one m s) in (
+      run ∙ ap (λ n. asBytes (executed m s n)) one ∙ ap asBytes (executed-one m s) in (
         run-numbers c ∙ ap (λ r. answerNumbers (r .answer)) stepped,
         promised c .state ∙ ap (λ r. r .state) stepped,
         promised c .ram ∙ ap (λ r. r .ram) stepped,
@@ -318,7 +318,7 @@ left c whole =
     }
 
 -- a run that is accounted for, as its call tells it
-told : (c : RunCall) → Long c → Accounted (memoryOf c) (stateGiven c) (c .steps) → RefusedRun c ⊎ EndedRun c
+told : (c : RunCall) → Long c → RunOutcome (memoryOf c) (stateGiven c) (c .steps) → RefusedRun c ⊎ EndedRun c
 told c whole (admitted a kept) =
     let zero : numbers c .refusal ≡ 0 = ap (λ n. n .refusal) answer in
     inr (record { not-refused = zero; ends = by (kept .ends); exactly = by-history c zero })
@@ -364,7 +364,7 @@ module _ (image : List ℕ) (base : ℕ) where
       run-of c = record { ram = holds (c .ram); state = stateGiven c; asked = c .steps }
 
   all-told : (calls : List RunCall) → Every Here calls → Every Long calls
-      → Every (λ r. Accounted (memory (r .ram) image base) (r .state) (r .asked)) (runsOf calls)
+      → Every (λ r. RunOutcome (memory (r .ram) image base) (r .state) (r .asked)) (runsOf calls)
       → Every (λ c. RefusedRun c ⊎ EndedRun c) calls
   all-told [] here long accounted = tt
   all-told (c ∷ rest) here long accounted = (

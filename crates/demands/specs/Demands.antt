@@ -31,7 +31,7 @@ use Rattle.model.specs.Memory.{memory}
 use Rattle.model.specs.Step.{step}
 use Rattle.model.specs.Run.{isCompleted, Event, endOf, completedSteps, callsAmong, stateLeft, ramLeft, oneStep}
 use Rattle.model.specs.Run.{Run, runsFrom, joinedHistory}
-use Rattle.model.specs.StateBytes.{stateSize, stateOf, bytesOf}
+use Rattle.model.specs.StateBytes.{stateSize, stateOf, stateBytes}
 use Rattle.model.specs.RunBytes.{ranBytes}
 use Rattle.model.specs.Guarantee.{Every, Safe, Begins}
 use Rattle.demands.specs.Calls.{AllReturn, NothingAsked, SharedStays, holds, CheckCall, ReadCall, WriteCall}
@@ -86,7 +86,7 @@ pub record RefusedCheck (c : CheckCall) : Type 0 where
 pub record ByHistory (c : RunCall) : Type 0 where
   pub answer : numbers c
       ≡ answerNumbers (RunAnswer.Ended (endOf (historyOf c)) (completedSteps (historyOf c)) (callsAmong (historyOf c)))
-  pub state : c .state-left ≡ bytesOf (stateLeft (stateGiven c) (historyOf c))
+  pub state : c .state-left ≡ stateBytes (stateLeft (stateGiven c) (historyOf c))
   pub ram : c .ram-left ≡ ramLeft (holds (c .ram)) (historyOf c)
 
 -- 'The check accepts an image with its marks exactly when all rules of document 01 are met, and otherwise gives the
@@ -101,7 +101,7 @@ pub record Demand2 : Type 0 where
   -- one step: its answer, and state and RAM after it; then any number of them
   pub one-step : (c : RunCall) → c .steps ≡ 1 → numbers c .refusal ≡ 0
       → (numbers c ≡ answerNumbers (oneStep (step (memoryOf c) (stateGiven c)) .answer))
-      × (c .state-left ≡ bytesOf (step (memoryOf c) (stateGiven c) .state))
+      × (c .state-left ≡ stateBytes (step (memoryOf c) (stateGiven c) .state))
       × (c .ram-left ≡ step (memoryOf c) (stateGiven c) .ram)
   pub each-step : (c : RunCall) → numbers c .refusal ≡ 0 → ByHistory c
   -- 01: 'a carried code has 1 to 6 bytes at each of the four widths'

@@ -26,6 +26,6 @@ chosen-formed mark h =
     eqb→eq (chosen mark) (pick (isFormed mark) 0 1) (below-all (λ k. eqb (chosen k) (pick (isFormed k) 0 1)) 256
     all-same mark h)
 
-pub no-misfit : (b : Bool) → eqb (pick b 0 1) 0 ≡ b
-no-misfit true = refl
-no-misfit false = refl
+pub no-malformed : (b : Bool) → eqb (pick b 0 1) 0 ≡ b
+no-malformed true = refl
+no-malformed false = refl

@@ -59,6 +59,6 @@ module _ (test : ℕ → Bool) where
   all-told-at bad i n told most least = let here : i ≡ n = omega arith in all-told bad n (rw here at told)
 
 -- a misfit is a mark without the form
-pub misfit-unformed : (b : Bool) → _≡_ {A = ℕ} (pick b 0 1) (pick (not b) 1 0)
-misfit-unformed true = refl
-misfit-unformed false = refl
+pub malformed-unformed : (b : Bool) → _≡_ {A = ℕ} (pick b 0 1) (pick (not b) 1 0)
+malformed-unformed true = refl
+malformed-unformed false = refl

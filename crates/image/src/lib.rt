@@ -58,7 +58,7 @@ fn choose(test: bool, yes: u8, no: u8) -> u8
 
 // 1 for a mark that is not of the form, else 0: a byte without a start is 00, bit 7 is 0, kind 3 is unused, kind 0 has
 // no return widths.
-fn misfit(mark: u8) -> u8
+fn malformed(mark: u8) -> u8
     ensures { λ r. ⌜ r ≡ pick (isFormed mark) 0 1 ⌝ }
 {
     let by_kind = choose(
@@ -74,7 +74,7 @@ fn misfit(mark: u8) -> u8
 pub fn is_formed(mark: u8) -> bool
     ensures { λ r. ⌜ r ≡ isFormed mark ⌝ }
 {
-    misfit(mark) == 0
+    malformed(mark) == 0
 }
 
 // An instruction starts at a mark.
@@ -126,7 +126,7 @@ fn all_formed(marks: &[u8]) -> bool
     let mut bad = 0;
     let mut i = 0;
     while i < marks.len() {
-        bad = bad | misfit(marks[i]);
+        bad = bad | malformed(marks[i]);
         i += 1;
     }
     bad == 0

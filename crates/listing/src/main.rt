@@ -1,7 +1,7 @@
 // Writes the listing of the code map: a line for each of the 768 entries (PAGE CODE WORD REGISTER MODE L00 L01 L10 L11
 // CARRIED).
 use codepages::CodePages;
-use codepages::number_at;
+use codepages::packed_at;
 use codepages::pages;
 use decoder::entry_at;
 use decoder::length_at;
@@ -14,7 +14,7 @@ use types::code::Mode;
 use types::code::Operation;
 ghost use mathlib.Core.Path.{_≡_};
 ghost use Prim.Native.Nat.{_<_, _≤_};
-ghost use Rattle.codepages.specs.Packing.{numbers};
+ghost use Rattle.codepages.specs.Packing.{packedPages};
 
 fn say(text: &[u8]) {
     io::write_all(STDOUT_FILENO, text);
@@ -115,7 +115,7 @@ fn is_assigned(operation: Operation) -> bool {
 }
 
 fn say_line(codes: &CodePages, page: usize, code: u8)
-    requires { ⌜ (now codes ≡ numbers) × (page < 3) ⌝ }
+    requires { ⌜ (now codes ≡ packedPages) × (page < 3) ⌝ }
 {
     say_page(page);
     say(b" ");
@@ -124,14 +124,14 @@ fn say_line(codes: &CodePages, page: usize, code: u8)
     let entry = entry_at(codes, page, code);
     let operation = entry.operation;
     if is_assigned(operation) {
-        say_entry(number_at(codes, page, code), entry);
+        say_entry(packed_at(codes, page, code), entry);
     } else {
         say(b" - - - 0 0 0 0 no\n");
     }
 }
 
 fn list_page(codes: &CodePages, page: usize)
-    requires { ⌜ (now codes ≡ numbers) × (page < 3) ⌝ }
+    requires { ⌜ (now codes ≡ packedPages) × (page < 3) ⌝ }
 {
     let mut code: u8 = 0;
     while code < 255 {

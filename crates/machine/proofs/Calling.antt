@@ -10,7 +10,7 @@ use lib.ListN.{getD, set}
 use borrow.Author.Tests.{lt-ltb, le-ltb, eq-eqb, ne-eqb}
 use Rattle.cpu.specs.declared.effects.Effect.{Effect}
 use Rattle.cpu.specs.File.{registersOf}
-use Rattle.cpu.specs.View.{kept, viewed, Placed}
+use Rattle.cpu.specs.CodeEffects.{codeEffect, asEffect, InFile}
 use Rattle.memory.specs.declared.reads.LongRead.{LongRead}
 use Rattle.memory.specs.declared.reads.WordRead.{WordRead}
 use Rattle.memory.specs.declared.stores.Stores.{Stores}
@@ -20,7 +20,7 @@ use Rattle.memory.proofs.Views.{long-done, long-unmapped}
 use Rattle.types.specs.declared.code.Flow.{Flow}
 use Rattle.types.specs.declared.code.Instruction.{Instruction}
 use Rattle.types.specs.declared.code.Kind.{Kind}
-use Rattle.types.specs.declared.machine.Answer.{Answer}
+use Rattle.types.specs.declared.machine.StepAnswer.{StepAnswer}
 use Rattle.types.specs.declared.machine.CallChange.{CallChange}
 use Rattle.types.specs.declared.machine.Core.{Core}
 use Rattle.types.specs.declared.machine.Registers.{Registers}
@@ -30,20 +30,20 @@ use Rattle.model.specs.Addressing.{pulledAt}
 use Rattle.model.specs.Arithmetic.{withS, withStatus}
 use Rattle.model.specs.Effects.{pushedAt}
 use Rattle.types.specs.Addresses.{addressLimit, bankSize, inBankOf}
-use Rattle.model.specs.Memory.{Memory, Act, ret, _>>=_, Outcome, done, unmapped, come, served, stored}
+use Rattle.model.specs.Memory.{Memory, Act, ret, _>>=_, Outcome, done, unmapped, evaluate, served, stored}
 use Rattle.model.specs.Memory.{wordFrom, longFrom}
 use Rattle.model.specs.Rules.{nextAddress, targetAddress, kindNumber}
 use Rattle.types.specs.Status.{statusOf}
 use Rattle.model.specs.Step as spec
-use Rattle.model.specs.Step.{Plan, stops, changes, change, callLimit, kindOf, returnOf, returnBytes, entryOf}
+use Rattle.model.specs.Step.{Plan, stops, changes, change, callLimit, kindOf, returnOf, returnBytes, callRecord}
 use Rattle.model.specs.Step.{Stepped, returnsTo, planBy, widthsAfter}
-use Rattle.model.proofs.Memory.{onDone, come-bind}
+use Rattle.model.proofs.Memory.{onDone, evaluate-bind}
 use Rattle.model.proofs.Step.{pulls-first}
-use Rattle.machine.specs.declared.commit.Turn.{Turn}
+use Rattle.machine.specs.declared.commit.StepResult.{StepResult}
 use Rattle.machine.specs.declared.fetch.Fetched.{Fetched}
 use Rattle.machine.specs.Fetches.{instruction}
-use Rattle.machine.specs.Turns.{coreOf, turn, left, finished, inOwnBank}
-use Rattle.machine.proofs.Turning.{place-kept, stops-so, stops-at-stores, completes}
+use Rattle.machine.specs.StepResults.{coreAt, stepResult, left, finished, inOwnBank}
+use Rattle.machine.proofs.Finishing.{place-kept, stops-so, stops-at-stores, completes}
 
 no-second : (a b : Bool) → b ≡ false → a && b ≡ false
 no-second true b h = h
@@ -51,8 +51,8 @@ no-second false b h = refl
 
 -- the address that a word names in the bank of execution, as the action comes to it
 own-bank : (m : Memory) (place : ℕ) (act : Act ℕ)
-    → inOwnBank place (wordRead (come m act)) ≡ longRead (come m (act >>= (λ a. ret (inBankOf place a))))
-own-bank m place act = by (come m act) ∙ ap longRead (sym (come-bind m act (λ a. ret (inBankOf place a))))
+    → inOwnBank place (wordRead (evaluate m act)) ≡ longRead (evaluate m (act >>= (λ a. ret (inBankOf place a))))
+own-bank m place act = by (evaluate m act) ∙ ap longRead (sym (evaluate-bind m act (λ a. ret (inBankOf place a))))
   where
     by : (o : Outcome ℕ) → inOwnBank place (wordRead o) ≡ longRead (onDone o (λ a. done (inBankOf place a)))
     by (done a) = refl
@@ -64,33 +64,33 @@ module _ (m : Memory) (place depth : ℕ) (file : List ℕ) (i : Fetched) (s fir
     (is-second : second ≡ (s + 2) % bankSize)
   where
     pub pulls-word : (w : WordRead) → place < addressLimit → kind ≡ Kind.ByRts
-        → w ≡ wordRead (come m (wordFrom first second)) → r ≡ inOwnBank place w
-        → r ≡ longRead (come m (spec.pullsReturn (coreOf place depth file) (instruction i) kind))
+        → w ≡ wordRead (evaluate m (wordFrom first second)) → r ≡ inOwnBank place w
+        → r ≡ longRead (evaluate m (spec.pullsReturn (coreAt place depth file) (instruction i) kind))
     pulls-word w h is-kind read e =
         rw (e, read, is-first, is-second, is-s, is-kind)
         (own-bank m place (wordFrom (pulledAt (registersOf file) 1) (pulledAt (registersOf file) 2))
         ∙ ap
         (λ p. longRead
-        (come m
+        (evaluate m
         (wordFrom (pulledAt (registersOf file) 1) (pulledAt (registersOf file) 2) >>= (λ a. ret (inBankOf p a)))))
         (sym (place-kept place depth file h)))
 
     pub pulls-long : kind ≡ Kind.ByRtl → third ≡ (s + 3) % bankSize
-        → r ≡ longRead (come m (longFrom first second third))
-        → r ≡ longRead (come m (spec.pullsReturn (coreOf place depth file) (instruction i) kind))
+        → r ≡ longRead (evaluate m (longFrom first second third))
+        → r ≡ longRead (evaluate m (spec.pullsReturn (coreAt place depth file) (instruction i) kind))
     pulls-long is-kind is-third e = rw (e, is-first, is-second, is-third, is-s, is-kind) refl
 
 -- S put into the file, and the status that was there
-module _ (e : Effect) (v status : ℕ) (is-effect : e ≡ kept 4 v 7 0 status Stores.None false) where
-  pub placed : Placed e
+module _ (e : Effect) (v status : ℕ) (is-effect : e ≡ codeEffect 4 v 7 0 status Stores.None false) where
+  pub placed : InFile e
   placed = rw is-effect (omega arith, omega arith)
 
   pub puts-s : (i : Fetched) (file : List ℕ) (v′ : ℕ) (after : Registers)
-      → after ≡ widthsAfter (instruction i) (registersOf file) (viewed e (registersOf file) .registers) → v ≡ v′
+      → after ≡ widthsAfter (instruction i) (registersOf file) (asEffect e (registersOf file) .registers) → v ≡ v′
       → status ≡ getD file 7 0
       → after ≡ widthsAfter (instruction i) (registersOf file) (withS v′ (registersOf file))
   puts-s i file v′ after h is-v is-status =
-      h ∙ ap (λ k. widthsAfter (instruction i) (registersOf file) (viewed k (registersOf file) .registers)) is-effect
+      h ∙ ap (λ k. widthsAfter (instruction i) (registersOf file) (asEffect k (registersOf file) .registers)) is-effect
       ∙ ap₂
       (λ n p. widthsAfter (instruction i) (registersOf file) (withStatus (statusOf p) (withS n (registersOf file))))
       is-v is-status
@@ -142,27 +142,27 @@ module _ (c : Core) (i : Instruction) where
         (ne-eqb (returnOf opened) address h)) refl
 
   module _ (m : Memory) (opened : ℕ) (kind : Kind) (w : LongRead)
-      (read : w ≡ longRead (come m (spec.pullsReturn c i kind))) where
+      (read : w ≡ longRead (evaluate m (spec.pullsReturn c i kind))) where
     return-unmapped : w ≡ LongRead.Unmapped → stops Stop.Unmapped ≡ planBy c i m opened (Flow.Return kind)
     return-unmapped e =
-        sym (pulls-first m c i opened kind (long-unmapped (come m (spec.pullsReturn c i kind)) w read e))
+        sym (pulls-first m c i opened kind (long-unmapped (evaluate m (spec.pullsReturn c i kind)) w read e))
 
     return-to : (address : ℕ) → w ≡ LongRead.Long address
         → returnsTo c i opened kind address ≡ planBy c i m opened (Flow.Return kind)
     unfolding planBy
-    return-to address e = rw (long-done (come m (spec.pullsReturn c i kind)) w address read e) refl
+    return-to address e = rw (long-done (evaluate m (spec.pullsReturn c i kind)) w address read e) refl
 
 -- the steps, exit by exit
 module _ (i : Fetched) (m : Memory) (place depth : ℕ) (file calls : List ℕ) where
   abbrev core : Core
-  core = coreOf place depth file
+  core = coreAt place depth file
 
   abbrev here : Registers
   here = registersOf file
 
   -- a call
   module _ (kind : Kind) where
-    pub stops-deep : (t : Turn) → t ≡ turn (Answer.Stopped Stop.Deep) place depth → callLimit ≤ depth
+    pub stops-deep : (t : StepResult) → t ≡ stepResult (StepAnswer.Stopped Stop.Deep) place depth → callLimit ≤ depth
         → left t file calls (m .ram) ≡ finished (spec.calls core (instruction i) kind) i m place depth file calls
     stops-deep t e h =
         stops-so i m place depth file calls Stop.Deep (spec.calls core (instruction i) kind) t e
@@ -171,8 +171,8 @@ module _ (i : Fetched) (m : Memory) (place depth : ℕ) (file calls : List ℕ) 
     module _ (next s : ℕ) (stores : Stores) (w : Served) (h : place < addressLimit) (below : depth < callLimit)
         (is-next : next ≡ nextAddress place (i .length)) (is-s : s ≡ here .s)
         (pushed : (place depth : ℕ) (file : List ℕ) (i : Fetched) → s ≡ registersOf file .s
-        → next ≡ spec.next (coreOf place depth file) (instruction i)
-        → listed stores ≡ spec.pushesReturn (coreOf place depth file) (instruction i) kind)
+        → next ≡ spec.next (coreAt place depth file) (instruction i)
+        → listed stores ≡ spec.pushesReturn (coreAt place depth file) (instruction i) kind)
         (tested : w ≡ served m (listed stores))
       where
         next-kept : next ≡ spec.next core (instruction i)
@@ -191,8 +191,8 @@ module _ (i : Fetched) (m : Memory) (place depth : ℕ) (file calls : List ℕ) 
             (e ∙ ap (targetAddress (instruction i)) (sym (place-kept place depth file h))) next-kept
             (pushed place depth file i is-s next-kept))
 
-        pub stops-pushing : (stop : Stop) (t : Turn) → t ≡ turn (Answer.Stopped stop) place depth
-            → w ≡ Served.Refused stop
+        pub stops-pushing : (stop : Stop) (t : StepResult) → t ≡ stepResult (StepAnswer.Stopped stop) place depth
+            → w ≡ Served.Unserved stop
             → left t file calls (m .ram) ≡ finished (spec.calls core (instruction i) kind) i m place depth file calls
         stops-pushing stop t e e′ =
             stops-at-stores i m place depth file calls after (targetAddress (instruction i) place)
@@ -200,9 +200,9 @@ module _ (i : Fetched) (m : Memory) (place depth : ℕ) (file calls : List ℕ) 
             ∙ opened-so (targetAddress (instruction i) place) refl
 
         pub calls-so : (to entry : ℕ) (file′ ram′ : List ℕ) → to ≡ targetAddress (instruction i) place → w ≡ Served.All
-            → entry ≡ entryOf next (kindNumber kind) → registersOf file′ ≡ widthsAfter (instruction i) here after
+            → entry ≡ callRecord next (kindNumber kind) → registersOf file′ ≡ widthsAfter (instruction i) here after
             → ram′ ≡ stored (listed stores) (m .ram)
-            → left (turn Answer.Called to (depth + 1)) file′ (set calls depth entry) ram′
+            → left (stepResult StepAnswer.Called to (depth + 1)) file′ (set calls depth entry) ram′
             ≡ finished (spec.calls core (instruction i) kind) i m place depth file calls
         calls-so to entry file′ ram′ is-to all is-entry same is-ram =
             completes i m place depth file calls after to (CallChange.Open next (kindNumber kind)) (listed stores) file′
@@ -214,18 +214,18 @@ module _ (i : Fetched) (m : Memory) (place depth : ℕ) (file calls : List ℕ) 
     abbrev plan : Plan
     plan = returnsTo core (instruction i) opened kind address
 
-    pub stops-none-open : (t : Turn) → t ≡ turn (Answer.Stopped Stop.Astray) place depth → depth ≡ 0
+    pub stops-none-open : (t : StepResult) → t ≡ stepResult (StepAnswer.Stopped Stop.Astray) place depth → depth ≡ 0
         → left t file calls (m .ram) ≡ finished plan i m place depth file calls
     stops-none-open t e h =
         stops-so i m place depth file calls Stop.Astray plan t e (none-open core (instruction i) opened kind address h)
 
-    pub stops-other-kind : (n : ℕ) (t : Turn) → n ≡ kindNumber kind → t ≡ turn (Answer.Stopped Stop.Astray) place depth
+    pub stops-other-kind : (n : ℕ) (t : StepResult) → n ≡ kindNumber kind → t ≡ stepResult (StepAnswer.Stopped Stop.Astray) place depth
         → (kindOf opened ≡ n → ⊥) → left t file calls (m .ram) ≡ finished plan i m place depth file calls
     stops-other-kind n t is-kind e h =
         stops-so i m place depth file calls Stop.Astray plan t e
         (other-kind core (instruction i) opened kind address n is-kind h)
 
-    pub stops-other-address : (t : Turn) → t ≡ turn (Answer.Stopped Stop.Astray) place depth
+    pub stops-other-address : (t : StepResult) → t ≡ stepResult (StepAnswer.Stopped Stop.Astray) place depth
         → (returnOf opened ≡ address → ⊥)
         → left t file calls (m .ram) ≡ finished plan i m place depth file calls
     stops-other-address t e h =
@@ -235,7 +235,7 @@ module _ (i : Fetched) (m : Memory) (place depth : ℕ) (file calls : List ℕ) 
     pub returns-so : (n : ℕ) (file′ : List ℕ) → n ≡ kindNumber kind → 0 < depth → kindOf opened ≡ n
         → returnOf opened ≡ address
         → registersOf file′ ≡ widthsAfter (instruction i) here (withS (pulledAt here (returnBytes kind)) here)
-        → left (turn Answer.Completed address (depth - 1)) file′ calls (m .ram)
+        → left (stepResult StepAnswer.Completed address (depth - 1)) file′ calls (m .ram)
         ≡ finished plan i m place depth file calls
     returns-so n file′ is-kind below same there e =
         completes i m place depth file calls (withS (pulledAt here (returnBytes kind)) here) address CallChange.Close []
@@ -245,8 +245,8 @@ module _ (i : Fetched) (m : Memory) (place depth : ℕ) (file calls : List ℕ) 
 
   module _ (opened s : ℕ) (kind : Kind) (w : LongRead) (is-s : s ≡ here .s)
       (read : (depth : ℕ) (file : List ℕ) (i : Fetched) → s ≡ registersOf file .s
-      → w ≡ longRead (come m (spec.pullsReturn (coreOf place depth file) (instruction i) kind))) where
-    pub stops-pulling : (t : Turn) → t ≡ turn (Answer.Stopped Stop.Unmapped) place depth → w ≡ LongRead.Unmapped
+      → w ≡ longRead (evaluate m (spec.pullsReturn (coreAt place depth file) (instruction i) kind))) where
+    pub stops-pulling : (t : StepResult) → t ≡ stepResult (StepAnswer.Stopped Stop.Unmapped) place depth → w ≡ LongRead.Unmapped
         → left t file calls (m .ram)
         ≡ finished (planBy core (instruction i) m opened (Flow.Return kind)) i m place depth file calls
     stops-pulling t e e′ =

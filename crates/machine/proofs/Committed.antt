@@ -8,7 +8,7 @@ use lib.Dec.{eqb}
 use lib.ListN.{length, getD, set}
 use Rattle.cpu.specs.declared.effects.Effect.{Effect}
 use Rattle.cpu.specs.File.{registersOf, put, fileSize}
-use Rattle.cpu.specs.View.{viewed, Placed}
+use Rattle.cpu.specs.CodeEffects.{asEffect, InFile}
 use Rattle.cpu.proofs.Files.{put-three}
 use Rattle.types.specs.declared.code.WidthEffect.{WidthEffect}
 use Rattle.model.specs.Arithmetic.{withStatus, withWidths}
@@ -37,13 +37,13 @@ x-at-most WidthEffect.SetBits x operand h = one-of (eqb (operand / 16 % 2) 1) 1 
 x-at-most WidthEffect.ClearBits x operand h = one-of (eqb (operand / 16 % 2) 1) 0 x (omega arith) h
 
 -- two registers and then the status at the widths after its instruction
-pub put-settled : (file : List ℕ) (e : Effect) (i : Fetched) (n : ℕ) → length file ≡ fileSize → Placed e
+pub put-settled : (file : List ℕ) (e : Effect) (i : Fetched) (n : ℕ) → length file ≡ fileSize → InFile e
     → statusOf n
     ≡ withWidths (eqb (mAfter (instruction i .entry .effect) (bit (isSet maskM (getD file 7 0))) (i .operand)) 1)
     (eqb (xAfter (instruction i .entry .effect) (bit (isSet maskX (getD file 7 0))) (i .operand)) 1)
     (statusOf (e .status))
     → registersOf (set (set (set file (e .first) (e .value)) (e .second) (e .other)) 7 n)
-    ≡ widthsAfter (instruction i) (registersOf file) (viewed e (registersOf file) .registers)
+    ≡ widthsAfter (instruction i) (registersOf file) (asEffect e (registersOf file) .registers)
 put-settled file e i n long placed same =
     put-three file (e .first) (e .value) (e .second) (e .other) n long (placed .0) (placed .1)
     ∙ ap (λ s. withStatus s (put (e .second) (e .other) (put (e .first) (e .value) (registersOf file)))) same

@@ -4,4 +4,4 @@ pub mod Committed
 pub mod Fetching
 pub mod Operating
 pub mod Stepping
-pub mod Turning
+pub mod Finishing

@@ -6,42 +6,42 @@ use mathlib.Core.List.{List, []}
 use Prim.Native.Nat.{ℕ, _<_}
 use lib.ListN.{getD}
 use Rattle.actions.specs.Tasks.{unpackedTask}
-use Rattle.actions.specs.Works.{effectBy}
+use Rattle.actions.specs.ActionEffects.{effectBy}
 use Rattle.addressing.specs.declared.reach.DataRead.{DataRead}
 use Rattle.addressing.specs.Found.{dataRead}
 use Rattle.codepages.specs.Packing.{unpacked}
 use Rattle.cpu.specs.declared.effects.Effect.{Effect as Kept}
 use Rattle.cpu.specs.File.{registersOf}
-use Rattle.cpu.specs.View.{viewed, kept}
+use Rattle.cpu.specs.CodeEffects.{asEffect, codeEffect}
 use Rattle.memory.specs.declared.stores.Stores.{Stores}
 use Rattle.memory.specs.Listed.{listed}
 use Rattle.types.specs.declared.code.Accumulator.{Accumulator}
 use Rattle.types.specs.declared.code.DataWidth.{DataWidth}
 use Rattle.types.specs.declared.code.Entry.{Entry}
 use Rattle.types.specs.declared.code.Mode.{Mode}
-use Rattle.types.specs.declared.machine.Access.{Access}
+use Rattle.types.specs.declared.machine.OperandUse.{OperandUse}
 use Rattle.types.specs.declared.machine.Core.{Core}
 use Rattle.types.specs.declared.machine.Data.{Data}
 use Rattle.types.specs.declared.machine.Registers.{Registers}
 use Rattle.types.specs.declared.machine.CallChange.{CallChange}
 use Rattle.types.specs.declared.machine.Stop.{Stop}
-use Rattle.types.specs.declared.machine.Answer.{Answer}
-use Rattle.model.specs.Addressing.{accessOf, isShort, dataOf}
+use Rattle.types.specs.declared.machine.StepAnswer.{StepAnswer}
+use Rattle.model.specs.Addressing.{operandUseOf, isShort, dataOf}
 use Rattle.prelude.specs.Choice.{pick}
 use Rattle.model.specs.Effects.{Effect, effectOf}
 use Rattle.types.specs.Addresses.{addressLimit}
-use Rattle.model.specs.Memory.{Memory, Outcome, done, unmapped, come}
+use Rattle.model.specs.Memory.{Memory, Outcome, done, unmapped, evaluate}
 use Rattle.model.specs.Rules.{nextAddress}
 use Rattle.types.specs.Status.{maskM, maskX, isSet}
 use Rattle.model.specs.Step as spec
 use Rattle.model.specs.Step.{Plan, stops, changes, change, isDecimal, widthsAfter, operates}
 use Rattle.model.proofs.Step.{decimal-first}
 use Rattle.operations.specs.Table.{Does}
-use Rattle.machine.specs.declared.commit.Turn.{Turn}
+use Rattle.machine.specs.declared.commit.StepResult.{StepResult}
 use Rattle.machine.specs.declared.fetch.Fetched.{Fetched}
 use Rattle.machine.specs.Fetches.{instruction}
-use Rattle.machine.specs.Turns.{coreOf, turn, left, finished}
-use Rattle.machine.proofs.Turning.{place-kept, stops-so, completes}
+use Rattle.machine.specs.StepResults.{coreAt, stepResult, left, finished}
+use Rattle.machine.proofs.Finishing.{place-kept, stops-so, completes}
 
 -- a branch that is not taken goes on at the next instruction, and so does what does not branch
 pub not-taken : (branches taken : Bool) (target next to : ℕ) → taken ≡ false → to ≡ next
@@ -63,7 +63,7 @@ plannedBy goes e = changes (change (e .registers) (goes (e .taken)) CallChange.K
 
 module _ (i : Fetched) (m : Memory) (place depth : ℕ) (file : List ℕ) where
   abbrev c : Core
-  c = coreOf place depth file
+  c = coreAt place depth file
 
   abbrev r : Registers
   r = registersOf file
@@ -71,16 +71,16 @@ module _ (i : Fetched) (m : Memory) (place depth : ℕ) (file : List ℕ) where
   abbrev entry : Entry
   entry = unpacked (i .number)
 
-  module _ (goes : Bool → ℕ) (task : ℕ) (access : Access)
+  module _ (goes : Bool → ℕ) (task : ℕ) (access : OperandUse)
       (is-task : Does (entry .accumulator) (entry .operation) task)
       (is-access : access ≡ unpackedTask task .access) (decimal : Bool) (tested : decimal ≡ isDecimal access r) where
-    asked-so : access ≡ accessOf (entry .operation)
+    asked-so : access ≡ operandUseOf (entry .operation)
     asked-so = is-access ∙ is-task .0
 
-    is-tested : isDecimal (accessOf (entry .operation)) r ≡ decimal
+    is-tested : isDecimal (operandUseOf (entry .operation)) r ≡ decimal
     is-tested = ap (λ a. isDecimal a r) (sym asked-so) ∙ sym tested
 
-    pub stops-decimal : decimal ≡ true → (t : Turn) → t ≡ turn (Answer.Stopped Stop.Decimal) place depth
+    pub stops-decimal : decimal ≡ true → (t : StepResult) → t ≡ stepResult (StepAnswer.Stopped Stop.Decimal) place depth
         → (calls : List ℕ)
         → left t file calls (m .ram) ≡ finished (operates c (instruction i) m goes) i m place depth file calls
     stops-decimal h t is-turn calls =
@@ -91,14 +91,14 @@ module _ (i : Fetched) (m : Memory) (place depth : ℕ) (file : List ℕ) where
         (status : ℕ) (is-status : status ≡ getD file 7 0) (by-m : Bool) (is-m : by-m ≡ isSet maskM status)
         (by-x : Bool) (is-x : by-x ≡ isSet maskX status) (short : Bool) (is-short : short ≡ isShort width by-m by-x)
         (mode : Mode) (is-mode : mode ≡ entry .mode) (named : Accumulator) (is-named : named ≡ entry .accumulator)
-        (w : DataRead) (read : w ≡ dataRead (come m (dataOf access mode named r short (i .operand)))) where
+        (w : DataRead) (read : w ≡ dataRead (evaluate m (dataOf access mode named r short (i .operand)))) where
       short-so : short ≡ spec.short c (instruction i)
       short-so = rw (is-short, is-width, is-m, is-x, is-status) refl
 
       abbrev asked : Outcome Data
       asked =
-          come m
-          (dataOf (accessOf (entry .operation)) (entry .mode) (entry .accumulator) r (spec.short c (instruction i))
+          evaluate m
+          (dataOf (operandUseOf (entry .operation)) (entry .mode) (entry .accumulator) r (spec.short c (instruction i))
           (i .operand))
 
       again : w ≡ dataRead asked
@@ -108,7 +108,7 @@ module _ (i : Fetched) (m : Memory) (place depth : ℕ) (file : List ℕ) where
       unfolding operates
       unmapped-plan e = rw (is-tested, h, data-unmapped asked w again e) refl
 
-      pub stops-unmapped : w ≡ DataRead.Unmapped → (t : Turn) → t ≡ turn (Answer.Stopped Stop.Unmapped) place depth
+      pub stops-unmapped : w ≡ DataRead.Unmapped → (t : StepResult) → t ≡ stepResult (StepAnswer.Stopped Stop.Unmapped) place depth
           → (calls : List ℕ)
           → left t file calls (m .ram) ≡ finished (operates c (instruction i) m goes) i m place depth file calls
       stops-unmapped e t is-turn calls =
@@ -117,12 +117,12 @@ module _ (i : Fetched) (m : Memory) (place depth : ℕ) (file : List ℕ) where
 
       module _ (given : Data) (found : w ≡ DataRead.Found given) (inside : place < addressLimit)
           (next : ℕ) (is-next : next ≡ nextAddress place (i .length)) (e : Kept)
-          (is-effect : viewed e r ≡ effectBy mode short (i .operand) next given file (unpackedTask task))
+          (is-effect : asEffect e r ≡ effectBy mode short (i .operand) next given file (unpackedTask task))
           (to : ℕ) (is-to : to ≡ goes (e .taken)) where
         next-so : next ≡ spec.next c (instruction i)
         next-so = is-next ∙ ap (λ n. nextAddress n (i .length)) (sym (place-kept place depth file inside))
 
-        effect-so : viewed e r
+        effect-so : asEffect e r
             ≡ effectOf (entry .mode) (entry .accumulator) (spec.short c (instruction i)) (i .operand)
             (spec.next c (instruction i)) given r (entry .operation)
         effect-so =
@@ -130,20 +130,20 @@ module _ (i : Fetched) (m : Memory) (place depth : ℕ) (file : List ℕ) where
             ∙ is-task .1 mode short (i .operand) next given file
             ∙ rw (is-mode, short-so, next-so) refl
 
-        works-so : changes (change (viewed e r .registers) to CallChange.Keep (listed (e .stores)))
+        works-so : changes (change (asEffect e r .registers) to CallChange.Keep (listed (e .stores)))
             ≡ spec.works c (instruction i) goes given
         works-so =
-            ap (λ n. changes (change (viewed e r .registers) n CallChange.Keep (listed (e .stores)))) is-to
+            ap (λ n. changes (change (asEffect e r .registers) n CallChange.Keep (listed (e .stores)))) is-to
             ∙ ap (plannedBy goes) effect-so
 
-        worked-plan : changes (change (viewed e r .registers) to CallChange.Keep (listed (e .stores)))
+        worked-plan : changes (change (asEffect e r .registers) to CallChange.Keep (listed (e .stores)))
             ≡ operates c (instruction i) m goes
         unfolding operates
         worked-plan = rw (is-tested, h, data-done asked w given again found) works-so
 
-        pub works-on : (t : Turn) (file′ ram′ : List ℕ)
+        pub works-on : (t : StepResult) (file′ ram′ : List ℕ)
             → ((calls : List ℕ) → left t file′ calls ram′
-            ≡ finished (changes (change (viewed e r .registers) to CallChange.Keep (listed (e .stores)))) i m place
+            ≡ finished (changes (change (asEffect e r .registers) to CallChange.Keep (listed (e .stores)))) i m place
             depth file calls)
             → (calls : List ℕ)
             → left t file′ calls ram′ ≡ finished (operates c (instruction i) m goes) i m place depth file calls
@@ -151,12 +151,12 @@ module _ (i : Fetched) (m : Memory) (place depth : ℕ) (file : List ℕ) where
             finishes calls ∙ ap (λ p. finished p i m place depth file calls) worked-plan
 
   -- a jump leaves the registers but for the widths
-  pub jumped : (e : Kept) → e ≡ kept 7 0 7 0 (getD file 7 0) Stores.None false
-      → (file′ : List ℕ) → registersOf file′ ≡ widthsAfter (instruction i) r (viewed e r .registers)
+  pub jumped : (e : Kept) → e ≡ codeEffect 7 0 7 0 (getD file 7 0) Stores.None false
+      → (file′ : List ℕ) → registersOf file′ ≡ widthsAfter (instruction i) r (asEffect e r .registers)
       → (to target : ℕ) → to ≡ target → (calls : List ℕ)
-      → left (turn Answer.Completed to depth) file′ calls (m .ram)
+      → left (stepResult StepAnswer.Completed to depth) file′ calls (m .ram)
       ≡ finished (changes (change r target CallChange.Keep [])) i m place depth file calls
   jumped e is-effect file′ same to target is-to calls =
-      ap (λ n. left (turn Answer.Completed n depth) file′ calls (m .ram)) is-to
+      ap (λ n. left (stepResult StepAnswer.Completed n depth) file′ calls (m .ram)) is-to
       ∙ completes i m place depth file calls r target CallChange.Keep [] file′ calls (m .ram) refl
-      (same ∙ ap (λ k. widthsAfter (instruction i) r (viewed k r .registers)) is-effect) refl refl
+      (same ∙ ap (λ k. widthsAfter (instruction i) r (asEffect k r .registers)) is-effect) refl refl

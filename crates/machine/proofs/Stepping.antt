@@ -18,25 +18,25 @@ use Rattle.types.specs.declared.code.Instruction.{Instruction}
 use Rattle.types.specs.declared.machine.CallChange.{CallChange}
 use Rattle.types.specs.declared.machine.Core.{Core}
 use Rattle.types.specs.declared.machine.Stop.{Stop}
-use Rattle.types.specs.declared.machine.Answer.{Answer}
+use Rattle.types.specs.declared.machine.StepAnswer.{StepAnswer}
 use Rattle.prelude.specs.Choice.{pick}
 use Rattle.types.specs.Addresses.{addressLimit}
 use Rattle.model.specs.Memory.{Memory}
 use Rattle.model.specs.Rules.{nextAddress, targetAddress}
 use Rattle.model.specs.Step.{Plan, Stepped, stops, changes, change, operates, calls, planBy, fetched, onDecoded, step}
-use Rattle.machine.specs.declared.commit.Turn.{Turn}
+use Rattle.machine.specs.declared.commit.StepResult.{StepResult}
 use Rattle.machine.specs.declared.fetch.Fetched.{Fetched}
 use Rattle.machine.specs.declared.fetch.Fetch.{Fetch}
 use Rattle.machine.specs.Fetches.{instruction, decodedAs, isBranch}
-use Rattle.machine.specs.Turns.{state, coreOf, turn, left, finished, goesBy}
-use Rattle.machine.proofs.Turning.{place-kept, core-kept}
+use Rattle.machine.specs.StepResults.{state, coreAt, stepResult, left, finished, goesBy}
+use Rattle.machine.proofs.Finishing.{place-kept, core-kept}
 
 past-keys : (tag : ℕ) → 1 < tag → OneOf (0 ∷ 1 ∷ []) tag → ⊥
 past-keys tag past h = ⊎-elim (λ e. omega arith) (λ e. omega arith) h
 
 module _ (i : Fetched) (m : Memory) (place depth : ℕ) (file opens : List ℕ) (inside : place < addressLimit) where
   abbrev c : Core
-  c = coreOf place depth file
+  c = coreAt place depth file
 
   abbrev there : Instruction
   there = instruction i
@@ -101,7 +101,7 @@ module _ (i : Fetched) (m : Memory) (place depth : ℕ) (file opens : List ℕ) 
         → after ≡ onDecoded (Decoded.Whole there) m (state c opens)
     by-return kind last e e′ e″ = by-plan (planBy c there m last (Flow.Return kind)) e″ (rw (e, e′) refl)
 
-    pub by-halt : (t : Turn) → flow ≡ Flow.Halt → t ≡ turn (Answer.Stopped Stop.Halt) place depth
+    pub by-halt : (t : StepResult) → flow ≡ Flow.Halt → t ≡ stepResult (StepAnswer.Stopped Stop.Halt) place depth
         → after ≡ left t file opens (m .ram)
         → after ≡ onDecoded (Decoded.Whole there) m (state c opens)
     unfolding planBy
@@ -112,11 +112,11 @@ module _ (i : Fetched) (m : Memory) (place depth : ℕ) (file opens : List ℕ) 
 
 module _ (m : Memory) (place depth : ℕ) (file opens : List ℕ) (found : Fetch) where
   abbrev here : Core
-  here = coreOf (place % addressLimit) depth file
+  here = coreAt (place % addressLimit) depth file
 
   module _ (is-fetched : decodedAs found ≡ fetched m here) (after : Stepped) where
     by-fetch : after ≡ onDecoded (decodedAs found) m (state here opens)
-        → after ≡ step m (state (coreOf place depth file) opens)
+        → after ≡ step m (state (coreAt place depth file) opens)
     unfolding step
     by-fetch e =
         e ∙ ap (λ d. onDecoded d m (state here opens)) is-fetched
@@ -124,13 +124,13 @@ module _ (m : Memory) (place depth : ℕ) (file opens : List ℕ) (found : Fetch
 
     pub step-whole : (i : Fetched) → found ≡ Fetch.Whole i
         → after ≡ onDecoded (Decoded.Whole (instruction i)) m (state here opens)
-        → after ≡ step m (state (coreOf place depth file) opens)
+        → after ≡ step m (state (coreAt place depth file) opens)
     step-whole i e e′ = by-fetch (rw e e′)
 
-    pub step-uncarried : (t : Turn) → found ≡ Fetch.NotCarried → t ≡ turn (Answer.Stopped Stop.Uncarried) place depth
-        → after ≡ left t file opens (m .ram) → after ≡ step m (state (coreOf place depth file) opens)
+    pub step-uncarried : (t : StepResult) → found ≡ Fetch.NotCarried → t ≡ stepResult (StepAnswer.Stopped Stop.Uncarried) place depth
+        → after ≡ left t file opens (m .ram) → after ≡ step m (state (coreAt place depth file) opens)
     step-uncarried t e e′ e″ = by-fetch (rw (e, e″, e′, core-kept place depth file) refl)
 
-    pub step-outside : (t : Turn) → found ≡ Fetch.CutOff → t ≡ turn (Answer.Stopped Stop.Outside) place depth
-        → after ≡ left t file opens (m .ram) → after ≡ step m (state (coreOf place depth file) opens)
+    pub step-outside : (t : StepResult) → found ≡ Fetch.CutOff → t ≡ stepResult (StepAnswer.Stopped Stop.Outside) place depth
+        → after ≡ left t file opens (m .ram) → after ≡ step m (state (coreAt place depth file) opens)
     step-outside t e e′ e″ = by-fetch (rw (e, e″, e′, core-kept place depth file) refl)

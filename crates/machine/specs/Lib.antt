@@ -1,2 +1,2 @@
 pub mod Fetches
-pub mod Turns
+pub mod StepResults

@@ -11,9 +11,9 @@ use memory::stores::served_all;
 use memory::stores::write;
 use successors::widths::m_after;
 use successors::widths::x_after;
-use types::machine::Answer;
 use types::machine::Served;
 use types::machine::Status;
+use types::machine::StepAnswer;
 use types::machine::Stop;
 ghost use mathlib.Core.Path.{_≡_};
 ghost use mathlib.Core.List.{List};
@@ -21,9 +21,9 @@ ghost use Prim.Native.Nat.{ℕ};
 ghost use lib.Dec.{eqb};
 ghost use lib.ListN.{length};
 ghost use Rattle.cpu.specs.File.{registersOf, fileSize};
-ghost use Rattle.cpu.specs.View.{viewed, Placed};
+ghost use Rattle.cpu.specs.CodeEffects.{asEffect, InFile};
 ghost use Rattle.memory.specs.Listed.{listed};
-ghost use Rattle.types.specs.declared.machine.Answer.{Answer};
+ghost use Rattle.types.specs.declared.machine.StepAnswer.{StepAnswer};
 ghost use Rattle.types.specs.declared.machine.CallChange.{CallChange};
 ghost use Rattle.model.specs.Arithmetic.{withWidths};
 ghost use Rattle.model.specs.Memory.{memory};
@@ -32,21 +32,21 @@ ghost use Rattle.types.specs.Status.{maskM, maskX, isSet, statusOf};
 ghost use Rattle.prelude.specs.Choice.{bit};
 ghost use Rattle.model.specs.Step as spec;
 ghost use Rattle.machine.specs.Fetches.{instruction};
-ghost use Rattle.machine.specs.Turns.{turn, left, finished};
+ghost use Rattle.machine.specs.StepResults.{turn, left, finished};
 
 // How a step ended, the place of execution after it, and how many calls are open then.
-pub struct Turn {
-    pub answer: Answer,
+pub struct StepResult {
+    pub answer: StepAnswer,
     pub place: u32,
     pub depth: usize,
 }
 
 // A step that stopped.
-pub(crate) fn stopped(stop: Stop, place: u32, depth: usize) -> Turn
-    ensures { λ r. ⌜ r ≡ turn (Answer.Stopped stop) place depth ⌝ }
+pub(crate) fn stopped(stop: Stop, place: u32, depth: usize) -> StepResult
+    ensures { λ r. ⌜ r ≡ turn (StepAnswer.Stopped stop) place depth ⌝ }
 {
-    Turn {
-        answer: Answer::Stopped(stop),
+    StepResult {
+        answer: StepAnswer::Stopped(stop),
         place,
         depth,
     }
@@ -72,11 +72,11 @@ fn settled(i: Fetched, before: u16, after: u16) -> u16
 
 // The registers after an instruction.
 pub(crate) fn put(registers: &mut [u16; FILE_SIZE], i: Fetched, effect: Effect)
-    requires { ⌜ (length (now registers) ≡ fileSize) × Placed effect ⌝ }
+    requires { ⌜ (length (now registers) ≡ fileSize) × InFile effect ⌝ }
     ensures { λ _. ⌜
         (registersOf (now (registers .exit))
         ≡ spec.widthsAfter (instruction i) (registersOf (now (registers .entry)))
-        (viewed effect (registersOf (now (registers .entry))) .registers))
+        (asEffect effect (registersOf (now (registers .entry))) .registers))
         × (length (now (registers .exit)) ≡ fileSize)
         ⌝ }
 {
@@ -99,13 +99,13 @@ pub(crate) fn finish(
     depth: usize,
     registers: &mut [u16; FILE_SIZE],
     ram: &mut [u8],
-) -> Turn
-    requires { ⌜ (length (now registers) ≡ fileSize) × Placed effect ⌝ }
+) -> StepResult
+    requires { ⌜ (length (now registers) ≡ fileSize) × InFile effect ⌝ }
     ensures { λ r. ⌜
         ((calls : List ℕ) → left r (now (registers .exit)) calls (now (ram .exit))
         ≡ finished
         (spec.changes
-        (spec.change (viewed effect (registersOf (now (registers .entry))) .registers) to CallChange.Keep
+        (spec.change (asEffect effect (registersOf (now (registers .entry))) .registers) to CallChange.Keep
         (listed (effect .stores))))
         i (memory (now (ram .entry)) (now (image .entry)) base) place depth (now (registers .entry)) calls)
         × (length (now (registers .exit)) ≡ fileSize)
@@ -113,13 +113,13 @@ pub(crate) fn finish(
 {
     let stores = effect.stores;
     let served = served_all(ram, image, base, stores);
-    if let Served::Refused(stop) = served {
+    if let Served::Unserved(stop) = served {
         return stopped(stop, place, depth);
     }
     write(ram, stores);
     put(registers, i, effect);
-    Turn {
-        answer: Answer::Completed,
+    StepResult {
+        answer: StepAnswer::Completed,
         place: to,
         depth,
     }

@@ -1,15 +1,15 @@
 // The instruction at the place of execution.
 use codepages::CodePages;
 use cpu::flags::bit_at;
-use decoder::Framed;
-use decoder::frame_at;
+use decoder::LayoutRead;
+use decoder::layout_at;
 use decoder::operand_at;
 use types::machine::Status;
 ghost use mathlib.Core.Path.{_≡_};
 ghost use mathlib.Core.List.{List};
 ghost use Prim.Native.Nat.{ℕ, _+_, _≤_};
 ghost use lib.ListN.{length};
-ghost use Rattle.codepages.specs.Packing.{numbers};
+ghost use Rattle.codepages.specs.Packing.{packedPages};
 ghost use Rattle.types.specs.declared.machine.Core.{Core};
 ghost use Rattle.types.specs.Addresses.{addressLimit};
 ghost use Rattle.model.specs.Image.{imageLimit};
@@ -34,7 +34,7 @@ pub(crate) enum Fetch {
 // What stands at a place, at the widths of a status. RAM has no part in it.
 pub(crate) fn fetch_at(codes: &CodePages, image: &[u8], base: u32, place: u32, status: u16) -> Fetch
     requires { ⌜
-        (now codes ≡ numbers) × (base + length (now image) ≤ addressLimit)
+        (now codes ≡ packedPages) × (base + length (now image) ≤ addressLimit)
         × (length (now image) ≤ imageLimit)
         ⌝ }
     ensures { λ r. ⌜
@@ -49,13 +49,13 @@ pub(crate) fn fetch_at(codes: &CodePages, image: &[u8], base: u32, place: u32, s
     let at = (place - base) as usize;
     let m = bit_at(Status::M, status);
     let x = bit_at(Status::X, status);
-    match frame_at(codes, image, at, m, x) {
-        Framed::Fits(frame) => Fetch::Whole(Fetched {
-            number: frame.number,
-            length: frame.length,
-            operand: operand_at(image, at, frame),
+    match layout_at(codes, image, at, m, x) {
+        LayoutRead::Fits(layout) => Fetch::Whole(Fetched {
+            number: layout.number,
+            length: layout.length,
+            operand: operand_at(image, at, layout),
         }),
-        Framed::Uncarried => Fetch::NotCarried,
-        Framed::Short => Fetch::CutOff,
+        LayoutRead::Uncarried => Fetch::NotCarried,
+        LayoutRead::Short => Fetch::CutOff,
     }
 }

@@ -1,11 +1,11 @@
 // What a step does by its flow: operations, jumps and calls.
-use crate::commit::Turn;
+use crate::commit::StepResult;
 use crate::commit::finish;
 use crate::commit::put;
 use crate::commit::stopped;
 use crate::fetch::Fetched;
 use actions::effect_by;
-use actions::tasks::access_of;
+use actions::tasks::operand_use_of;
 use addressing::access::is_short;
 use addressing::reach::DataRead;
 use addressing::reach::data_of;
@@ -31,12 +31,12 @@ use successors::next_address;
 use successors::target_of;
 use types::addresses::BANK_SIZE;
 use types::code::Kind;
-use types::machine::Access;
-use types::machine::Answer;
 use types::machine::CALL_LIMIT;
-use types::machine::ENTRY_UNIT;
+use types::machine::OperandUse;
+use types::machine::RECORD_UNIT;
 use types::machine::Served;
 use types::machine::Status;
+use types::machine::StepAnswer;
 use types::machine::Stop;
 ghost use mathlib.Core.Path.{_≡_};
 ghost use mathlib.Core.List.{List, []};
@@ -51,7 +51,7 @@ ghost use Rattle.model.specs.Rules.{targetAddress, kindNumber};
 ghost use Rattle.model.specs.Step as spec;
 ghost use Rattle.operations.specs.Table.{Tasked};
 ghost use Rattle.machine.specs.Fetches.{instruction, Bounded};
-ghost use Rattle.machine.specs.Turns.{coreOf, left, finished, goesBy};
+ghost use Rattle.machine.specs.StepResults.{coreAt, left, finished, goesBy};
 
 // Where an instruction goes by its target.
 fn target(i: Fetched, place: u32) -> u32
@@ -75,15 +75,15 @@ fn goes(branches: bool, taken: bool, i: Fetched, place: u32) -> u32
 }
 
 // ADC and SBC with D=1.
-fn is_decimal(access: Access, registers: &[u16; FILE_SIZE]) -> bool
+fn is_decimal(access: OperandUse, registers: &[u16; FILE_SIZE]) -> bool
     ensures { λ r. ⌜ r ≡ spec.isDecimal access (registersOf (now (registers .entry))) ⌝ }
 {
     match access {
-        Access::Operand => false,
-        Access::Addend => is_set(Status::D, registers[PS]),
-        Access::Address => false,
-        Access::Pull => false,
-        Access::DirectWord => false,
+        OperandUse::Operand => false,
+        OperandUse::Addend => is_set(Status::D, registers[PS]),
+        OperandUse::Address => false,
+        OperandUse::Pull => false,
+        OperandUse::DirectWord => false,
     }
 }
 
@@ -98,21 +98,21 @@ pub(crate) fn operates(
     depth: usize,
     registers: &mut [u16; FILE_SIZE],
     ram: &mut [u8],
-) -> Turn
+) -> StepResult
     requires { ⌜
         Tasked (now tasks) × (place < addressLimit) × Bounded i × (length (now registers) ≡ fileSize)
         ⌝ }
     ensures { λ r. ⌜
         ((calls : List ℕ) → left r (now (registers .exit)) calls (now (ram .exit))
         ≡ finished
-        (spec.operates (coreOf place depth (now (registers .entry))) (instruction i)
+        (spec.operates (coreAt place depth (now (registers .entry))) (instruction i)
         (memory (now (ram .entry)) (now (image .entry)) base) (goesBy branches i place))
         i (memory (now (ram .entry)) (now (image .entry)) base) place depth (now (registers .entry)) calls)
         × (length (now (registers .exit)) ≡ fileSize)
         ⌝ }
 {
     let task = task_at(tasks, i.number);
-    let access = access_of(task);
+    let access = operand_use_of(task);
     if is_decimal(access, registers) {
         return stopped(Stop::Decimal, place, depth);
     }
@@ -145,7 +145,12 @@ pub(crate) fn operates(
 }
 
 // A jump.
-pub(crate) fn jumps(i: Fetched, place: u32, depth: usize, registers: &mut [u16; FILE_SIZE]) -> Turn
+pub(crate) fn jumps(
+    i: Fetched,
+    place: u32,
+    depth: usize,
+    registers: &mut [u16; FILE_SIZE],
+) -> StepResult
     requires { ⌜ (place < addressLimit) × Bounded i × (length (now registers) ≡ fileSize) ⌝ }
     ensures { λ r. ⌜
         ((m : Memory) (calls : List ℕ) → left r (now (registers .exit)) calls (m .ram)
@@ -158,8 +163,8 @@ pub(crate) fn jumps(i: Fetched, place: u32, depth: usize, registers: &mut [u16; 
 {
     let status = registers[PS];
     put(registers, i, leaves(status));
-    Turn {
-        answer: Answer::Completed,
+    StepResult {
+        answer: StepAnswer::Completed,
         place: target(i, place),
         depth,
     }
@@ -179,8 +184,8 @@ pub(crate) fn return_bytes(kind: Kind) -> u16
 fn pushes_return(s: u16, next: u32, kind: Kind) -> Stores
     ensures { λ r. ⌜
         ((place depth : ℕ) (file : List ℕ) (i : Fetched) → s ≡ registersOf file .s
-        → next ≡ spec.next (coreOf place depth file) (instruction i)
-        → listed r ≡ spec.pushesReturn (coreOf place depth file) (instruction i) kind)
+        → next ≡ spec.next (coreAt place depth file) (instruction i)
+        → listed r ≡ spec.pushesReturn (coreAt place depth file) (instruction i) kind)
         ⌝ }
 {
     let address = next as u64;
@@ -199,9 +204,9 @@ fn pushes_return(s: u16, next: u32, kind: Kind) -> Stores
 
 // The entry of an open call.
 fn entry_of(address: u32, kind: Kind) -> u64
-    ensures { λ r. ⌜ r ≡ spec.entryOf address (kindNumber kind) ⌝ }
+    ensures { λ r. ⌜ r ≡ spec.callRecord address (kindNumber kind) ⌝ }
 {
-    address as u64 + ENTRY_UNIT * kind_number(kind) as u64
+    address as u64 + RECORD_UNIT * kind_number(kind) as u64
 }
 
 // A call, unless too many are open or its pushes are not served.
@@ -215,13 +220,13 @@ pub(crate) fn calls_to(
     registers: &mut [u16; FILE_SIZE],
     calls: &mut [u64; CALL_LIMIT],
     ram: &mut [u8],
-) -> Turn
+) -> StepResult
     requires { ⌜
         (place < addressLimit) × Bounded i × (length (now registers) ≡ fileSize) × (depth ≤ spec.callLimit)
         ⌝ }
     ensures { λ r. ⌜
         (left r (now (registers .exit)) (now (calls .exit)) (now (ram .exit))
-        ≡ finished (spec.calls (coreOf place depth (now (registers .entry))) (instruction i) kind) i
+        ≡ finished (spec.calls (coreAt place depth (now (registers .entry))) (instruction i) kind) i
         (memory (now (ram .entry)) (now (image .entry)) base) place depth (now (registers .entry)) (now (calls .entry)))
         × (length (now (registers .exit)) ≡ fileSize)
         ⌝ }
@@ -233,7 +238,7 @@ pub(crate) fn calls_to(
     let s = registers[S];
     let stores = pushes_return(s, next, kind);
     let served = served_all(ram, image, base, stores);
-    if let Served::Refused(stop) = served {
+    if let Served::Unserved(stop) = served {
         return stopped(stop, place, depth);
     }
     write(ram, stores);
@@ -244,8 +249,8 @@ pub(crate) fn calls_to(
         i,
         puts(S, pushed_at(s, return_bytes(kind)), status),
     );
-    Turn {
-        answer: Answer::Called,
+    StepResult {
+        answer: StepAnswer::Called,
         place: target(i, place),
         depth: depth + 1,
     }

@@ -1,5 +1,5 @@
 // What a return does: the pulls, then whether it goes astray.
-use crate::commit::Turn;
+use crate::commit::StepResult;
 use crate::commit::put;
 use crate::commit::stopped;
 use crate::fetch::Fetched;
@@ -16,8 +16,8 @@ use memory::reads::word_from;
 use successors::kind_number;
 use types::addresses::in_bank_of;
 use types::code::Kind;
-use types::machine::Answer;
-use types::machine::ENTRY_UNIT;
+use types::machine::RECORD_UNIT;
+use types::machine::StepAnswer;
 use types::machine::Stop;
 ghost use mathlib.Core.Path.{_≡_};
 ghost use mathlib.Core.List.{List};
@@ -27,10 +27,10 @@ ghost use Rattle.cpu.specs.File.{registersOf, fileSize};
 ghost use Rattle.memory.specs.Reads.{longRead};
 ghost use Rattle.types.specs.declared.code.Flow.{Flow};
 ghost use Rattle.types.specs.Addresses.{addressLimit};
-ghost use Rattle.model.specs.Memory.{Memory, memory, come};
+ghost use Rattle.model.specs.Memory.{Memory, memory, evaluate};
 ghost use Rattle.model.specs.Step as spec;
 ghost use Rattle.machine.specs.Fetches.{instruction};
-ghost use Rattle.machine.specs.Turns.{coreOf, left, finished, inOwnBank};
+ghost use Rattle.machine.specs.StepResults.{coreAt, left, finished, inOwnBank};
 
 // A word as an address of the bank of execution.
 fn in_own_bank(place: u32, read: WordRead) -> LongRead
@@ -50,8 +50,8 @@ fn pulls_return(ram: &[u8], image: &[u8], base: u32, s: u16, place: u32, kind: K
         ((depth : ℕ) (file : List ℕ) (i : Fetched) → s ≡ registersOf file .s
         → r
         ≡ longRead
-        (come (memory (now (ram .entry)) (now (image .entry)) base)
-        (spec.pullsReturn (coreOf place depth file) (instruction i) kind)))
+        (evaluate (memory (now (ram .entry)) (now (image .entry)) base)
+        (spec.pullsReturn (coreAt place depth file) (instruction i) kind)))
         ⌝ }
 {
     let first = pulled_at(s, 1) as u64;
@@ -72,12 +72,12 @@ fn returns_to(
     place: u32,
     depth: usize,
     registers: &mut [u16; FILE_SIZE],
-) -> Turn
+) -> StepResult
     requires { ⌜ length (now registers) ≡ fileSize ⌝ }
     ensures { λ r. ⌜
         ((m : Memory) (calls : List ℕ) → left r (now (registers .exit)) calls (m .ram)
         ≡ finished
-        (spec.returnsTo (coreOf place depth (now (registers .entry))) (instruction i) opened kind address)
+        (spec.returnsTo (coreAt place depth (now (registers .entry))) (instruction i) opened kind address)
         i m place depth (now (registers .entry)) calls)
         × (length (now (registers .exit)) ≡ fileSize)
         ⌝ }
@@ -85,17 +85,17 @@ fn returns_to(
     if depth == 0 {
         return stopped(Stop::Astray, place, depth);
     }
-    if opened / ENTRY_UNIT % 256 != kind_number(kind) as u64 {
+    if opened / RECORD_UNIT % 256 != kind_number(kind) as u64 {
         return stopped(Stop::Astray, place, depth);
     }
-    if opened % ENTRY_UNIT != address as u64 {
+    if opened % RECORD_UNIT != address as u64 {
         return stopped(Stop::Astray, place, depth);
     }
     let s = pulled_at(registers[S], return_bytes(kind));
     let status = registers[PS];
     put(registers, i, puts(S, s, status));
-    Turn {
-        answer: Answer::Completed,
+    StepResult {
+        answer: StepAnswer::Completed,
         place: address,
         depth: depth - 1,
     }
@@ -112,12 +112,12 @@ pub(crate) fn returns(
     depth: usize,
     registers: &mut [u16; FILE_SIZE],
     ram: &[u8],
-) -> Turn
+) -> StepResult
     requires { ⌜ (place < addressLimit) × (length (now registers) ≡ fileSize) ⌝ }
     ensures { λ r. ⌜
         ((calls : List ℕ) → left r (now (registers .exit)) calls (now (ram .entry))
         ≡ finished
-        (spec.planBy (coreOf place depth (now (registers .entry))) (instruction i)
+        (spec.planBy (coreAt place depth (now (registers .entry))) (instruction i)
         (memory (now (ram .entry)) (now (image .entry)) base) opened (Flow.Return kind))
         i (memory (now (ram .entry)) (now (image .entry)) base) place depth (now (registers .entry)) calls)
         × (length (now (registers .exit)) ≡ fileSize)

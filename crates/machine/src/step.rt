@@ -1,5 +1,5 @@
 // One step: what is fetched goes by its flow.
-use crate::commit::Turn;
+use crate::commit::StepResult;
 use crate::commit::stopped;
 use crate::fetch::Fetch;
 use crate::fetch::Fetched;
@@ -20,7 +20,7 @@ use types::machine::Stop;
 ghost use mathlib.Core.Path.{_≡_};
 ghost use Prim.Native.Nat.{_+_, _-_, _≤_, _<_};
 ghost use lib.ListN.{length, getD};
-ghost use Rattle.codepages.specs.Packing.{numbers};
+ghost use Rattle.codepages.specs.Packing.{packedPages};
 ghost use Rattle.cpu.specs.File.{fileSize};
 ghost use Rattle.types.specs.declared.code.Decoded.{Decoded};
 ghost use Rattle.types.specs.Addresses.{addressLimit};
@@ -29,7 +29,7 @@ ghost use Rattle.model.specs.Memory.{memory};
 ghost use Rattle.model.specs.Step as spec;
 ghost use Rattle.operations.specs.Table.{Tasked};
 ghost use Rattle.machine.specs.Fetches.{instruction, Bounded, isBranch};
-ghost use Rattle.machine.specs.Turns.{state, coreOf, left};
+ghost use Rattle.machine.specs.StepResults.{state, coreAt, left};
 
 fn is_branch(flow: Flow) -> bool
     ensures { λ r. ⌜ r ≡ isBranch flow ⌝ }
@@ -66,7 +66,7 @@ fn perform(
     registers: &mut [u16; FILE_SIZE],
     calls: &mut [u64; CALL_LIMIT],
     ram: &mut [u8],
-) -> Turn
+) -> StepResult
     requires { ⌜
         Tasked (now tasks) × (place < addressLimit) × Bounded i × (length (now registers) ≡ fileSize)
         × (depth ≤ spec.callLimit)
@@ -74,7 +74,7 @@ fn perform(
     ensures { λ r. ⌜
         (left r (now (registers .exit)) (now (calls .exit)) (now (ram .exit))
         ≡ spec.onDecoded (Decoded.Whole (instruction i)) (memory (now (ram .entry)) (now (image .entry)) base)
-        (state (coreOf place depth (now (registers .entry))) (now (calls .entry))))
+        (state (coreAt place depth (now (registers .entry))) (now (calls .entry))))
         × (length (now (registers .exit)) ≡ fileSize)
         ⌝ }
 {
@@ -115,15 +115,15 @@ pub fn step_in(
     registers: &mut [u16; FILE_SIZE],
     calls: &mut [u64; CALL_LIMIT],
     ram: &mut [u8],
-) -> Turn
+) -> StepResult
     requires { ⌜
-        (now codes ≡ numbers) × Tasked (now tasks) × (base + length (now image) ≤ addressLimit)
+        (now codes ≡ packedPages) × Tasked (now tasks) × (base + length (now image) ≤ addressLimit)
         × (length (now image) ≤ imageLimit) × (depth ≤ spec.callLimit) × (length (now registers) ≡ fileSize)
         ⌝ }
     ensures { λ r. ⌜
         (left r (now (registers .exit)) (now (calls .exit)) (now (ram .exit))
         ≡ spec.step (memory (now (ram .entry)) (now (image .entry)) base)
-        (state (coreOf place depth (now (registers .entry))) (now (calls .entry))))
+        (state (coreAt place depth (now (registers .entry))) (now (calls .entry))))
         × (length (now (registers .exit)) ≡ fileSize)
         ⌝ }
 {

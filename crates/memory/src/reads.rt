@@ -3,7 +3,7 @@ use fields::long_of;
 use fields::word_of;
 use types::machine::ByteRead;
 ghost use mathlib.Core.Path.{_≡_};
-ghost use Rattle.model.specs.Memory.{byteAt, memory, come, wordFrom, longFrom, dataFrom};
+ghost use Rattle.model.specs.Memory.{byteAt, memory, evaluate, wordFrom, longFrom, dataFrom};
 ghost use Rattle.memory.specs.Reads.{wordRead, longRead, IsLong};
 
 // Data of one or two bytes.
@@ -38,7 +38,7 @@ fn byte_at(ram: &[u8], image: &[u8], base: u32, address: u64) -> ByteRead
 
 // The word whose bytes lie at two addresses.
 pub fn word_from(ram: &[u8], image: &[u8], base: u32, at: u64, then: u64) -> WordRead
-    ensures { λ r. ⌜ r ≡ wordRead (come (memory (now (ram .entry)) (now (image .entry)) base) (wordFrom at then)) ⌝ }
+    ensures { λ r. ⌜ r ≡ wordRead (evaluate (memory (now (ram .entry)) (now (image .entry)) base) (wordFrom at then)) ⌝ }
 {
     let first = byte_at(ram, image, base, at);
     let ByteRead::Byte(low) = first else {
@@ -54,7 +54,7 @@ pub fn word_from(ram: &[u8], image: &[u8], base: u32, at: u64, then: u64) -> Wor
 // The number whose three bytes lie at three addresses.
 pub fn long_from(ram: &[u8], image: &[u8], base: u32, at: u64, then: u64, last: u64) -> LongRead
     ensures { λ r. ⌜
-        (r ≡ longRead (come (memory (now (ram .entry)) (now (image .entry)) base) (longFrom at then last)))
+        (r ≡ longRead (evaluate (memory (now (ram .entry)) (now (image .entry)) base) (longFrom at then last)))
         × IsLong r
         ⌝ }
 {
@@ -76,7 +76,7 @@ pub fn long_from(ram: &[u8], image: &[u8], base: u32, at: u64, then: u64, last: 
 // Data of one byte, or of two bytes, at their addresses.
 pub fn data_from(ram: &[u8], image: &[u8], base: u32, short: bool, at: u64, then: u64) -> WordRead
     ensures { λ r. ⌜
-        r ≡ wordRead (come (memory (now (ram .entry)) (now (image .entry)) base) (dataFrom short at then))
+        r ≡ wordRead (evaluate (memory (now (ram .entry)) (now (image .entry)) base) (dataFrom short at then))
         ⌝ }
 {
     if !short {

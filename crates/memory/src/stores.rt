@@ -23,13 +23,13 @@ fn served_at(ram: &[u8], image: &[u8], base: u32, address: u64) -> Served
     }
     let from = base as u64;
     if address < from {
-        return Served::Refused(Stop::Unmapped);
+        return Served::Unserved(Stop::Unmapped);
     }
     let at = (address - from) as usize;
     if at < image.len() {
-        return Served::Refused(Stop::ImageStore);
+        return Served::Unserved(Stop::ImageStore);
     }
-    Served::Refused(Stop::Unmapped)
+    Served::Unserved(Stop::Unmapped)
 }
 
 fn and_then(first: Served, more: Served) -> Served
@@ -37,7 +37,7 @@ fn and_then(first: Served, more: Served) -> Served
 {
     match first {
         Served::All => more,
-        Served::Refused(stop) => Served::Refused(stop),
+        Served::Unserved(stop) => Served::Unserved(stop),
     }
 }
 

@@ -15,9 +15,9 @@ use Rattle.types.specs.declared.code.Kind.{Kind}
 use Rattle.types.specs.declared.code.Flow.{Flow}
 use Rattle.types.specs.declared.code.WidthEffect.{WidthEffect}
 use Rattle.types.specs.declared.code.LengthRule.{LengthRule}
-use Rattle.types.specs.declared.machine.Residence.{Residence}
+use Rattle.types.specs.declared.machine.OperandPlace.{OperandPlace}
 use Rattle.model.specs.Operations.{isIn}
-use Rattle.model.specs.Addressing.{residenceOf}
+use Rattle.model.specs.Addressing.{operandPlaceOf}
 use Rattle.model.specs.CodePages.{Form, none, plain, behind42, behind89, pages}
 use Rattle.model.specs.CodeMap.{prefixBytes, entryOf, entryAt, moreBytes, lengthAt}
 use Rattle.prelude.proofs.Choice.{one-or-none}
@@ -115,28 +115,28 @@ module _ (page code : ℕ) (kind : Kind) where
   return-keeps h = kept (entry .effect) (kept-by (Flow.Return kind) h)
 
 -- the data of SEP and CLP stands behind the code
-abbrev isBehind : Residence → Bool
-isBehind Residence.Memory = false
-isBehind Residence.Instruction = true
-isBehind Residence.Register = false
+abbrev isBehind : OperandPlace → Bool
+isBehind OperandPlace.Memory = false
+isBehind OperandPlace.Instruction = true
+isBehind OperandPlace.Register = false
 
 abbrev behindCode : ℕ → Entry → Bool
-behindCode prefix e = not (isIn (Operation.SEP ∷ Operation.CLP ∷ []) (e .operation)) || isBehind (residenceOf (e .mode))
+behindCode prefix e = not (isIn (Operation.SEP ∷ Operation.CLP ∷ []) (e .operation)) || isBehind (operandPlaceOf (e .mode))
 
 all-behind : T (every (page-test behindCode) 0 pages)
 unfolding pages plain behind42 behind89
 all-behind = tt
 
-is-behind : (r : Residence) → T (isBehind r) → r ≡ Residence.Instruction
-is-behind Residence.Memory t = absurd t
-is-behind Residence.Instruction t = refl
-is-behind Residence.Register t = absurd t
+is-behind : (r : OperandPlace) → T (isBehind r) → r ≡ OperandPlace.Instruction
+is-behind OperandPlace.Memory t = absurd t
+is-behind OperandPlace.Instruction t = refl
+is-behind OperandPlace.Register t = absurd t
 
 pub data-behind : (page code : ℕ) (operation : Operation) → entryAt page code .operation ≡ operation
     → isIn (Operation.SEP ∷ Operation.CLP ∷ []) operation ≡ true
-    → residenceOf (entryAt page code .mode) ≡ Residence.Instruction
+    → operandPlaceOf (entryAt page code .mode) ≡ OperandPlace.Instruction
 data-behind page code operation same one =
-    is-behind (residenceOf (entryAt page code .mode))
+    is-behind (operandPlaceOf (entryAt page code .mode))
     (rw (same, one) at (tested-at behindCode (λ p. tt) all-behind page code))
 
 -- a length hangs on no more of a width than whether it is 0

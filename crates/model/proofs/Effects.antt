@@ -18,16 +18,16 @@ use ops.{TAS, TAX, TAY, TBD, TBS, TBX, TBY, TDA, TDB, TSA, TSB, TSX, TXA, TXB, T
 use Rattle.types.specs.declared.machine.Registers.{Registers}
 use Rattle.types.specs.declared.machine.Status.{Status}
 use Rattle.types.specs.declared.machine.Data.{Data}
-use Rattle.types.specs.declared.machine.Access.{Access}
-use Rattle.types.specs.declared.machine.Residence.{Residence}
+use Rattle.types.specs.declared.machine.OperandUse.{OperandUse}
+use Rattle.types.specs.declared.machine.OperandPlace.{OperandPlace}
 use Rattle.types.specs.declared.machine.ByteRead.{ByteRead}
 use Rattle.types.specs.declared.machine.Store.{Store}
 use Rattle.prelude.specs.Choice.{pick}
 use Rattle.prelude.specs.Bytes.{AllBytes}
 use Rattle.model.specs.Memory.{Memory, inRam, inImage, byteAt, Act, ret, load, _>>=_, Outcome, done, unmapped}
-use Rattle.model.specs.Memory.{onByte, come, dataFrom}
+use Rattle.model.specs.Memory.{onByte, evaluate, dataFrom}
 use Rattle.anywidth.specs.AnyWidth.{low, merged}
-use Rattle.model.specs.Addressing.{bits, direct, addressOf, residenceOf, accumulatorOf, dataAt, pulledAt}
+use Rattle.model.specs.Addressing.{bits, direct, addressOf, operandPlaceOf, accumulatorOf, dataAt, pulledAt}
 use Rattle.model.specs.Addressing.{operandBy, dataOf}
 use Rattle.model.specs.Arithmetic.{withA, withB, withS, withDpr, withDt, withStatus}
 use Rattle.model.specs.Arithmetic.{loads, loadsA, loadsB, loadsX, loadsY}
@@ -68,12 +68,12 @@ module _ (m : Memory) (in-ram : AllBytes (m .ram)) (in-image : AllBytes (m .imag
       by false true = in-image (at - m .base)
       by false false = tt
 
-  pub comes : {A : Type 0} (P : A → Type 0) (a : Act A) → Yields P a → Comes P (come m a)
+  pub comes : {A : Type 0} (P : A → Type 0) (a : Act A) → Yields P a → Comes P (evaluate m a)
   comes P (ret v) y = y
   comes P (load at more) y = by (byteAt m at) (byte-read at) (λ b small. comes P (more b) (y b small))
     where
-      by : (b : ByteRead) → ByteOnly b → ((byte : ℕ) → byte < 256 → Comes P (come m (more byte)))
-          → Comes P (onByte b (λ byte. come m (more byte)))
+      by : (b : ByteRead) → ByteOnly b → ((byte : ℕ) → byte < 256 → Comes P (evaluate m (more byte)))
+          → Comes P (onByte b (λ byte. evaluate m (more byte)))
       by (ByteRead.Byte b) small on = on b small
       by ByteRead.Unmapped small on = tt
 
@@ -90,21 +90,21 @@ data-from true at then place = λ byte small. omega arith
 data-from false at then place = λ byte small high small′. omega arith
 
 module _ (mode : Mode) (named : Accumulator) (r : Registers) (short : Bool) (operand : ℕ) where
-  operand-small : (p : Residence) → Yields SmallData (operandBy p mode named r short operand)
+  operand-small : (p : OperandPlace) → Yields SmallData (operandBy p mode named r short operand)
   unfolding operandBy
-  operand-small Residence.Memory =
+  operand-small OperandPlace.Memory =
       yields-after SmallData (addressOf mode r operand) _ (λ address. data-from short address (address + 1) address)
-  operand-small Residence.Instruction = low-small short operand
-  operand-small Residence.Register = low-small short (accumulatorOf named r)
+  operand-small OperandPlace.Instruction = low-small short operand
+  operand-small OperandPlace.Register = low-small short (accumulatorOf named r)
 
-  pub data-small : (a : Access) → Yields SmallData (dataOf a mode named r short operand)
+  pub data-small : (a : OperandUse) → Yields SmallData (dataOf a mode named r short operand)
   unfolding dataOf
-  data-small Access.Operand = operand-small (residenceOf mode)
-  data-small Access.Addend = operand-small (residenceOf mode)
-  data-small Access.Address =
+  data-small OperandUse.Operand = operand-small (operandPlaceOf mode)
+  data-small OperandUse.Addend = operand-small (operandPlaceOf mode)
+  data-small OperandUse.Address =
       yields-after SmallData (addressOf mode r operand) (λ address. ret (dataAt address 0)) (λ address. omega arith)
-  data-small Access.Pull = data-from short (pulledAt r 1) (pulledAt r 2) 0
-  data-small Access.DirectWord = data-from false (direct r operand) (direct r operand + 1) 0
+  data-small OperandUse.Pull = data-from short (pulledAt r 1) (pulledAt r 2) 0
+  data-small OperandUse.DirectWord = data-from false (direct r operand) (direct r operand + 1) 0
 
 -- ---- what an operation leaves
 
@@ -177,13 +177,13 @@ module _ (mode : Mode) (named : Accumulator) (short : Bool) (operand next : ℕ)
   stored-to : (v : ℕ) → InWidth r × SmallStores (storesOf short (d .address) v)
   stored-to v = (h, stores-small short (d .address) v)
 
-  modified : (carry : Bool) (v : ℕ) → Fine (modifiesBy (residenceOf mode) named short (d .address) carry v r)
-  modified carry v = by (residenceOf mode)
+  modified : (carry : Bool) (v : ℕ) → Fine (modifiesBy (operandPlaceOf mode) named short (d .address) carry v r)
+  modified carry v = by (operandPlaceOf mode)
     where
-      by : (p : Residence) → Fine (modifiesBy p named short (d .address) carry v r)
-      by Residence.Memory = (flags _ (h .level), stores-small short (d .address) (low (bits short) v))
-      by Residence.Instruction = (loads-in _ (flags _ (h .level)) short v named, tt)
-      by Residence.Register = (loads-in _ (flags _ (h .level)) short v named, tt)
+      by : (p : OperandPlace) → Fine (modifiesBy p named short (d .address) carry v r)
+      by OperandPlace.Memory = (flags _ (h .level), stores-small short (d .address) (low (bits short) v))
+      by OperandPlace.Instruction = (loads-in _ (flags _ (h .level)) short v named, tt)
+      by OperandPlace.Register = (loads-in _ (flags _ (h .level)) short v named, tt)
 
   pub effect-fine : (operation : Operation) → Fine (effectOf mode named short operand next d r operation)
   unfolding effectOf

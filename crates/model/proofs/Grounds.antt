@@ -34,7 +34,7 @@ use Rattle.types.specs.Status.{levelUnit, numberOf}
 use Rattle.model.specs.Memory.{Memory}
 use Rattle.model.specs.Step.{callLimit, returnOf, kindOf}
 use Rattle.model.specs.Run.{ramLimit, stepLimit, ramFits, levelLimit, callFits, callsFit, stateFits, runTests}
-use Rattle.model.specs.Run.{admission, played, ran}
+use Rattle.model.specs.Run.{admission, executed, ran}
 use Rattle.model.specs.StateBytes.{stateSize, stateOf}
 use Rattle.model.specs.RunBytes.{bytesFit, ranBytesBy, ranBytes}
 use Rattle.model.specs.Grounds.{WrongSize, WrongLength, WrongBase, IsResetStart, WrongReset, IsMark, WrongMark}
@@ -289,7 +289,7 @@ run-decided m fits asked state = (
   ),
 )
 
-run-apart : (m : Memory) (s : State) (asked : ℕ) → Apart RunAnswer.NotRun (played m s asked .answer)
+run-apart : (m : Memory) (s : State) (asked : ℕ) → Apart RunAnswer.NotRun (executed m s asked .answer)
 run-apart m s asked = record {
   one = λ why other e. cc;
   none = λ why e. let z : _≡_ {A = ℕ} 0 1 = cc in absurd (omega arith);
@@ -299,11 +299,11 @@ run-apart m s asked = record {
 pub run-answers : RunAnswers
 run-answers m s asked =
     rw (by (admission m s asked) refl)
-    (answers-by RunAnswer.NotRun (played m s asked .answer) (run-apart m s asked) (runGrounds m (WrongState s) asked)
+    (answers-by RunAnswer.NotRun (executed m s asked .answer) (run-apart m s asked) (runGrounds m (WrongState s) asked)
     (runTests m (stateFits s) asked) refl (run-decided m (stateFits s) asked (wrong-state s)))
   where
     by : (so : TestResult) → admission m s asked ≡ so
-        → ran m s asked .answer ≡ answered (admission m s asked) RunAnswer.NotRun (played m s asked .answer)
+        → ran m s asked .answer ≡ answered (admission m s asked) RunAnswer.NotRun (executed m s asked .answer)
     by TestResult.Passed e = ap (λ r. r .answer) (admitted-ran m s asked e .1) ∙ rw e refl
     by (TestResult.Failed why) e = ap (λ r. r .answer) (refused-ran m s asked why e .1) ∙ rw e refl
 
@@ -313,11 +313,11 @@ run-bytes-answers m bytes asked =
     let s = stateOf bytes in
     let tests = runTests m (bytesFit bytes) asked in
     rw (by (firstRefusal tests))
-    (answers-by RunAnswer.NotRun (played m s asked .answer) (run-apart m s asked)
+    (answers-by RunAnswer.NotRun (executed m s asked .answer) (run-apart m s asked)
     (runGrounds m (WrongBytes bytes) asked) tests refl (run-decided m (bytesFit bytes) asked (wrong-bytes bytes)))
   where
     by : (so : TestResult)
-        → ranBytesBy so m bytes asked .answer ≡ answered so RunAnswer.NotRun (played m (stateOf bytes) asked .answer)
+        → ranBytesBy so m bytes asked .answer ≡ answered so RunAnswer.NotRun (executed m (stateOf bytes) asked .answer)
     by TestResult.Passed = refl
     by (TestResult.Failed why) = refl
 

@@ -26,7 +26,7 @@ use Rattle.types.specs.declared.machine.Store.{Store}
 use Rattle.types.specs.declared.machine.Stop.{Stop}
 use Rattle.types.specs.declared.machine.Served.{Served}
 use Rattle.types.specs.declared.machine.CallChange.{CallChange}
-use Rattle.types.specs.declared.machine.Answer.{Answer}
+use Rattle.types.specs.declared.machine.StepAnswer.{StepAnswer}
 use Rattle.types.specs.declared.refusals.TestResult.{TestResult}
 use Rattle.types.specs.declared.runs.End.{End}
 use Rattle.prelude.specs.Choice.{pick}
@@ -35,22 +35,22 @@ use Rattle.types.specs.Addresses.{bankSize, addressLimit}
 use Rattle.model.specs.Image.{isStart, markM, markX, markKind, returnM, returnX, markOf}
 use Rattle.model.specs.Image.{markAt}
 use Rattle.model.specs.Decode.{pageOf, decode}
-use Rattle.model.specs.Rules.{nextAddress, mAfter, xAfter, kindNumber, want, markOfRoutine, markOnReturn}
+use Rattle.model.specs.Rules.{nextAddress, mAfter, xAfter, kindNumber, requirement, markOfRoutine, markOnReturn}
 use Rattle.model.specs.Rules.{markAfter, owedBy, owedAt, returnsBy, returnFits, Met, AllMet, StartRules, Accepts}
 use Rattle.prelude.specs.Choice.{bit}
-use Rattle.model.specs.Memory.{Memory, memory, inRam, inImage, Outcome, done, unmapped, come, servedAt}
+use Rattle.model.specs.Memory.{Memory, memory, inRam, inImage, Outcome, done, unmapped, evaluate, servedAt}
 use Rattle.model.specs.Memory.{andThen, served}
 use Rattle.model.specs.Addressing.{dataOf}
 use Rattle.model.specs.Arithmetic.{withS}
 use Rattle.model.specs.Effects.{pushedAt}
-use Rattle.model.specs.Step.{callLimit, entryUnit, entryOf, returnOf, kindOf, stopNumber, placeOf, bytesFrom}
+use Rattle.model.specs.Step.{callLimit, recordUnit, callRecord, returnOf, kindOf, stopNumber, placeOf, bytesFrom}
 use Rattle.model.specs.Step.{fetched, Change, change, Plan, stops, changes, onRead, isDecimal, next, target}
 use Rattle.model.specs.Step.{short, access, works, operates, pushesReturn, returnBytes, calls, pullsReturn}
 use Rattle.model.specs.Step.{isReturn, returnsTo, planBy, lastOpened, plan, depthAfter, callsAfter}
 use Rattle.model.specs.Step.{answerOf, stateAfter, onServed, finish, step}
 use Rattle.model.specs.Run.{Event, event, withRam, history, completedSteps, endAfter, endOf, stateLeft, admission}
 use Rattle.model.specs.Run.{runHistory, ran, Run, runsFrom, joinedHistory}
-use Rattle.model.specs.Guarantee.{Every, Marked, WholeInside, Safe, EndsWell, Accounted, Begins, Guarantee}
+use Rattle.model.specs.Guarantee.{Every, Marked, WholeInside, Safe, EndsWell, RunOutcome, Begins, Guarantee}
 use Rattle.model.specs.Guarantee.{OwnKind, OwnKinds}
 use Rattle.model.proofs.CodeMap.{call-keeps, return-keeps}
 use Rattle.model.proofs.Decode.{decodes, decoded-entry}
@@ -119,10 +119,10 @@ remade : (a : ℕ) → a < addressLimit → a / bankSize % 256 * bankSize + a % 
 remade a h = omega arith
 
 -- an entry's parts
-kind-of-entry : (address kind : ℕ) → address < entryUnit → kind ≤ 3 → kindOf (entryOf address kind) ≡ kind
+kind-of-entry : (address kind : ℕ) → address < recordUnit → kind ≤ 3 → kindOf (callRecord address kind) ≡ kind
 kind-of-entry address kind h hk = omega arith
 
-return-of-entry : (address kind : ℕ) → address < entryUnit → returnOf (entryOf address kind) ≡ address
+return-of-entry : (address kind : ℕ) → address < recordUnit → returnOf (callRecord address kind) ≡ address
 return-of-entry address kind h = omega arith
 
 -- ---- the open calls
@@ -169,11 +169,11 @@ module _ (marks : List ℕ) (base : ℕ) where
       rw same (own .0, chain-below opened n k entry (there (returnOf (getD opened n 0))) (omega arith) (own .1))
 
   -- a call opened on a chain
-  chain-opened : (opened : List ℕ) (n address kind mark : ℕ) → address < entryUnit → kind ≤ 3 → markKind mark ≡ kind
+  chain-opened : (opened : List ℕ) (n address kind mark : ℕ) → address < recordUnit → kind ≤ 3 → markKind mark ≡ kind
       → isStart (there address) ≡ true → markM (there address) ≡ returnM mark → markX (there address) ≡ returnX mark
-      → Chain opened n (there address) → Chain (set opened n (entryOf address kind)) (suc n) mark
+      → Chain opened n (there address) → Chain (set opened n (callRecord address kind)) (suc n) mark
   chain-opened opened n address kind mark h hk k s m x c = λ inside.
-      let entry = entryOf address kind in
+      let entry = callRecord address kind in
       let short : n < length opened = rw (length-set opened n entry) at inside in
       rw (getD-set-same opened n entry 0 short, return-of-entry address kind h) (
         record {
@@ -248,36 +248,36 @@ module _ (marks : List ℕ) (base : ℕ) where
 abbrev Late : Stop → Type 0
 Late stop = (22 ≤ stopNumber stop) × (stopNumber stop ≤ 27)
 
-served-at-late : (m : Memory) (address : ℕ) (stop : Stop) → servedAt m address ≡ Served.Refused stop → Late stop
+served-at-late : (m : Memory) (address : ℕ) (stop : Stop) → servedAt m address ≡ Served.Unserved stop → Late stop
 unfolding servedAt
 served-at-late m address stop = by (inRam m address) (inImage m address)
   where
-    same : (other : Stop) → Late other → Served.Refused other ≡ Served.Refused stop → Late stop
+    same : (other : Stop) → Late other → Served.Unserved other ≡ Served.Unserved stop → Late stop
     same other l e = let o : other ≡ stop = cc in rw o at l
 
     by : (a b : Bool)
-        → pick a Served.All (pick b (Served.Refused Stop.ImageStore) (Served.Refused Stop.Unmapped))
-        ≡ Served.Refused stop → Late stop
+        → pick a Served.All (pick b (Served.Unserved Stop.ImageStore) (Served.Unserved Stop.Unmapped))
+        ≡ Served.Unserved stop → Late stop
     by true b e = let z : _≡_ {A = ℕ} 0 1 = cc in absurd (omega arith)
     by false true e = same Stop.ImageStore (omega arith) e
     by false false e = same Stop.Unmapped (omega arith) e
 
 -- a store that can't be served stops by 23 or 26
-served-late : (m : Memory) (stores : List Store) (stop : Stop) → served m stores ≡ Served.Refused stop → Late stop
+served-late : (m : Memory) (stores : List Store) (stop : Stop) → served m stores ≡ Served.Unserved stop → Late stop
 served-late m [] stop e = let z : _≡_ {A = ℕ} 0 1 = cc in absurd (omega arith)
 served-late m (a ∷ rest) stop e =
     by (servedAt m (a .address)) refl e (served-late m rest stop)
   where
-    by : (v : Served) → servedAt m (a .address) ≡ v → andThen v (served m rest) ≡ Served.Refused stop
-        → (served m rest ≡ Served.Refused stop → Late stop) → Late stop
+    by : (v : Served) → servedAt m (a .address) ≡ v → andThen v (served m rest) ≡ Served.Unserved stop
+        → (served m rest ≡ Served.Unserved stop → Late stop) → Late stop
     by Served.All f h more = more h
-    by (Served.Refused other) f h more = served-at-late m (a .address) stop (f ∙ h)
+    by (Served.Unserved other) f h more = served-at-late m (a .address) stop (f ∙ h)
 
 -- what an answer must be
-abbrev AnswersLate : Answer → Type 0
-AnswersLate Answer.Completed = Unit {0}
-AnswersLate Answer.Called = Unit {0}
-AnswersLate (Answer.Stopped stop) = Late stop
+abbrev AnswersLate : StepAnswer → Type 0
+AnswersLate StepAnswer.Completed = Unit {0}
+AnswersLate StepAnswer.Called = Unit {0}
+AnswersLate (StepAnswer.Stopped stop) = Late stop
 
 change-answers : (change : CallChange) → AnswersLate (answerOf change)
 change-answers CallChange.Keep = tt
@@ -300,7 +300,7 @@ module _ (marks : List ℕ) (base : ℕ) (s : State) (i : Instruction) where
       by : (v : Served) → served m (d .stores) ≡ v
           → AnswersLate (onServed v i d m s .answer) × Stands marks base (onServed v i d m s .state)
       by Served.All e = (change-answers (d .calls), arrived marks base whole s i d g)
-      by (Served.Refused stop) e = (served-late m (d .stores) stop e, st)
+      by (Served.Unserved stop) e = (served-late m (d .stores) stop e, st)
 
   -- an operation goes on where its flow says
   operates-good : (m : Memory) (goes : Bool → ℕ)
@@ -309,7 +309,7 @@ module _ (marks : List ℕ) (base : ℕ) (s : State) (i : Instruction) where
   unfolding operates
   operates-good m goes there-too =
       by (isDecimal (access (s .core) i) (s .core .registers))
-      (come m (dataOf (access (s .core) i) (i .entry .mode) (i .entry .accumulator) (s .core .registers)
+      (evaluate m (dataOf (access (s .core) i) (i .entry .mode) (i .entry .accumulator) (s .core .registers)
       (short (s .core) i) (i .operand)))
     where
       by : (b : Bool) (o : Outcome Data) → Good (pick b (stops Stop.Decimal) (onRead o (works (s .core) i goes)))
@@ -345,7 +345,7 @@ module _ (marks : List ℕ) (base : ℕ) (s : State) (i : Instruction) (st : Sta
   mark = markAt marks base place
 
   -- a successor with the mark that it is owed
-  owed-arrives : (address : ℕ) → Met marks base (want address (markAfter (i .entry .effect) (i .operand) mark))
+  owed-arrives : (address : ℕ) → Met marks base (requirement address (markAfter (i .entry .effect) (i .operand) mark))
       → Arrives marks base s i address CallChange.Keep
   unfolding markAfter
   owed-arrives address met =
@@ -367,8 +367,8 @@ module _ (marks : List ℕ) (base : ℕ) (s : State) (i : Instruction) (st : Sta
   call-arrives : (kind : Kind) (target next there-marked : ℕ) → i .entry .effect ≡ WidthEffect.KeepWidths
       → next < addressLimit
       → there-marked ≡ markAt marks base target
-      → Met marks base (want target (markOfRoutine kind mark there-marked))
-      → Met marks base (want next (markOnReturn mark there-marked))
+      → Met marks base (requirement target (markOfRoutine kind mark there-marked))
+      → Met marks base (requirement next (markOnReturn mark there-marked))
       → Arrives marks base s i target (CallChange.Open next (kindNumber kind))
   unfolding markOfRoutine markOnReturn mAfter xAfter
   call-arrives kind target next t keeps low e into after =
@@ -389,8 +389,8 @@ module _ (marks : List ℕ) (base : ℕ) (s : State) (i : Instruction) (st : Sta
       }
 
   calls-good : (kind : Kind) → i .entry .effect ≡ WidthEffect.KeepWidths
-      → Met marks base (want (target (s .core) i) (markOfRoutine kind mark (markAt marks base (target (s .core) i))))
-      → Met marks base (want (next (s .core) i) (markOnReturn mark (markAt marks base (target (s .core) i))))
+      → Met marks base (requirement (target (s .core) i) (markOfRoutine kind mark (markAt marks base (target (s .core) i))))
+      → Met marks base (requirement (next (s .core) i) (markOnReturn mark (markAt marks base (target (s .core) i))))
       → Good marks base s i (calls (s .core) i kind)
   unfolding calls
   calls-good kind keeps into after = by (ltb (s .core .depth) callLimit)
@@ -426,9 +426,9 @@ module _ (marks : List ℕ) (base : ℕ) (s : State) (i : Instruction) (st : Sta
       }
 
   returns-good : (m : Memory) (kind : Kind) → i .entry .effect ≡ WidthEffect.KeepWidths → returnsBy kind mark ≡ true
-      → Good marks base s i (onRead (come m (pullsReturn (s .core) i kind)) (returnsTo (s .core) i (lastOpened s) kind))
+      → Good marks base s i (onRead (evaluate m (pullsReturn (s .core) i kind)) (returnsTo (s .core) i (lastOpened s) kind))
   unfolding returnsTo
-  returns-good m kind keeps rule = by (come m (pullsReturn (s .core) i kind))
+  returns-good m kind keeps rule = by (evaluate m (pullsReturn (s .core) i kind))
     where
       to : (address : ℕ) (b : Bool) → isReturn (s .core) i (lastOpened s) kind address ≡ b
           → Good marks base s i (returnsTo (s .core) i (lastOpened s) kind address)
@@ -620,10 +620,10 @@ abbrev EndsLate : End → Type 0
 EndsLate End.Done = Unit {0}
 EndsLate (End.AtStop stop) = Late stop
 
-end-late : (a : Answer) (end : End) → AnswersLate a → EndsLate end → EndsLate (endAfter a end)
-end-late Answer.Completed end a e = e
-end-late Answer.Called end a e = e
-end-late (Answer.Stopped stop) end a e = a
+end-late : (a : StepAnswer) (end : End) → AnswersLate a → EndsLate end → EndsLate (endAfter a end)
+end-late StepAnswer.Completed end a e = e
+end-late StepAnswer.Called end a e = e
+end-late (StepAnswer.Stopped stop) end a e = a
 
 module _ (image marks : List ℕ) (base reset : ℕ) (rules : Accepts image marks base reset) where
   pub record Sound (e : Event) : Type 0 where
@@ -670,7 +670,7 @@ module _ (image marks : List ℕ) (base reset : ℕ) (rules : Accepts image mark
   pub record Runs (m : Memory) (s : State) (asked : ℕ) : Type 0 where
     pub every : Every Sound (runHistory m s asked)
     pub stands : Stands marks base (ran m s asked .state)
-    pub accounted : Accounted m s asked
+    pub accounted : RunOutcome m s asked
 
   pub runs : (asked : ℕ) (ram : List ℕ) (s : State) → Stands marks base s → Runs (memory ram image base) s asked
   runs asked ram s st = by (admission m′ s asked) refl
@@ -685,7 +685,7 @@ module _ (image marks : List ℕ) (base reset : ℕ) (rules : Accepts image mark
           record {
             every = rw (same .0) (h .every);
             stands = rw (same .1) (h .stands);
-            accounted = Accounted.admitted a (record {
+            accounted = RunOutcome.admitted a (record {
               steps = same .0;
               ends = ends-well (history m′ s asked) asked (all-asked m′ s asked) (h .late);
               answer = ap (λ r. r .answer) (same .1);
@@ -698,7 +698,7 @@ module _ (image marks : List ℕ) (base reset : ℕ) (rules : Accepts image mark
           record {
             every = rw (same .0) tt;
             stands = rw (same .1) st;
-            accounted = Accounted.refused why a (record {
+            accounted = RunOutcome.refused why a (record {
               steps = same .0;
               answer = ap (λ r. r .answer) (same .1);
               state = ap (λ r. r .state) (same .1);
@@ -710,7 +710,7 @@ module _ (image marks : List ℕ) (base reset : ℕ) (rules : Accepts image mark
 
   record Lists (listed : List Run) : Type 0 where
     every-step : Every Sound (joinedHistory image base listed)
-    every-run : Every (λ r. Accounted (memory (r .ram) image base) (r .state) (r .asked)) listed
+    every-run : Every (λ r. RunOutcome (memory (r .ram) image base) (r .state) (r .asked)) listed
 
   lists : (asked : List ℕ) (ram : List ℕ) (s : State) → Stands marks base s
       → Lists (runsFrom (memory ram image base) s asked)

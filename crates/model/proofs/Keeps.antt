@@ -27,16 +27,16 @@ use Rattle.prelude.specs.Choice.{pick}
 use Rattle.prelude.specs.Bytes.{AllBytes}
 use Rattle.fields.specs.Fields.{number}
 use Rattle.model.specs.Rules.{kindNumber}
-use Rattle.model.specs.Memory.{Memory, Act, Outcome, done, unmapped, come, served, stored}
+use Rattle.model.specs.Memory.{Memory, Act, Outcome, done, unmapped, evaluate, served, stored}
 use Rattle.model.specs.Addressing.{pulledAt, dataOf}
 use Rattle.model.specs.Arithmetic.{withS}
 use Rattle.model.specs.Effects.{pushedAt, bytes}
-use Rattle.model.specs.Step.{callLimit, entryOf, fetched, Change, change, Plan, stops, changes, onRead, isDecimal}
+use Rattle.model.specs.Step.{callLimit, callRecord, fetched, Change, change, Plan, stops, changes, onRead, isDecimal}
 use Rattle.model.specs.Step.{next, target, short, access, works, operates, pushesReturn, returnBytes, calls}
 use Rattle.model.specs.Step.{pullsReturn, isReturn, returnsTo, planBy, lastOpened, plan, depthAfter, callsAfter}
 use Rattle.model.specs.Step.{stateAfter, onServed, finish, onDecoded, step}
 use Rattle.model.specs.Run.{event, withRam, history, stateLeft, ramLeft, admission, ran}
-use Rattle.model.specs.StateBytes.{headSize, entrySize, coreOf, stateOf, InWidth, Keeps}
+use Rattle.model.specs.StateBytes.{headSize, recordSize, coreOf, stateOf, InWidth, Keeps}
 use Rattle.fields.specs.Fields.{parted}
 use Rattle.prelude.proofs.Bytes.{bytes-drop, bytes-take}
 use Rattle.fields.proofs.Fields.{number-bound}
@@ -50,7 +50,7 @@ use Rattle.model.proofs.Effects.{Comes, comes, SmallData, data-small, S
 -- A plan that keeps all: registers in their widths, bytes stored, a call opened below the limit, its entry in bytes.
 abbrev Opens : ℕ → CallChange → Type 0
 Opens depth CallChange.Keep = Unit {0}
-Opens depth (CallChange.Open address kind) = (depth < callLimit) × (entryOf address kind < 256 ^ entrySize)
+Opens depth (CallChange.Open address kind) = (depth < callLimit) × (callRecord address kind < 256 ^ recordSize)
 Opens depth CallChange.Close = Unit {0}
 
 abbrev Fits : ℕ → Plan → Type 0
@@ -67,7 +67,7 @@ module _ (c : Core) (i : Instruction) (m : Memory) (h : InWidth (c .registers)) 
   operates-fits : (goes : Bool → ℕ) → Fits (c .depth) (operates c i m goes)
   unfolding operates
   operates-fits goes =
-      by (isDecimal (access c i) (c .registers)) (come m reads)
+      by (isDecimal (access c i) (c .registers)) (evaluate m reads)
       (comes m in-ram in-image SmallData reads (data-small (i .entry .mode) (i .entry .accumulator)
       (c .registers) (short c i) (i .operand) (access c i)))
     where
@@ -100,9 +100,9 @@ module _ (c : Core) (i : Instruction) (m : Memory) (h : InWidth (c .registers)) 
       ))
 
   returns-fit : (entry : ℕ) (kind : Kind)
-      → Fits (c .depth) (onRead (come m (pullsReturn c i kind)) (returnsTo c i entry kind))
+      → Fits (c .depth) (onRead (evaluate m (pullsReturn c i kind)) (returnsTo c i entry kind))
   unfolding returnsTo
-  returns-fit entry kind = by (come m (pullsReturn c i kind))
+  returns-fit entry kind = by (evaluate m (pullsReturn c i kind))
     where
       by : (o : Outcome ℕ) → Fits (c .depth) (onRead o (returnsTo c i entry kind))
       by unmapped = tt
@@ -154,12 +154,12 @@ changed-keeps i s d fits h =
     by : (change : CallChange) → Opens (s .core .depth) change
         → (depthAfter change (s .core .depth) < 65_536)
         × (length (callsAfter change (s .core .depth) (s .calls)) ≡ callLimit)
-        × ((k : ℕ) → getD (callsAfter change (s .core .depth) (s .calls)) k 0 < 256 ^ entrySize)
+        × ((k : ℕ) → getD (callsAfter change (s .core .depth) (s .calls)) k 0 < 256 ^ recordSize)
     by CallChange.Keep o = (h .depth, h .calls, h .entries)
     by (CallChange.Open address kind) o = (
       omega arith,
-      length-set (s .calls) (s .core .depth) (entryOf address kind) ∙ h .calls,
-      set-small (s .calls) (s .core .depth) (entryOf address kind) (256 ^ entrySize) (o .1) (h .entries),
+      length-set (s .calls) (s .core .depth) (callRecord address kind) ∙ h .calls,
+      set-small (s .calls) (s .core .depth) (callRecord address kind) (256 ^ recordSize) (o .1) (h .entries),
     )
     by CallChange.Close o = (omega arith, h .calls, h .entries)
 
@@ -171,7 +171,7 @@ step-keeps m s image h = by (fetched m (s .core))
     served-so : (i : Instruction) (d : Change) (v : Served) → Fits (s .core .depth) (changes d)
         → InBytes (onServed v i d m s .state) (onServed v i d m s .ram)
     served-so i d Served.All f = (changed-keeps i s d f (h .0), stored-small (d .stores) (m .ram) (f .1) (h .1))
-    served-so i d (Served.Refused stop) f = h
+    served-so i d (Served.Unserved stop) f = h
 
     planned-so : (i : Instruction) (p : Plan) → Fits (s .core .depth) p
         → InBytes (finish p i m s .state) (finish p i m s .ram)
@@ -242,8 +242,8 @@ given-keeps bytes small = record {
   pc = word 10;
   pg = byte 16;
   depth = word 18;
-  calls = length-parted entrySize callLimit (drop headSize bytes);
-  entries = parted-small entrySize callLimit (drop headSize bytes) (bytes-drop headSize bytes small);
+  calls = length-parted recordSize callLimit (drop headSize bytes);
+  entries = parted-small recordSize callLimit (drop headSize bytes) (bytes-drop headSize bytes small);
 }
   where
     word : (at : ℕ) → number (take 2 (drop at bytes)) < 65_536

@@ -15,8 +15,8 @@ use Rattle.types.specs.declared.code.Instruction.{Instruction}
 use Rattle.types.specs.declared.code.Decoded.{Decoded}
 use Rattle.types.specs.declared.refusals.Refusal.{Refusal}
 use Rattle.types.specs.declared.refusals.TestResult.{TestResult}
-use Rattle.types.specs.declared.rules.Want.{Want}
-use Rattle.types.specs.declared.rules.Owed.{Owed}
+use Rattle.types.specs.declared.rules.Requirement.{Requirement}
+use Rattle.types.specs.declared.rules.Requirements.{Requirements}
 use Rattle.types.specs.declared.rules.Verdict.{Verdict}
 use Rattle.prelude.specs.Choice.{pick}
 use Rattle.types.specs.Addresses.{bankSize}
@@ -25,7 +25,7 @@ use Rattle.types.specs.Refusals.{Tests, firstRefusal, answered}
 use Rattle.model.specs.Rules.{owedThere, instructionAt}
 use Rattle.model.specs.Meaning.{Among, StartBreaks, Breaks}
 use Rattle.prelude.specs.First.{firstFrom}
-use Rattle.model.specs.Verdict.{startAt, isClear, wantsStart, allStarts, wantsMark, allMarks}
+use Rattle.model.specs.Verdict.{startAt, isClear, isStartAt, allStarts, hasMarkAt, allMarks}
 use Rattle.model.specs.Verdict.{wholeTests}
 use Rattle.model.specs.Verdict.{decodedResult, startResult, brokenAt, badStart, startsVerdict, unformedAt}
 use Rattle.model.specs.Verdict.{badMark}
@@ -42,13 +42,13 @@ below-end j n h ne = ⊎-elim (λ (e : j ≡ n). absurd (ne e)) (λ (below : j <
 -- ---- 8 and 9
 
 -- a want among those owed
-abbrev Failing : (Want → Type 0) → Owed → Type 0
-Failing bad o = (w : Want) × Among w o × bad w
+abbrev Failing : (Requirement → Type 0) → Requirements → Type 0
+Failing bad o = (w : Requirement) × Among w o × bad w
 
-one-of-two : (test : Want → Bool) (v w : Want) → test v && test w ≡ false → Failing (λ u. test u ≡ false) (Owed.Two v w)
+one-of-two : (test : Requirement → Bool) (v w : Requirement) → test v && test w ≡ false → Failing (λ u. test u ≡ false) (Requirements.Two v w)
 one-of-two test v w h = by (test v) refl h
   where
-    by : (b : Bool) → test v ≡ b → b && test w ≡ false → Failing (λ u. test u ≡ false) (Owed.Two v w)
+    by : (b : Bool) → test v ≡ b → b && test w ≡ false → Failing (λ u. test u ≡ false) (Requirements.Two v w)
     by true e h′ = (w, inr refl, h′)
     by false e h′ = (v, inl refl, e)
 
@@ -56,29 +56,29 @@ same-why : {why why′ : Refusal} → TestResult.Failed why ≡ TestResult.Faile
 same-why e = cc
 
 module _ (marks : List ℕ) (base : ℕ) where
-  no-start : (o : Owed) → allStarts marks base o ≡ false → Failing (λ w. isStart (markAt marks base (w .address)) ≡
+  no-start : (o : Requirements) → allStarts marks base o ≡ false → Failing (λ w. isStart (markAt marks base (w .address)) ≡
       false) o
-  unfolding allStarts wantsStart
-  no-start Owed.Nothing h = let z : _≡_ {A = ℕ} 0 1 = cc in absurd (omega arith)
-  no-start (Owed.One w) h = (w, refl, h)
-  no-start (Owed.Two v w) h = one-of-two (wantsStart marks base) v w h
+  unfolding allStarts isStartAt
+  no-start Requirements.Nothing h = let z : _≡_ {A = ℕ} 0 1 = cc in absurd (omega arith)
+  no-start (Requirements.One w) h = (w, refl, h)
+  no-start (Requirements.Two v w) h = one-of-two (isStartAt marks base) v w h
 
-  other-mark : (o : Owed) → allMarks marks base o ≡ false → Failing (λ w. markAt marks base (w .address) ≡ w .mark →
+  other-mark : (o : Requirements) → allMarks marks base o ≡ false → Failing (λ w. markAt marks base (w .address) ≡ w .mark →
       ⊥) o
-  unfolding allMarks wantsMark
-  other-mark Owed.Nothing h = let z : _≡_ {A = ℕ} 0 1 = cc in absurd (omega arith)
-  other-mark (Owed.One w) h = (w, refl, eqb-false (markAt marks base (w .address)) (w .mark) h)
-  other-mark (Owed.Two v w) h =
-      let f = one-of-two (wantsMark marks base) v w h in
+  unfolding allMarks hasMarkAt
+  other-mark Requirements.Nothing h = let z : _≡_ {A = ℕ} 0 1 = cc in absurd (omega arith)
+  other-mark (Requirements.One w) h = (w, refl, eqb-false (markAt marks base (w .address)) (w .mark) h)
+  other-mark (Requirements.Two v w) h =
+      let f = one-of-two (hasMarkAt marks base) v w h in
       (f .0, f .1, eqb-false (markAt marks base (f .0 .address)) (f .0 .mark) (f .2))
 
-  every-start : (o : Owed) → allStarts marks base o ≡ true
-      → (w : Want) → Among w o → isStart (markAt marks base (w .address)) ≡ true
-  unfolding allStarts wantsStart
-  every-start Owed.Nothing h w a = absurd a
-  every-start (Owed.One v) h w a = rw a h
-  every-start (Owed.Two u v) h w (inl e) = rw e (both-true (wantsStart marks base u) (wantsStart marks base v) h .0)
-  every-start (Owed.Two u v) h w (inr e) = rw e (both-true (wantsStart marks base u) (wantsStart marks base v) h .1)
+  every-start : (o : Requirements) → allStarts marks base o ≡ true
+      → (w : Requirement) → Among w o → isStart (markAt marks base (w .address)) ≡ true
+  unfolding allStarts isStartAt
+  every-start Requirements.Nothing h w a = absurd a
+  every-start (Requirements.One v) h w a = rw a h
+  every-start (Requirements.Two u v) h w (inl e) = rw e (both-true (isStartAt marks base u) (isStartAt marks base v) h .0)
+  every-start (Requirements.Two u v) h w (inr e) = rw e (both-true (isStartAt marks base u) (isStartAt marks base v) h .1)
 
 -- ---- 7
 

@@ -14,7 +14,7 @@ use Rattle.types.specs.declared.machine.Stop.{Stop}
 use Rattle.types.specs.declared.machine.Served.{Served}
 use Rattle.prelude.specs.Choice.{pick}
 use Rattle.model.specs.Memory.{Memory, memory, byteAt, servedAt, Act, ret, load, _>>=_, Outcome, done, unmapped}
-use Rattle.model.specs.Memory.{onByte, come, andThen}
+use Rattle.model.specs.Memory.{onByte, evaluate, andThen}
 
 module _ (ram image : List ℕ) (base address : ℕ) where
   -- the choice among RAM, image and neither
@@ -62,17 +62,17 @@ module _ (ram image : List ℕ) (base address : ℕ) where
   unfolding servedAt
   served-in-ram = in-ram _ _ _
 
-  pub served-under-image : length ram ≤ address → address < base → servedAt m address ≡ Served.Refused Stop.Unmapped
+  pub served-under-image : length ram ≤ address → address < base → servedAt m address ≡ Served.Unserved Stop.Unmapped
   unfolding servedAt
   served-under-image = under-image _ _ _
 
   pub served-in-image : length ram ≤ address → base ≤ address → address - base < length image
-      → servedAt m address ≡ Served.Refused Stop.ImageStore
+      → servedAt m address ≡ Served.Unserved Stop.ImageStore
   unfolding servedAt
   served-in-image = in-image _ _ _
 
   pub served-past-image : length ram ≤ address → base ≤ address → length image ≤ address - base
-      → servedAt m address ≡ Served.Refused Stop.Unmapped
+      → servedAt m address ≡ Served.Unserved Stop.Unmapped
   unfolding servedAt
   served-past-image = past-image _ _ _
 
@@ -82,20 +82,20 @@ onDone (done v) more = more v
 onDone unmapped more = unmapped
 
 -- an action after another comes to what it comes to after that one's outcome
-pub come-bind : {A B : Type 0} (m : Memory) (a : Act A) (f : A → Act B)
-    → come m (a >>= f) ≡ onDone (come m a) (λ v. come m (f v))
-come-bind m (ret v) f = refl
-come-bind {A} {B} m (load at more) f = by (byteAt m at) (λ byte. come-bind m (more byte) f)
+pub evaluate-bind : {A B : Type 0} (m : Memory) (a : Act A) (f : A → Act B)
+    → evaluate m (a >>= f) ≡ onDone (evaluate m a) (λ v. evaluate m (f v))
+evaluate-bind m (ret v) f = refl
+evaluate-bind {A} {B} m (load at more) f = by (byteAt m at) (λ byte. evaluate-bind m (more byte) f)
   where
-    by : (b : ByteRead) → ((byte : ℕ) → come m (more byte >>= f) ≡ onDone (come m (more byte)) (λ v. come m (f v)))
-        → onByte b (λ byte. come m (more byte >>= f))
-        ≡ onDone (onByte b (λ byte. come m (more byte))) (λ v. come m (f v))
+    by : (b : ByteRead) → ((byte : ℕ) → evaluate m (more byte >>= f) ≡ onDone (evaluate m (more byte)) (λ v. evaluate m (f v)))
+        → onByte b (λ byte. evaluate m (more byte >>= f))
+        ≡ onDone (onByte b (λ byte. evaluate m (more byte))) (λ v. evaluate m (f v))
     by (ByteRead.Byte byte) step = step byte
     by ByteRead.Unmapped step = refl
 
 pub and-then-all : (s : Served) → andThen s Served.All ≡ s
 and-then-all Served.All = refl
-and-then-all (Served.Refused stop) = refl
+and-then-all (Served.Unserved stop) = refl
 
 -- a store past the end changes nothing
 pub set-past : (l : List ℕ) (i v : ℕ) → length l ≤ i → set l i v ≡ l
@@ -105,8 +105,8 @@ set-past (x ∷ l) (suc i) v h = ap (λ t. x ∷ t) (set-past l i v (le-of-suc-l
 
 -- an action after one whose outcome is known
 module _ {A B : Type 0} (m : Memory) (a : Act A) (f : A → Act B) where
-  pub after-done : (v : A) → come m a ≡ done v → come m (a >>= f) ≡ come m (f v)
-  after-done v e = rw (come-bind m a f, e) refl
+  pub after-done : (v : A) → evaluate m a ≡ done v → evaluate m (a >>= f) ≡ evaluate m (f v)
+  after-done v e = rw (evaluate-bind m a f, e) refl
 
-  pub after-unmapped : come m a ≡ unmapped → come m (a >>= f) ≡ unmapped
-  after-unmapped e = rw (come-bind m a f, e) refl
+  pub after-unmapped : evaluate m a ≡ unmapped → evaluate m (a >>= f) ≡ unmapped
+  after-unmapped e = rw (evaluate-bind m a f, e) refl

@@ -17,7 +17,7 @@ use Rattle.types.specs.declared.machine.CallChange.{CallChange}
 use Rattle.types.specs.declared.machine.Served.{Served}
 use Rattle.types.specs.declared.machine.State.{State}
 use Rattle.types.specs.declared.machine.Stop.{Stop}
-use Rattle.types.specs.declared.machine.Answer.{Answer}
+use Rattle.types.specs.declared.machine.StepAnswer.{StepAnswer}
 use Rattle.types.specs.declared.refusals.Refusal.{Refusal}
 use Rattle.types.specs.declared.refusals.TestResult.{TestResult}
 use Rattle.types.specs.declared.runs.End.{End}
@@ -32,7 +32,7 @@ use Rattle.model.specs.Step.{Change, Plan, stops, changes, answerOf, onS
 use Rattle.model.specs.Step.{step}
 use Rattle.model.specs.Run.{isCompleted, isCall, Event, event, withRam, history, completedSteps}
 use Rattle.model.specs.Run.{endAfter, endOf, endNumber, stateLeft, ramLeft, Ran}
-use Rattle.model.specs.Run.{stepLimit, runTests, admission, admittedHistory, runHistory, played, ran, oneStep}
+use Rattle.model.specs.Run.{stepLimit, runTests, admission, admittedHistory, runHistory, executed, ran, oneStep}
 use Rattle.model.specs.Guarantee.{Every}
 use Rattle.model.proofs.Image.{right-length, base-whole}
 use Rattle.model.proofs.TestResults.{shown}
@@ -106,16 +106,16 @@ lastStops [] = false
 lastStops (e ∷ []) = not (isCompleted (e .result .answer))
 lastStops (e ∷ f ∷ rest) = lastStops (f ∷ rest)
 
-completed-passes : (a : Answer) (end : End) → isCompleted a ≡ true → endAfter a end ≡ end
-completed-passes Answer.Completed end h = refl
-completed-passes Answer.Called end h = refl
-completed-passes (Answer.Stopped stop) end h = let z : _≡_ {A = ℕ} 0 1 = cc in absurd (omega arith)
+completed-passes : (a : StepAnswer) (end : End) → isCompleted a ≡ true → endAfter a end ≡ end
+completed-passes StepAnswer.Completed end h = refl
+completed-passes StepAnswer.Called end h = refl
+completed-passes (StepAnswer.Stopped stop) end h = let z : _≡_ {A = ℕ} 0 1 = cc in absurd (omega arith)
 
 -- the end of one step
-one-end : (a : Answer) → (endNumber (endAfter a End.Done) ≡ 0) ↔ (not (isCompleted a) ≡ false)
-one-end Answer.Completed = (λ _. refl, λ _. refl)
-one-end Answer.Called = (λ _. refl, λ _. refl)
-one-end (Answer.Stopped stop) = (
+one-end : (a : StepAnswer) → (endNumber (endAfter a End.Done) ≡ 0) ↔ (not (isCompleted a) ≡ false)
+one-end StepAnswer.Completed = (λ _. refl, λ _. refl)
+one-end StepAnswer.Called = (λ _. refl, λ _. refl)
+one-end (StepAnswer.Stopped stop) = (
   λ e. absurd (omega (arith, stop-range stop .0)),
   λ h. let z : _≡_ {A = ℕ} 0 1 = cc in absurd (omega arith),
 )
@@ -137,10 +137,10 @@ others-completed [] l = refl
 others-completed (e ∷ []) l = one-or-other (isCompleted (e .result .answer))
 others-completed (e ∷ f ∷ rest) l = rw (l .0) (omega (arith, others-completed (f ∷ rest) (l .1)))
 
-stopped-ends : (a : Answer) (end : End) → isCompleted a ≡ false → endAfter a end ≡ End.Done → ⊥
-stopped-ends Answer.Completed end h e = let z : _≡_ {A = ℕ} 0 1 = cc in absurd (omega arith)
-stopped-ends Answer.Called end h e = let z : _≡_ {A = ℕ} 0 1 = cc in absurd (omega arith)
-stopped-ends (Answer.Stopped stop) end h e = let z : _≡_ {A = ℕ} 0 1 = cc in absurd (omega arith)
+stopped-ends : (a : StepAnswer) (end : End) → isCompleted a ≡ false → endAfter a end ≡ End.Done → ⊥
+stopped-ends StepAnswer.Completed end h e = let z : _≡_ {A = ℕ} 0 1 = cc in absurd (omega arith)
+stopped-ends StepAnswer.Called end h e = let z : _≡_ {A = ℕ} 0 1 = cc in absurd (omega arith)
+stopped-ends (StepAnswer.Stopped stop) end h e = let z : _≡_ {A = ℕ} 0 1 = cc in absurd (omega arith)
 
 -- where the end is 0 as many steps are completed as were asked
 pub all-asked : (m : Memory) (s : State) (n : ℕ) → endOf (history m s n) ≡ End.Done → completedSteps (history m s n) ≡ n
@@ -180,14 +180,14 @@ ram-passes ram e h c = ap (λ b. ramLeft (pick b (e .result .ram) ram) h) c
 
 module _ (m : Memory) (s : State) where
   -- a run is the run from its beginning, with nothing before it
-  pub run-begins : (n : ℕ) → further 0 0 (played m s n) ≡ played m s n
+  pub run-begins : (n : ℕ) → further 0 0 (executed m s n) ≡ executed m s n
   run-begins n = simp zero-add
 
   -- a run whose first step completes goes on as the run of one step less from there
   pub run-goes-on : (n steps calls : ℕ) → isCompleted (step m s .answer) ≡ true
-      → further steps calls (played m s (suc n))
+      → further steps calls (executed m s (suc n))
       ≡ further (steps + 1) (calls + bit (isCall (step m s .answer)))
-      (played (withRam (step m s .ram) m) (step m s .state) n)
+      (executed (withRam (step m s .ram) m) (step m s .state) n)
   run-goes-on n steps calls c =
       let e = event m s in
       let h = onward m s n in
@@ -201,12 +201,12 @@ module _ (m : Memory) (s : State) where
       (simp add-assoc)
 
   -- a run whose first step stops ends so
-  pub run-stops : (n steps calls : ℕ) (stop : Stop) → step m s .answer ≡ Answer.Stopped stop
-      → further steps calls (played m s (suc n)) ≡ ended (End.AtStop stop) steps calls s (m .ram)
+  pub run-stops : (n steps calls : ℕ) (stop : Stop) → step m s .answer ≡ StepAnswer.Stopped stop
+      → further steps calls (executed m s (suc n)) ≡ ended (End.AtStop stop) steps calls s (m .ram)
   run-stops n steps calls stop e = rw (stops-there m s n (rw e refl), e) (simp add-zero)
 
   -- a run of 0 steps ends with 0
-  pub run-ends : (steps calls : ℕ) → further steps calls (played m s 0) ≡ ended End.Done steps calls s (m .ram)
+  pub run-ends : (steps calls : ℕ) → further steps calls (executed m s 0) ≡ ended End.Done steps calls s (m .ram)
   unfolding history
   run-ends steps calls = simp add-zero
 
@@ -214,7 +214,7 @@ module _ (m : Memory) (s : State) where
 
 module _ (m : Memory) (s : State) (n : ℕ) where
   pub admitted-ran : admission m s n ≡ TestResult.Passed
-      → (runHistory m s n ≡ history m s n) × (ran m s n ≡ played m s n)
+      → (runHistory m s n ≡ history m s n) × (ran m s n ≡ executed m s n)
   unfolding ran admittedHistory
   admitted-ran a = (rw a refl, rw a refl)
 
@@ -260,7 +260,7 @@ module _ (m : Memory) (s : State) where
       served-so : (i : Instruction) (d : Change) (v : Served) → isCompleted (onServed v i d m s .answer) ≡ false
           → (onServed v i d m s .state ≡ s) × (onServed v i d m s .ram ≡ m .ram)
       served-so i d Served.All e = absurd (completed-stops (sym (changes-complete (d .calls)) ∙ e))
-      served-so i d (Served.Refused stop) e = (refl, refl)
+      served-so i d (Served.Unserved stop) e = (refl, refl)
 
       planned-so : (i : Instruction) (p : Plan) → isCompleted (finish p i m s .answer) ≡ false
           → (finish p i m s .state ≡ s) × (finish p i m s .ram ≡ m .ram)
@@ -274,16 +274,16 @@ module _ (m : Memory) (s : State) where
       by (Decoded.Whole i) e = planned-so i (plan m s i) e
 
   -- a run of one step answers as the step ended, and leaves what it left
-  pub played-one : played m s 1 ≡ oneStep (step m s)
+  pub executed-one : executed m s 1 ≡ oneStep (step m s)
   unfolding history
-  played-one = by (isCompleted (step m s .answer)) refl
+  executed-one = by (isCompleted (step m s .answer)) refl
     where
-      stays : (t : Answer) → isCompleted t ≡ false → bit (isCall t) ≡ 0
-      stays Answer.Completed c = absurd (completed-stops c)
-      stays Answer.Called c = absurd (completed-stops c)
-      stays (Answer.Stopped stop) c = refl
+      stays : (t : StepAnswer) → isCompleted t ≡ false → bit (isCall t) ≡ 0
+      stays StepAnswer.Completed c = absurd (completed-stops c)
+      stays StepAnswer.Called c = absurd (completed-stops c)
+      stays (StepAnswer.Stopped stop) c = refl
 
-      by : (b : Bool) → isCompleted (step m s .answer) ≡ b → played m s 1 ≡ oneStep (step m s)
+      by : (b : Bool) → isCompleted (step m s .answer) ≡ b → executed m s 1 ≡ oneStep (step m s)
       by true c = rw (goes-on m s 0 c, c) (simp add-zero)
       by false c =
           rw (stops-there m s 0 c, c, stays (step m s .answer) c, stopped-leaves c .0, stopped-leaves c .1)

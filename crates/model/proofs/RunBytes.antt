@@ -15,8 +15,8 @@ use Rattle.types.specs.declared.runs.RunAnswer.{RunAnswer}
 use Rattle.types.specs.Refusals.{firstRefusal}
 use Rattle.model.specs.Memory.{Memory}
 use Rattle.model.specs.Run.{history, completedSteps, callsAmong, endOf, stateFits, runTests, admission}
-use Rattle.model.specs.Run.{runHistory, played, ran}
-use Rattle.model.specs.StateBytes.{stateSize, stateOf, bytesOf}
+use Rattle.model.specs.Run.{runHistory, executed, ran}
+use Rattle.model.specs.StateBytes.{stateSize, stateOf, stateBytes}
 use Rattle.model.specs.RunBytes.{bytesFit, asBytes, ranBytesBy, ranBytes}
 use Rattle.prelude.specs.Bytes.{AllBytes}
 use Rattle.prelude.proofs.Choice.{both-true}
@@ -63,7 +63,7 @@ module _ (m : Memory) (bytes : List ℕ) (asked : ℕ) where
   pub record Taken : Type 0 where
     pub long : length bytes ≡ stateSize
     pub history-is : runHistory m (stateOf bytes) asked ≡ history m (stateOf bytes) asked
-    pub ran-is : ranBytes m bytes asked ≡ asBytes (played m (stateOf bytes) asked)
+    pub ran-is : ranBytes m bytes asked ≡ asBytes (executed m (stateOf bytes) asked)
 
   pub taken : (end : End) (steps calls : ℕ) → ranBytes m bytes asked .answer ≡ RunAnswer.Ended end steps calls → Taken
   unfolding ranBytes
@@ -104,6 +104,6 @@ module _ (m : Memory) (bytes : List ℕ) (asked : ℕ) where
       let none : RunAnswer.Ended (endOf h) (completedSteps h) (callsAmong h) ≡ RunAnswer.Ended end 0 calls =
       sym (ap (λ r. r .answer) same) ∙ told in
       let left = none-completed (stateOf bytes) (m .ram) h cc in (
-        ap (λ r. r .state) same ∙ ap bytesOf (left .0) ∙ bytes-state bytes (t .long) small,
+        ap (λ r. r .state) same ∙ ap stateBytes (left .0) ∙ bytes-state bytes (t .long) small,
         ap (λ r. r .ram) same ∙ left .1,
       )

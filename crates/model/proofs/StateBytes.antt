@@ -14,9 +14,9 @@ use Rattle.types.specs.declared.machine.Status.{Status}
 use Rattle.fields.specs.Fields.{number}
 use Rattle.types.specs.Status.{statusOf, numberOf}
 use Rattle.model.specs.Step.{callLimit}
-use Rattle.model.specs.StateBytes.{headSize, entrySize, stateSize}
+use Rattle.model.specs.StateBytes.{headSize, recordSize, stateSize}
 use Rattle.fields.specs.Fields.{lowBytes, joined, parted, fieldAt}
-use Rattle.model.specs.StateBytes.{coreOf, stateOf, headOf, bytesOf, Keeps}
+use Rattle.model.specs.StateBytes.{coreOf, stateOf, headOf, stateBytes, Keeps}
 use Rattle.prelude.specs.Bytes.{AllBytes}
 use Rattle.prelude.proofs.Bytes.{bytes-drop}
 use Rattle.model.proofs.Status.{status-number, number-status, status-bound}
@@ -27,19 +27,19 @@ use Rattle.model.proofs.Status.{status-number, number-status, status-bo
 
 -- ---- a state to bytes and back
 
-entries-behind : (s : State) → drop headSize (bytesOf s) ≡ joined entrySize (s .calls)
-unfolding bytesOf headOf joined lowBytes
+entries-behind : (s : State) → drop headSize (stateBytes s) ≡ joined recordSize (s .calls)
+unfolding stateBytes headOf joined lowBytes
 entries-behind s = refl
 
 -- the open calls come back, whatever the registers
-pub calls-back : (s : State) → length (s .calls) ≡ callLimit → ((k : ℕ) → getD (s .calls) k 0 < 256 ^ entrySize)
-    → stateOf (bytesOf s) .calls ≡ s .calls
+pub calls-back : (s : State) → length (s .calls) ≡ callLimit → ((k : ℕ) → getD (s .calls) k 0 < 256 ^ recordSize)
+    → stateOf (stateBytes s) .calls ≡ s .calls
 unfolding stateOf
-calls-back s long small = rw (entries-behind s, ← long) (parted-joined entrySize (s .calls) small)
+calls-back s long small = rw (entries-behind s, ← long) (parted-joined recordSize (s .calls) small)
 
 module _ (s : State) (k : Keeps s) where
-  core-head : coreOf (bytesOf s) ≡ s .core
-  unfolding coreOf bytesOf headOf joined lowBytes
+  core-head : coreOf (stateBytes s) ≡ s .core
+  unfolding coreOf stateBytes headOf joined lowBytes
   core-head = λ j. record {
     registers =
         record {
@@ -64,7 +64,7 @@ module _ (s : State) (k : Keeps s) where
       same-status =
           ap statusOf (number-low 2 (numberOf given) (status-bound given (k .registers .level))) ∙ number-status given
 
-  pub state-bytes : stateOf (bytesOf s) ≡ s
+  pub state-bytes : stateOf (stateBytes s) ≡ s
   unfolding stateOf
   state-bytes = λ j. record { core = core-head j; calls = calls-back s (k .calls) (k .entries) j }
 
@@ -110,14 +110,14 @@ head-core bytes small room =
     )
     (sym (take-add 18 2 bytes))
 
-pub bytes-state : (bytes : List ℕ) → length bytes ≡ stateSize → AllBytes bytes → bytesOf (stateOf bytes) ≡ bytes
-unfolding bytesOf stateOf
+pub bytes-state : (bytes : List ℕ) → length bytes ≡ stateSize → AllBytes bytes → stateBytes (stateOf bytes) ≡ bytes
+unfolding stateBytes stateOf
 bytes-state bytes long small =
     rw (
       head-core bytes small (omega arith),
-      joined-parted entrySize callLimit (drop headSize bytes) (bytes-drop headSize bytes small)
+      joined-parted recordSize callLimit (drop headSize bytes) (bytes-drop headSize bytes small)
           (rw length-drop (omega arith)),
-      ← take-add headSize (entrySize * callLimit) bytes,
+      ← take-add headSize (recordSize * callLimit) bytes,
     )
     (take-all stateSize bytes (omega arith))
 
@@ -127,12 +127,12 @@ head-length : (c : Core) → length (headOf c) ≡ headSize
 unfolding headOf joined lowBytes
 head-length c = refl
 
-pub bytes-length : (s : State) → length (s .calls) ≡ callLimit → length (bytesOf s) ≡ stateSize
-unfolding bytesOf
+pub bytes-length : (s : State) → length (s .calls) ≡ callLimit → length (stateBytes s) ≡ stateSize
+unfolding stateBytes
 bytes-length s whole =
     rw (
-      length-append (headOf (s .core)) (joined entrySize (s .calls)),
+      length-append (headOf (s .core)) (joined recordSize (s .calls)),
       head-length (s .core),
-      length-joined entrySize (s .calls),
+      length-joined recordSize (s .calls),
       whole,
     )

@@ -14,17 +14,17 @@ use Rattle.types.specs.declared.code.Instruction.{Instruction}
 use Rattle.types.specs.declared.code.Decoded.{Decoded}
 use Rattle.types.specs.declared.machine.Status.{Status}
 use Rattle.types.specs.declared.machine.State.{State}
-use Rattle.types.specs.declared.machine.Residence.{Residence}
+use Rattle.types.specs.declared.machine.OperandPlace.{OperandPlace}
 use Rattle.prelude.specs.Choice.{pick}
 use Rattle.model.specs.Operations.{isIn}
-use Rattle.model.specs.CodeMap.{prefixBytes, entryAt, flowOf, effectOf as changesOf, widthOf}
+use Rattle.model.specs.CodeMap.{prefixBytes, entryAt, flowOf, widthEffectOf as changesOf, widthOf}
 use Rattle.model.specs.Decode.{pageOf}
 use Rattle.model.specs.Rules.{setBit, clearBit, mAfter, xAfter}
 use Rattle.types.specs.Status.{maskX, maskM, isSet, statusOf, numberOf}
 use Rattle.prelude.specs.Choice.{bit}
 use Rattle.anywidth.specs.AnyWidth.{size, low, clearedBy}
 use Rattle.model.specs.Memory.{Memory}
-use Rattle.model.specs.Addressing.{residenceOf, dataOf, operandBy}
+use Rattle.model.specs.Addressing.{operandPlaceOf, dataOf, operandBy}
 use Rattle.model.specs.Arithmetic.{withWidths, withFlagsSet, withFlagsCleared}
 use Rattle.model.specs.Effects.{effectOf}
 use Rattle.model.specs.Step.{bytesFrom, fetched, placeOf, operates, planBy, step}
@@ -142,7 +142,7 @@ pub record By (i : Instruction) (o : Operation) : Type 0 where
   pub flow : i .entry .flow ≡ flowOf o (i .entry .mode)
   pub effect : i .entry .effect ≡ changesOf o
   pub width : i .entry .width ≡ widthOf o
-  pub behind : residenceOf (i .entry .mode) ≡ Residence.Instruction
+  pub behind : operandPlaceOf (i .entry .mode) ≡ OperandPlace.Instruction
 
 by-entry : (i : Instruction) (page code : ℕ) (operation : Operation) → i .entry ≡ entryAt page code
     → i .entry .operation ≡ operation → isIn (Operation.SEP ∷ Operation.CLP ∷ []) operation ≡ true → By i operation

@@ -28,8 +28,8 @@ use Rattle.types.specs.declared.machine.Data.{Data}
 use Rattle.prelude.specs.Choice.{pick}
 use Rattle.types.specs.Addresses.{addressLimit}
 use Rattle.model.specs.Rules.{nextAddress, kindNumber}
-use Rattle.model.specs.Memory.{Memory, memory, inImage, Outcome, done, unmapped, come, servedAt, served}
-use Rattle.model.specs.Addressing.{accessOf, dataOf, pulledAt}
+use Rattle.model.specs.Memory.{Memory, memory, inImage, Outcome, done, unmapped, evaluate, servedAt, served}
+use Rattle.model.specs.Addressing.{operandUseOf, dataOf, pulledAt}
 use Rattle.model.specs.Arithmetic.{withS}
 use Rattle.model.specs.Effects.{store, storesOf, pushOf, pushedAt}
 use Rattle.model.specs.Decode.{decode}
@@ -126,13 +126,13 @@ module _ (ram image : List ℕ) (base : ℕ) (c : Core) (place : ℕ) (there : p
 -- ---- the order of stops, as laws of the definition
 -- 27 before any read: whatever memory holds
 pub decimal-first : (m : Memory) (c : Core) (i : Instruction) (goes : Bool → ℕ)
-    → isDecimal (accessOf (i .entry .operation)) (c .registers) ≡ true → operates c i m goes ≡ stops Stop.Decimal
+    → isDecimal (operandUseOf (i .entry .operation)) (c .registers) ≡ true → operates c i m goes ≡ stops Stop.Decimal
 unfolding operates
 decimal-first m c i goes h = rw h refl
 
 -- 24 only after the pulls: a byte that is not mapped decides before
 pub pulls-first : (m : Memory) (c : Core) (i : Instruction) (open-call : ℕ) (kind : Kind)
-    → come m (pullsReturn c i kind) ≡ unmapped → planBy c i m open-call (Flow.Return kind) ≡ stops Stop.Unmapped
+    → evaluate m (pullsReturn c i kind) ≡ unmapped → planBy c i m open-call (Flow.Return kind) ≡ stops Stop.Unmapped
 unfolding planBy
 pulls-first m c i open-call kind h = rw h refl
 
@@ -144,8 +144,8 @@ deep-first m c i open-call kind h = rw h refl
 
 -- the first store that can't be served decides
 pub first-unserved : (m : Memory) (a : Store) (rest : List Store) (stop : Stop)
-    → servedAt m (a .address) ≡ Served.Refused stop
-    → served m (a ∷ rest) ≡ Served.Refused stop
+    → servedAt m (a .address) ≡ Served.Unserved stop
+    → served m (a ∷ rest) ≡ Served.Unserved stop
 first-unserved m a rest stop h = rw h refl
 
 -- a word goes low byte first, a push high byte first
@@ -178,7 +178,7 @@ opens-below c i m opened = by
 
     asked : Outcome Data
     asked =
-        come m (dataOf (access c i) (i .entry .mode) (i .entry .accumulator) (c .registers) (short c i) (i .operand))
+        evaluate m (dataOf (access c i) (i .entry .mode) (i .entry .accumulator) (c .registers) (short c i) (i .operand))
 
     works-so : (b : Bool) (o : Outcome Data) (goes : Bool → ℕ)
         → PlanOpens (pick b (stops Stop.Decimal) (onRead o (works c i goes))) (c .depth)
@@ -211,7 +211,7 @@ opens-below c i m opened = by
         calls-so kind (ltb (c .depth) callLimit) refl
         (change (withS (pushedAt (c .registers) (returnBytes kind)) (c .registers)) (target c i)
         (CallChange.Open (next c i) (kindNumber kind)) (pushesReturn c i kind)) refl
-    by (Flow.Return kind) = pulls-so kind (come m (pullsReturn c i kind))
+    by (Flow.Return kind) = pulls-so kind (evaluate m (pullsReturn c i kind))
     by Flow.Halt = tt
 
 depth-after : (change : CallChange) (depth : ℕ) → Opens change depth → depth ≤ callLimit
@@ -227,7 +227,7 @@ depth-kept m s h = by (fetched m (s .core))
     serves-so : (i : Instruction) (d : Change) (v : Served) → Opens (d .calls) (s .core .depth)
         → onServed v i d m s .state .core .depth ≤ callLimit
     serves-so i d Served.All o = depth-after (d .calls) (s .core .depth) o h
-    serves-so i d (Served.Refused stop) o = h
+    serves-so i d (Served.Unserved stop) o = h
 
     plans-so : (i : Instruction) (p : Plan) → PlanOpens p (s .core .depth)
         → finish p i m s .state .core .depth ≤ callLimit

@@ -16,15 +16,15 @@ use Rattle.types.specs.declared.code.Instruction.{Instruction}
 use Rattle.types.specs.declared.code.Decoded.{Decoded}
 use Rattle.types.specs.declared.refusals.Refusal.{Refusal}
 use Rattle.types.specs.declared.refusals.TestResult.{TestResult}
-use Rattle.types.specs.declared.rules.Want.{Want}
-use Rattle.types.specs.declared.rules.Owed.{Owed}
+use Rattle.types.specs.declared.rules.Requirement.{Requirement}
+use Rattle.types.specs.declared.rules.Requirements.{Requirements}
 use Rattle.types.specs.declared.rules.Verdict.{Verdict}
 use Rattle.prelude.specs.Choice.{pick}
 use Rattle.model.specs.Image.{isFormed, markAt}
 use Rattle.types.specs.Refusals.{firstRefusal}
 use Rattle.model.specs.Rules.{owedThere, instructionAt, Met, AllMet, StartRules, Accepts}
 use Rattle.prelude.specs.First.{firstFrom}
-use Rattle.model.specs.Verdict.{startAt, isClear, wantsStart, allStarts, wantsMark, allMarks}
+use Rattle.model.specs.Verdict.{startAt, isClear, isStartAt, allStarts, hasMarkAt, allMarks}
 use Rattle.model.specs.Verdict.{wholeTests}
 use Rattle.model.specs.Verdict.{decodedResult, startResult, brokenAt, badStart, startsVerdict, unformedAt}
 use Rattle.model.specs.Verdict.{badMark}
@@ -58,38 +58,38 @@ all-clear marks at n h =
 
 -- ---- 8 and 9: the wants
 
-met-tests : (marks : List ℕ) (base : ℕ) (w : Want) → wantsStart marks base w ≡ true → wantsMark marks base w ≡ true
+met-tests : (marks : List ℕ) (base : ℕ) (w : Requirement) → isStartAt marks base w ≡ true → hasMarkAt marks base w ≡ true
     → Met marks base w
-unfolding wantsStart wantsMark
+unfolding isStartAt hasMarkAt
 met-tests marks base w s m = record {
   is-start = s;
   has-mark = eqb-true (markAt marks base (w .address)) (w .mark) m;
 }
 
-met-start : (marks : List ℕ) (base : ℕ) (w : Want) → Met marks base w → wantsStart marks base w ≡ true
-unfolding wantsStart
+met-start : (marks : List ℕ) (base : ℕ) (w : Requirement) → Met marks base w → isStartAt marks base w ≡ true
+unfolding isStartAt
 met-start marks base w m = m .is-start
 
-met-mark : (marks : List ℕ) (base : ℕ) (w : Want) → Met marks base w → wantsMark marks base w ≡ true
-unfolding wantsMark
+met-mark : (marks : List ℕ) (base : ℕ) (w : Requirement) → Met marks base w → hasMarkAt marks base w ≡ true
+unfolding hasMarkAt
 met-mark marks base w m = eq-eqb (markAt marks base (w .address)) (w .mark) (m .has-mark)
 
-all-met : (marks : List ℕ) (base : ℕ) (o : Owed) → allStarts marks base o ≡ true → allMarks marks base o ≡ true →
+all-met : (marks : List ℕ) (base : ℕ) (o : Requirements) → allStarts marks base o ≡ true → allMarks marks base o ≡ true →
     AllMet marks base o
 unfolding allStarts allMarks
-all-met marks base Owed.Nothing s m = tt
-all-met marks base (Owed.One w) s m = met-tests marks base w s m
-all-met marks base (Owed.Two v w) s m =
-    let starts = both-true (wantsStart marks base v) (wantsStart marks base w) s in
-    let same = both-true (wantsMark marks base v) (wantsMark marks base w) m in
+all-met marks base Requirements.Nothing s m = tt
+all-met marks base (Requirements.One w) s m = met-tests marks base w s m
+all-met marks base (Requirements.Two v w) s m =
+    let starts = both-true (isStartAt marks base v) (isStartAt marks base w) s in
+    let same = both-true (hasMarkAt marks base v) (hasMarkAt marks base w) m in
     (met-tests marks base v (starts .0) (same .0), met-tests marks base w (starts .1) (same .1))
 
-met-all : (marks : List ℕ) (base : ℕ) (o : Owed) → AllMet marks base o
+met-all : (marks : List ℕ) (base : ℕ) (o : Requirements) → AllMet marks base o
     → (allStarts marks base o ≡ true) × (allMarks marks base o ≡ true)
 unfolding allStarts allMarks
-met-all marks base Owed.Nothing m = (refl, refl)
-met-all marks base (Owed.One w) m = (met-start marks base w m, met-mark marks base w m)
-met-all marks base (Owed.Two v w) m = (
+met-all marks base Requirements.Nothing m = (refl, refl)
+met-all marks base (Requirements.One w) m = (met-start marks base w m, met-mark marks base w m)
+met-all marks base (Requirements.Two v w) m = (
   rw (met-start marks base v (m .0)) (met-start marks base w (m .1)),
   rw (met-mark marks base v (m .0)) (met-mark marks base w (m .1)),
 )

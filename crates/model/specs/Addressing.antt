@@ -10,8 +10,8 @@ use Rattle.types.specs.declared.code.Mode.{Mode}
 use Rattle.types.specs.declared.code.DataWidth.{DataWidth}
 use Rattle.types.specs.declared.code.Accumulator.{Accumulator}
 use Rattle.types.specs.declared.machine.Registers.{Registers}
-use Rattle.types.specs.declared.machine.Access.{Access}
-use Rattle.types.specs.declared.machine.Residence.{Residence}
+use Rattle.types.specs.declared.machine.OperandUse.{OperandUse}
+use Rattle.types.specs.declared.machine.OperandPlace.{OperandPlace}
 use Rattle.types.specs.declared.machine.Data.{Data}
 use Rattle.prelude.specs.Choice.{pick}
 use Rattle.types.specs.Addresses.{bankSize, addressLimit}
@@ -33,12 +33,12 @@ abbrev pub adding : List Operation
 adding = Operation.ADC ∷ Operation.SBC ∷ []
 
 -- what an operation asks of memory
-abbrev pub accessOf : Operation → Access
-accessOf operation =
-    pick (isIn adding operation) Access.Addend
-    (pick (isIn storing operation) Access.Address
-    (pick (isIn pulling operation) Access.Pull
-    (pick (isIn (Operation.PEI ∷ []) operation) Access.DirectWord Access.Operand)))
+abbrev pub operandUseOf : Operation → OperandUse
+operandUseOf operation =
+    pick (isIn adding operation) OperandUse.Addend
+    (pick (isIn storing operation) OperandUse.Address
+    (pick (isIn pulling operation) OperandUse.Pull
+    (pick (isIn (Operation.PEI ∷ []) operation) OperandUse.DirectWord OperandUse.Operand)))
 
 -- whether data of a width has 8 bits at the widths m and x
 abbrev pub isShort : DataWidth → Bool → Bool → Bool
@@ -127,35 +127,35 @@ addressOf Mode.StackPointerRelativeIndirectIndexedY r operand = byWordY r (stack
 addressOf Mode.BlockTransfer r operand = ret 0
 
 -- where the data of a mode lies; JMP and JSR through memory are not carried
-abbrev pub residenceOf : Mode → Residence
-residenceOf Mode.Implied = Residence.Register
-residenceOf Mode.Immediate = Residence.Instruction
-residenceOf Mode.Accumulator = Residence.Register
-residenceOf Mode.Direct = Residence.Memory
-residenceOf Mode.DirectBit = Residence.Memory
-residenceOf Mode.DirectIndexedX = Residence.Memory
-residenceOf Mode.DirectIndexedY = Residence.Memory
-residenceOf Mode.DirectIndirect = Residence.Memory
-residenceOf Mode.DirectIndexedXIndirect = Residence.Memory
-residenceOf Mode.DirectIndirectIndexedY = Residence.Memory
-residenceOf Mode.DirectIndirectLong = Residence.Memory
-residenceOf Mode.DirectIndirectLongIndexedY = Residence.Memory
-residenceOf Mode.Absolute = Residence.Memory
-residenceOf Mode.AbsoluteBit = Residence.Memory
-residenceOf Mode.AbsoluteIndexedX = Residence.Memory
-residenceOf Mode.AbsoluteIndexedY = Residence.Memory
-residenceOf Mode.AbsoluteLong = Residence.Memory
-residenceOf Mode.AbsoluteLongIndexedX = Residence.Memory
-residenceOf Mode.AbsoluteIndirect = Residence.Register
-residenceOf Mode.AbsoluteIndirectLong = Residence.Register
-residenceOf Mode.AbsoluteIndexedXIndirect = Residence.Register
-residenceOf Mode.Stack = Residence.Register
-residenceOf Mode.Relative = Residence.Register
-residenceOf Mode.DirectBitRelative = Residence.Memory
-residenceOf Mode.AbsoluteBitRelative = Residence.Memory
-residenceOf Mode.StackPointerRelative = Residence.Memory
-residenceOf Mode.StackPointerRelativeIndirectIndexedY = Residence.Memory
-residenceOf Mode.BlockTransfer = Residence.Register
+abbrev pub operandPlaceOf : Mode → OperandPlace
+operandPlaceOf Mode.Implied = OperandPlace.Register
+operandPlaceOf Mode.Immediate = OperandPlace.Instruction
+operandPlaceOf Mode.Accumulator = OperandPlace.Register
+operandPlaceOf Mode.Direct = OperandPlace.Memory
+operandPlaceOf Mode.DirectBit = OperandPlace.Memory
+operandPlaceOf Mode.DirectIndexedX = OperandPlace.Memory
+operandPlaceOf Mode.DirectIndexedY = OperandPlace.Memory
+operandPlaceOf Mode.DirectIndirect = OperandPlace.Memory
+operandPlaceOf Mode.DirectIndexedXIndirect = OperandPlace.Memory
+operandPlaceOf Mode.DirectIndirectIndexedY = OperandPlace.Memory
+operandPlaceOf Mode.DirectIndirectLong = OperandPlace.Memory
+operandPlaceOf Mode.DirectIndirectLongIndexedY = OperandPlace.Memory
+operandPlaceOf Mode.Absolute = OperandPlace.Memory
+operandPlaceOf Mode.AbsoluteBit = OperandPlace.Memory
+operandPlaceOf Mode.AbsoluteIndexedX = OperandPlace.Memory
+operandPlaceOf Mode.AbsoluteIndexedY = OperandPlace.Memory
+operandPlaceOf Mode.AbsoluteLong = OperandPlace.Memory
+operandPlaceOf Mode.AbsoluteLongIndexedX = OperandPlace.Memory
+operandPlaceOf Mode.AbsoluteIndirect = OperandPlace.Register
+operandPlaceOf Mode.AbsoluteIndirectLong = OperandPlace.Register
+operandPlaceOf Mode.AbsoluteIndexedXIndirect = OperandPlace.Register
+operandPlaceOf Mode.Stack = OperandPlace.Register
+operandPlaceOf Mode.Relative = OperandPlace.Register
+operandPlaceOf Mode.DirectBitRelative = OperandPlace.Memory
+operandPlaceOf Mode.AbsoluteBitRelative = OperandPlace.Memory
+operandPlaceOf Mode.StackPointerRelative = OperandPlace.Memory
+operandPlaceOf Mode.StackPointerRelativeIndirectIndexedY = OperandPlace.Memory
+operandPlaceOf Mode.BlockTransfer = OperandPlace.Register
 
 -- the accumulator that an entry names, A where it names none
 abbrev pub accumulatorOf : Accumulator → Registers → ℕ
@@ -188,25 +188,25 @@ inMemory mode r short operand = do
   ret (dataAt address v)
 
 -- the data that a mode names
-unfoldable pub operandBy : Residence → Mode → Accumulator → Registers → Bool → ℕ → Act Data
-operandBy Residence.Memory mode register r short operand = inMemory mode r short operand
-operandBy Residence.Instruction mode register r short operand = ret (dataAt 0 (low (bits short) operand))
-operandBy Residence.Register mode register r short operand =
+unfoldable pub operandBy : OperandPlace → Mode → Accumulator → Registers → Bool → ℕ → Act Data
+operandBy OperandPlace.Memory mode register r short operand = inMemory mode r short operand
+operandBy OperandPlace.Instruction mode register r short operand = ret (dataAt 0 (low (bits short) operand))
+operandBy OperandPlace.Register mode register r short operand =
     ret (dataAt 0 (low (bits short) (accumulatorOf register r)))
 
 abbrev pub operandOf : Mode → Accumulator → Registers → Bool → ℕ → Act Data
-operandOf mode = operandBy (residenceOf mode) mode
+operandOf mode = operandBy (operandPlaceOf mode) mode
 
 -- what is read before an operation works
-unfoldable pub dataOf : Access → Mode → Accumulator → Registers → Bool → ℕ → Act Data
-dataOf Access.Operand mode register r short operand = operandOf mode register r short operand
-dataOf Access.Addend mode register r short operand = operandOf mode register r short operand
-dataOf Access.Address mode register r short operand = do
+unfoldable pub dataOf : OperandUse → Mode → Accumulator → Registers → Bool → ℕ → Act Data
+dataOf OperandUse.Operand mode register r short operand = operandOf mode register r short operand
+dataOf OperandUse.Addend mode register r short operand = operandOf mode register r short operand
+dataOf OperandUse.Address mode register r short operand = do
   address ← addressOf mode r operand
   ret (dataAt address 0)
-dataOf Access.Pull mode register r short operand = do
+dataOf OperandUse.Pull mode register r short operand = do
   v ← pulled short r
   ret (dataAt 0 v)
-dataOf Access.DirectWord mode register r short operand = do
+dataOf OperandUse.DirectWord mode register r short operand = do
   v ← readWord (direct r operand)
   ret (dataAt 0 v)

@@ -105,8 +105,8 @@ targetForm f =
     Target.NoTarget)
 
 -- 01, 'Only SEM, CLM, SEP and CLP change them'
-abbrev pub effectOf : Operation → WidthEffect
-effectOf operation =
+abbrev pub widthEffectOf : Operation → WidthEffect
+widthEffectOf operation =
     pick (isIn (Operation.SEM ∷ []) operation) WidthEffect.SetM
     (pick (isIn (Operation.CLM ∷ []) operation) WidthEffect.ClearM
     (pick (isIn (Operation.SEP ∷ []) operation) WidthEffect.SetBits
@@ -135,8 +135,8 @@ ruleOf operation mode =
     LengthRule.Fixed
 
 -- the length at m=1 and x=1: prefix, code, what stands behind it; an unassigned code has none
-abbrev pub bytesOf : ℕ → Form → ℕ
-bytesOf prefix f =
+abbrev pub formBytes : ℕ → Form → ℕ
+formBytes prefix f =
     pick (isIn (Operation.Unassigned ∷ []) (f .operation)) 0
     (prefix + 1 + shapeOf (f .mode) .bytes + ownBytes (f .operation) + pick (f .isFar) 1 0)
 
@@ -149,8 +149,8 @@ entryOf prefix f = record {
   carried = carriedOf (f .operation) (f .mode);
   flow = flowOf (f .operation) (f .mode);
   target = targetForm f;
-  effect = effectOf (f .operation);
-  bytes = bytesOf prefix f;
+  effect = widthEffectOf (f .operation);
+  bytes = formBytes prefix f;
   rule = ruleOf (f .operation) (f .mode);
   width = widthOf (f .operation);
 }

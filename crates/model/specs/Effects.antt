@@ -16,14 +16,14 @@ use ops.{TAS, TAX, TAY, TBD, TBS, TBX, TBY, TDA, TDB, TSA, TSB, TSX, TXA, TXB, T
 use Rattle.types.specs.declared.code.Mode.{Mode}
 use Rattle.types.specs.declared.code.Accumulator.{Accumulator}
 use Rattle.types.specs.declared.machine.Registers.{Registers}
-use Rattle.types.specs.declared.machine.Residence.{Residence}
+use Rattle.types.specs.declared.machine.OperandPlace.{OperandPlace}
 use Rattle.types.specs.declared.machine.Data.{Data}
 use Rattle.types.specs.declared.machine.Store.{Store}
 use Rattle.prelude.specs.Choice.{pick}
 use Rattle.types.specs.Addresses.{bankSize}
 use Rattle.types.specs.Status.{numberOf}
 use Rattle.anywidth.specs.AnyWidth.{low, isNegative, decremented, clearedBy, shiftedLeft, shiftedRight, isOdd}
-use Rattle.model.specs.Addressing.{bits, residenceOf, accumulatorOf, pulledAt}
+use Rattle.model.specs.Addressing.{bits, operandPlaceOf, accumulatorOf, pulledAt}
 use Rattle.model.specs.Arithmetic.{withCarry, withDisable, withOverflow, withFlagsSet, withFlagsCleared}
 use Rattle.model.specs.Arithmetic.{withS, withDpr, withDt, withStatus, flagged, loadsA, loadsB, loadsX, loadsY}
 use Rattle.model.specs.Arithmetic.{loads, adds, subtracts, compares, ands, ors, exclusiveOrs}
@@ -80,13 +80,13 @@ abbrev pub popped : Bool → Registers → Registers
 popped short r = withS (pulledAt r (bytes short)) r
 
 -- a result goes where the data came from, with C, N and Z
-abbrev pub modifiesBy : Residence → Accumulator → Bool → ℕ → Bool → ℕ → Registers → Effect
-modifiesBy Residence.Memory named short address carry v r =
+abbrev pub modifiesBy : OperandPlace → Accumulator → Bool → ℕ → Bool → ℕ → Registers → Effect
+modifiesBy OperandPlace.Memory named short address carry v r =
     effect (flagged (bits short) v (withStatus (withCarry carry (r .status)) r))
     (storesOf short address (low (bits short) v)) false
-modifiesBy Residence.Instruction named short address carry v r =
+modifiesBy OperandPlace.Instruction named short address carry v r =
     only (loads named (bits short) v (withStatus (withCarry carry (r .status)) r))
-modifiesBy Residence.Register named short address carry v r =
+modifiesBy OperandPlace.Register named short address carry v r =
     only (loads named (bits short) v (withStatus (withCarry carry (r .status)) r))
 
 -- SEB, CLB, BBS, BBC and LDM have immediate data behind an address of one byte or of two: how many numbers that address
@@ -144,7 +144,7 @@ module _ (mode : Mode) (named : Accumulator) (short : Bool) (operand next : ℕ)
   behind = behindAddress mode short operand
 
   abbrev pub modifies : Bool → ℕ → Effect
-  modifies carry result = modifiesBy (residenceOf mode) named short address carry result r
+  modifies carry result = modifiesBy (operandPlaceOf mode) named short address carry result r
 
   -- operations of other flows, SEM, CLM and NOP leave the registers as they are, and so does what is not carried
   unfoldable pub effectOf : Operation → Effect

@@ -25,7 +25,7 @@ use Rattle.model.specs.ListForm.{IsMarkList}
 use Rattle.model.specs.StatusBits.{ps}
 use Rattle.model.specs.Memory.{Memory}
 use Rattle.model.specs.Step.{callLimit, returnOf, kindOf}
-use Rattle.model.specs.Run.{ramLimit, stepLimit, played, ran}
+use Rattle.model.specs.Run.{ramLimit, stepLimit, executed, ran}
 use Rattle.model.specs.StateBytes.{stateSize, stateOf}
 use Rattle.model.specs.RunBytes.{ranBytes}
 
@@ -131,13 +131,13 @@ runGrounds m Wrong asked =
 abbrev pub RunAnswers : Type 0
 RunAnswers =
     (m : Memory) (s : State) (asked : ℕ)
-    → AnswersBy (runGrounds m (WrongState s) asked) RunAnswer.NotRun (played m s asked .answer) (ran m s asked .answer)
+    → AnswersBy (runGrounds m (WrongState s) asked) RunAnswer.NotRun (executed m s asked .answer) (ran m s asked .answer)
 
 -- the same of a state that is given as bytes
 abbrev pub RunBytesAnswers : Type 0
 RunBytesAnswers =
     (m : Memory) (bytes : List ℕ) (asked : ℕ)
-    → AnswersBy (runGrounds m (WrongBytes bytes) asked) RunAnswer.NotRun (played m (stateOf bytes) asked .answer)
+    → AnswersBy (runGrounds m (WrongBytes bytes) asked) RunAnswer.NotRun (executed m (stateOf bytes) asked .answer)
     (ranBytes m bytes asked .answer)
 
 -- ---- mark lists

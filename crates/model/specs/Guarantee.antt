@@ -5,7 +5,7 @@
 -- 'every step in the list's history, completed or stopped': of `joinedHistory`, is `Safe`.
 -- 'begins at a marked start, with m and x as marked there': `Marked`.
 -- 'its whole instruction within the image and its code carried': `WholeInside`.
--- 'A refused run makes no step': `Idle`. 'every other ends only because the steps asked for are done or by one of
+-- 'A refused run makes no step': `RefusedRun`. 'every other ends only because the steps asked for are done or by one of
 -- stops 22 to 27': `EndsWell`.
 -- 'a single claim about the whole list' (01): `Guaranteed`.
 -- Assumes nothing.
@@ -74,7 +74,7 @@ pub data EndsWell (h : List Event) (asked : ℕ) : Type 0 where
 -- A run that is not refused: its history is demand 2's steps, and it 'answers exactly its history's end, its number of
 -- completed steps, and the number of its calls ..; it leaves the state and RAM as they are after the last completed
 -- step'.
-pub record Kept (m : Memory) (s : State) (asked : ℕ) : Type 0 where
+pub record AdmittedRun (m : Memory) (s : State) (asked : ℕ) : Type 0 where
   pub steps : runHistory m s asked ≡ history m s asked
   pub ends : EndsWell (history m s asked) asked
   pub answer : ran m s asked .answer
@@ -84,23 +84,23 @@ pub record Kept (m : Memory) (s : State) (asked : ℕ) : Type 0 where
   pub ram : ran m s asked .ram ≡ ramLeft (m .ram) (history m s asked)
 
 -- A refused run makes no step, answers its refusal and leaves state and RAM as given.
-pub record Idle (m : Memory) (s : State) (asked : ℕ) (why : Refusal) : Type 0 where
+pub record RefusedRun (m : Memory) (s : State) (asked : ℕ) (why : Refusal) : Type 0 where
   pub steps : runHistory m s asked ≡ []
   pub answer : ran m s asked .answer ≡ RunAnswer.NotRun why
   pub state : ran m s asked .state ≡ s
   pub ram : ran m s asked .ram ≡ m .ram
 
 -- every run is one or the other
-pub data Accounted (m : Memory) (s : State) (asked : ℕ) : Type 0 where
-  admitted : admission m s asked ≡ TestResult.Passed → Kept m s asked → Accounted m s asked
-  refused : (why : Refusal) → admission m s asked ≡ TestResult.Failed why → Idle m s asked why → Accounted m s asked
+pub data RunOutcome (m : Memory) (s : State) (asked : ℕ) : Type 0 where
+  admitted : admission m s asked ≡ TestResult.Passed → AdmittedRun m s asked → RunOutcome m s asked
+  refused : (why : Refusal) → admission m s asked ≡ TestResult.Failed why → RefusedRun m s asked why → RunOutcome m s asked
 
 -- ---- the claim
 
 -- 'a single claim about the whole list and not one for each run'
 pub record Guaranteed (image marks : List ℕ) (base : ℕ) (runs : List Run) : Type 0 where
   pub every-step : Every (Safe image marks base) (joinedHistory image base runs)
-  pub every-run : Every (λ r. Accounted (memory (r .ram) image base) (r .state) (r .asked)) runs
+  pub every-run : Every (λ r. RunOutcome (memory (r .ram) image base) (r .state) (r .asked)) runs
 
 -- 'The first run is given a marked start, its widths and no open call'
 pub record Begins (marks : List ℕ) (m : Memory) (s : State) : Type 0 where

@@ -11,16 +11,16 @@ use lib.ListN.{length, getD}
 use Rattle.types.specs.declared.code.Instruction.{Instruction}
 use Rattle.types.specs.declared.code.Decoded.{Decoded}
 use Rattle.types.specs.declared.refusals.Refusal.{Refusal}
-use Rattle.types.specs.declared.rules.Want.{Want}
-use Rattle.types.specs.declared.rules.Owed.{Owed}
+use Rattle.types.specs.declared.rules.Requirement.{Requirement}
+use Rattle.types.specs.declared.rules.Requirements.{Requirements}
 use Rattle.model.specs.Image.{isStart, isFormed, lengthFits, baseFits, markAt, resetFits}
 use Rattle.model.specs.Rules.{owedThere, returnFits, instructionAt, StartRules}
 
 -- a want is among what is owed
-abbrev pub Among : Want → Owed → Type 0
-Among w Owed.Nothing = ⊥
-Among w (Owed.One v) = w ≡ v
-Among w (Owed.Two u v) = (w ≡ u) ⊎ (w ≡ v)
+abbrev pub Among : Requirement → Requirements → Type 0
+Among w Requirements.Nothing = ⊥
+Among w (Requirements.One v) = w ≡ v
+Among w (Requirements.Two u v) = (w ≡ u) ⊎ (w ≡ v)
 
 module _ (image marks : List ℕ) (base at : ℕ) where
   -- no start on the later bytes of an instruction
@@ -29,7 +29,7 @@ module _ (image marks : List ℕ) (base at : ℕ) where
 
   -- every want's address is a marked start
   abbrev pub AllStarts : Instruction → Type 0
-  AllStarts i = (w : Want) → Among w (owedThere marks base at i) → isStart (markAt marks base (w .address)) ≡ true
+  AllStarts i = (w : Requirement) → Among w (owedThere marks base at i) → isStart (markAt marks base (w .address)) ≡ true
 
   -- the refusal at a start
   pub data StartBreaks : Refusal → Type 0 where
@@ -41,11 +41,11 @@ module _ (image marks : List ℕ) (base at : ℕ) where
         → returnFits (i .entry .flow) (getD marks at 0) ≡ false → StartBreaks Refusal.Return
     flow : (i : Instruction) → instructionAt image marks at ≡ Decoded.Whole i → Clear i
         → returnFits (i .entry .flow) (getD marks at 0) ≡ true
-        → (w : Want) → Among w (owedThere marks base at i) → isStart (markAt marks base (w .address)) ≡ false
+        → (w : Requirement) → Among w (owedThere marks base at i) → isStart (markAt marks base (w .address)) ≡ false
         → StartBreaks Refusal.Flow
     widths : (i : Instruction) → instructionAt image marks at ≡ Decoded.Whole i → Clear i
         → returnFits (i .entry .flow) (getD marks at 0) ≡ true → AllStarts i
-        → (w : Want) → Among w (owedThere marks base at i) → (markAt marks base (w .address) ≡ w .mark → ⊥)
+        → (w : Requirement) → Among w (owedThere marks base at i) → (markAt marks base (w .address) ≡ w .mark → ⊥)
         → StartBreaks Refusal.Widths
 
 module _ (image marks : List ℕ) (base reset : ℕ) where

@@ -55,9 +55,9 @@ onByte (ByteRead.Byte b) more = more b
 onByte ByteRead.Unmapped more = unmapped
 
 -- what an action comes to
-abbrev pub come : {A : Type 0} → Memory → Act A → Outcome A
-come m (ret a) = done a
-come m (load at more) = onByte (byteAt m at) (λ byte. come m (more byte))
+abbrev pub evaluate : {A : Type 0} → Memory → Act A → Outcome A
+evaluate m (ret a) = done a
+evaluate m (load at more) = onByte (byteAt m at) (λ byte. evaluate m (more byte))
 
 -- numbers of two and three bytes, low byte first, wherever these lie
 abbrev pub byteFrom : ℕ → Act ℕ
@@ -94,11 +94,11 @@ readData short at = dataFrom short at (at + 1)
 unfoldable pub servedAt : Memory → ℕ → Served
 servedAt m address =
     pick (inRam m address) Served.All
-    (pick (inImage m address) (Served.Refused Stop.ImageStore) (Served.Refused Stop.Unmapped))
+    (pick (inImage m address) (Served.Unserved Stop.ImageStore) (Served.Unserved Stop.Unmapped))
 
 abbrev pub andThen : Served → Served → Served
 andThen Served.All more = more
-andThen (Served.Refused stop) more = Served.Refused stop
+andThen (Served.Unserved stop) more = Served.Unserved stop
 
 abbrev pub served : Memory → List Store → Served
 served m [] = Served.All

@@ -12,8 +12,8 @@ use Rattle.types.specs.declared.code.Target.{Target}
 use Rattle.types.specs.declared.code.WidthEffect.{WidthEffect}
 use Rattle.types.specs.declared.code.Instruction.{Instruction}
 use Rattle.types.specs.declared.code.Decoded.{Decoded}
-use Rattle.types.specs.declared.rules.Want.{Want}
-use Rattle.types.specs.declared.rules.Owed.{Owed}
+use Rattle.types.specs.declared.rules.Requirement.{Requirement}
+use Rattle.types.specs.declared.rules.Requirements.{Requirements}
 use Rattle.prelude.specs.Choice.{pick}
 use Rattle.types.specs.Status.{maskX, maskM}
 use Rattle.types.specs.Addresses.{bankSize, addressLimit}
@@ -76,8 +76,8 @@ abbrev pub kindNumber : Kind → ℕ
 kindNumber Kind.ByRts = 1
 kindNumber Kind.ByRtl = 2
 
-abbrev pub want : ℕ → ℕ → Want
-want address mark = record { address = address; mark = mark }
+abbrev pub requirement : ℕ → ℕ → Requirement
+requirement address mark = record { address = address; mark = mark }
 
 -- 'The target has the caller's widths and kind 1 (JSR) or 2 (JSR long)'; its return widths are its own. `mark` is the
 -- caller's, `there` the target's.
@@ -96,27 +96,27 @@ markAfter effect operand mark =
 
 -- What an instruction owes, by its flow: at which addresses which marks must stand. `mark` is the instruction's own,
 -- `after` that of a successor, `there` the mark at the target.
-unfoldable pub owedBy : Flow → ℕ → ℕ → ℕ → ℕ → ℕ → Owed
-owedBy Flow.Next mark after next target there = Owed.One (want next after)
-owedBy Flow.Branch mark after next target there = Owed.Two (want next after) (want target after)
-owedBy Flow.Jump mark after next target there = Owed.One (want target after)
+unfoldable pub owedBy : Flow → ℕ → ℕ → ℕ → ℕ → ℕ → Requirements
+owedBy Flow.Next mark after next target there = Requirements.One (requirement next after)
+owedBy Flow.Branch mark after next target there = Requirements.Two (requirement next after) (requirement target after)
+owedBy Flow.Jump mark after next target there = Requirements.One (requirement target after)
 owedBy (Flow.Call kind) mark after next target there =
-    Owed.Two (want target (markOfRoutine kind mark there)) (want next (markOnReturn mark there))
-owedBy (Flow.Return kind) mark after next target there = Owed.Nothing
-owedBy Flow.Halt mark after next target there = Owed.Nothing
+    Requirements.Two (requirement target (markOfRoutine kind mark there)) (requirement next (markOnReturn mark there))
+owedBy (Flow.Return kind) mark after next target there = Requirements.Nothing
+owedBy Flow.Halt mark after next target there = Requirements.Nothing
 
 -- where an instruction at an address goes by its target
 abbrev pub targetAddress : Instruction → ℕ → ℕ
 targetAddress i address = targetOf (i .entry .target) address (i .length) (i .operand)
 
 -- what an instruction at an address, with a mark there, owes
-unfoldable pub owedAt : List ℕ → ℕ → Instruction → ℕ → ℕ → Owed
+unfoldable pub owedAt : List ℕ → ℕ → Instruction → ℕ → ℕ → Requirements
 owedAt marks base i address mark =
     owedBy (i .entry .flow) mark (markAfter (i .entry .effect) (i .operand) mark) (nextAddress address (i .length))
     (targetAddress i address) (markAt marks base (targetAddress i address))
 
 -- what an instruction at a place of the image, with the mark there, owes
-abbrev pub owedThere : List ℕ → ℕ → ℕ → Instruction → Owed
+abbrev pub owedThere : List ℕ → ℕ → ℕ → Instruction → Requirements
 owedThere marks base at i = owedAt marks base i (base + at) (getD marks at 0)
 
 -- 'RTS stands only under kind 1, RTL only under kind 2, each at the marked return widths.'
@@ -133,14 +133,14 @@ returnFits (Flow.Return kind) mark = returnsBy kind mark
 returnFits Flow.Halt mark = true
 
 -- a want is met by a marked start in the image with that mark
-pub record Met (marks : List ℕ) (base : ℕ) (w : Want) : Type 0 where
+pub record Met (marks : List ℕ) (base : ℕ) (w : Requirement) : Type 0 where
   pub is-start : isStart (markAt marks base (w .address)) ≡ true
   pub has-mark : markAt marks base (w .address) ≡ w .mark
 
-abbrev pub AllMet : List ℕ → ℕ → Owed → Type 0
-AllMet marks base Owed.Nothing = Unit {0}
-AllMet marks base (Owed.One w) = Met marks base w
-AllMet marks base (Owed.Two v w) = Met marks base v × Met marks base w
+abbrev pub AllMet : List ℕ → ℕ → Requirements → Type 0
+AllMet marks base Requirements.Nothing = Unit {0}
+AllMet marks base (Requirements.One w) = Met marks base w
+AllMet marks base (Requirements.Two v w) = Met marks base v × Met marks base w
 
 -- The rules at one start: its code is carried and the instruction ends within the image; no start on its later bytes;
 -- the rule of RTS and RTL; its successors.

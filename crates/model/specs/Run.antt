@@ -8,7 +8,7 @@ use lib.Dec.{eqb, ltb, leb}
 use lib.ListN.{length, getD}
 use Rattle.types.specs.declared.code.Kind.{Kind}
 use Rattle.types.specs.declared.machine.State.{State}
-use Rattle.types.specs.declared.machine.Answer.{Answer}
+use Rattle.types.specs.declared.machine.StepAnswer.{StepAnswer}
 use Rattle.types.specs.declared.refusals.Refusal.{Refusal}
 use Rattle.types.specs.declared.refusals.TestResult.{TestResult}
 use Rattle.types.specs.declared.runs.End.{End}
@@ -34,16 +34,16 @@ stepLimit = 1_000_000
 -- ---- the history
 
 -- 'A step is completed when it meets no stop'
-abbrev pub isCompleted : Answer → Bool
-isCompleted Answer.Completed = true
-isCompleted Answer.Called = true
-isCompleted (Answer.Stopped stop) = false
+abbrev pub isCompleted : StepAnswer → Bool
+isCompleted StepAnswer.Completed = true
+isCompleted StepAnswer.Called = true
+isCompleted (StepAnswer.Stopped stop) = false
 
 -- 'completed steps whose code is a JSR, long or not'
-abbrev pub isCall : Answer → Bool
-isCall Answer.Completed = false
-isCall Answer.Called = true
-isCall (Answer.Stopped stop) = false
+abbrev pub isCall : StepAnswer → Bool
+isCall StepAnswer.Completed = false
+isCall StepAnswer.Called = true
+isCall (StepAnswer.Stopped stop) = false
 
 -- A step of a history: the RAM and the state that it began from, and what it came to.
 pub record Event : Type 0 where
@@ -70,7 +70,7 @@ history m s (suc n) =
 
 -- ---- functions of a history
 
-abbrev pub count : (Answer → Bool) → List Event → ℕ
+abbrev pub count : (StepAnswer → Bool) → List Event → ℕ
 count test [] = 0
 count test (e ∷ rest) = bit (test (e .result .answer)) + count test rest
 
@@ -82,10 +82,10 @@ abbrev pub callsAmong : List Event → ℕ
 callsAmong = count isCall
 
 -- 'the end (0 when all asked steps are done, else the stop)'
-abbrev pub endAfter : Answer → End → End
-endAfter Answer.Completed more = more
-endAfter Answer.Called more = more
-endAfter (Answer.Stopped stop) more = End.AtStop stop
+abbrev pub endAfter : StepAnswer → End → End
+endAfter StepAnswer.Completed more = more
+endAfter StepAnswer.Called more = more
+endAfter (StepAnswer.Stopped stop) more = End.AtStop stop
 
 abbrev pub endOf : List Event → End
 endOf [] = End.Done
@@ -171,8 +171,8 @@ abbrev pub ranBy : TestResult → Memory → State → List Event → Ran
 ranBy a m s h = record { answer = answerBy a h; state = stateLeft s h; ram = ramLeft (m .ram) h }
 
 -- what a run comes to that is not refused
-abbrev pub played : Memory → State → ℕ → Ran
-played m s asked = ranBy TestResult.Passed m s (history m s asked)
+abbrev pub executed : Memory → State → ℕ → Ran
+executed m s asked = ranBy TestResult.Passed m s (history m s asked)
 
 unfoldable pub ran : Memory → State → ℕ → Ran
 ran m s asked = ranBy (admission m s asked) m s (runHistory m s asked)

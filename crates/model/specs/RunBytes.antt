@@ -9,8 +9,8 @@ use Rattle.types.specs.declared.refusals.TestResult.{TestResult}
 use Rattle.types.specs.declared.runs.RunAnswer.{RunAnswer}
 use Rattle.types.specs.Refusals.{firstRefusal}
 use Rattle.model.specs.Memory.{Memory}
-use Rattle.model.specs.Run.{stateFits, runTests, Ran, played}
-use Rattle.model.specs.StateBytes.{stateSize, stateOf, bytesOf}
+use Rattle.model.specs.Run.{stateFits, runTests, Ran, executed}
+use Rattle.model.specs.StateBytes.{stateSize, stateOf, stateBytes}
 
 -- number 12 for bytes: so many of them, and the state that they are fits
 abbrev pub bytesFit : List ℕ → Bool
@@ -24,11 +24,11 @@ pub record RanBytes : Type 0 where
 
 -- the same of a run whose state is not bytes
 abbrev pub asBytes : Ran → RanBytes
-asBytes r = record { answer = r .answer; state = bytesOf (r .state); ram = r .ram }
+asBytes r = record { answer = r .answer; state = stateBytes (r .state); ram = r .ram }
 
 -- 'A refusal leaves every buffer and the state as given'
 abbrev pub ranBytesBy : TestResult → Memory → List ℕ → ℕ → RanBytes
-ranBytesBy TestResult.Passed m bytes asked = asBytes (played m (stateOf bytes) asked)
+ranBytesBy TestResult.Passed m bytes asked = asBytes (executed m (stateOf bytes) asked)
 ranBytesBy (TestResult.Failed why) m bytes asked = record { answer = RunAnswer.NotRun why; state = bytes; ram = m .ram }
 
 unfoldable pub ranBytes : Memory → List ℕ → ℕ → RanBytes

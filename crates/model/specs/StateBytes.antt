@@ -17,11 +17,11 @@ use Rattle.model.specs.Step.{callLimit}
 abbrev pub headSize : ℕ
 headSize = 20
 
-abbrev pub entrySize : ℕ
-entrySize = 8
+abbrev pub recordSize : ℕ
+recordSize = 8
 
 abbrev pub stateSize : ℕ
-stateSize = headSize + entrySize * callLimit
+stateSize = headSize + recordSize * callLimit
 
 -- all but the entries, each field at its place
 unfoldable pub coreOf : List ℕ → Core
@@ -44,7 +44,7 @@ coreOf bytes = record {
 
 -- the state of bytes
 unfoldable pub stateOf : List ℕ → State
-stateOf bytes = record { core = coreOf bytes; calls = parted entrySize callLimit (drop headSize bytes) }
+stateOf bytes = record { core = coreOf bytes; calls = parted recordSize callLimit (drop headSize bytes) }
 
 -- the bytes of all but the entries
 unfoldable pub headOf : Core → List ℕ
@@ -57,8 +57,8 @@ headOf c =
     r = c .registers
 
 -- the bytes of a state
-unfoldable pub bytesOf : State → List ℕ
-bytesOf s = headOf (s .core) ++ joined entrySize (s .calls)
+unfoldable pub stateBytes : State → List ℕ
+stateBytes s = headOf (s .core) ++ joined recordSize (s .calls)
 
 -- every register within its width
 pub record InWidth (r : Registers) : Type 0 where
@@ -78,4 +78,4 @@ pub record Keeps (state : State) : Type 0 where
   pub pg : state .core .pg < 256
   pub depth : state .core .depth < 65_536
   pub calls : length (state .calls) ≡ callLimit
-  pub entries : (k : ℕ) → getD (state .calls) k 0 < 256 ^ entrySize
+  pub entries : (k : ℕ) → getD (state .calls) k 0 < 256 ^ recordSize

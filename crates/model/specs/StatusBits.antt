@@ -8,7 +8,7 @@ use lib.Bits.{bitOr}
 use Rattle.types.specs.declared.code.Operation.{Operation}
 use Rattle.types.specs.declared.code.Instruction.{Instruction}
 use Rattle.types.specs.declared.code.Decoded.{Decoded}
-use Rattle.types.specs.declared.machine.Answer.{Answer}
+use Rattle.types.specs.declared.machine.StepAnswer.{StepAnswer}
 use Rattle.types.specs.declared.machine.State.{State}
 use Rattle.types.specs.Status.{numberOf}
 use Rattle.anywidth.specs.AnyWidth.{size, low, clearedBy}
@@ -26,7 +26,7 @@ abbrev pub SepSets : Type 0
 SepSets =
     (m : Memory) (s : State) (i : Instruction) → fetched m (s .core) ≡ Decoded.Whole i
     → i .entry .operation ≡ Operation.SEP
-    → (step m s .answer ≡ Answer.Completed) × (ps (step m s .state) ≡ bitOr (ps s) (byteBehind i))
+    → (step m s .answer ≡ StepAnswer.Completed) × (ps (step m s .state) ≡ bitOr (ps s) (byteBehind i))
 
 -- manual, CLP: PSL ← PSL ∧ not IMM, as CLB clears bits of data
 abbrev pub ClpClears : Type 0
@@ -34,4 +34,4 @@ ClpClears =
     (m : Memory) (s : State) (i : Instruction) → fetched m (s .core) ≡ Decoded.Whole i
     → i .entry .operation ≡ Operation.CLP
     → ps s < size 16
-    → (step m s .answer ≡ Answer.Completed) × (ps (step m s .state) ≡ clearedBy 16 (byteBehind i) (ps s))
+    → (step m s .answer ≡ StepAnswer.Completed) × (ps (step m s .state) ≡ clearedBy 16 (byteBehind i) (ps s))

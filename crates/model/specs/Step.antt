@@ -14,20 +14,20 @@ use Rattle.types.specs.declared.machine.Registers.{Registers}
 use Rattle.types.specs.declared.machine.Core.{Core}
 use Rattle.types.specs.declared.machine.State.{State}
 use Rattle.types.specs.declared.machine.Stop.{Stop}
-use Rattle.types.specs.declared.machine.Access.{Access}
+use Rattle.types.specs.declared.machine.OperandUse.{OperandUse}
 use Rattle.types.specs.declared.machine.Data.{Data}
 use Rattle.types.specs.declared.machine.Store.{Store}
 use Rattle.types.specs.declared.machine.Served.{Served}
 use Rattle.types.specs.declared.machine.CallChange.{CallChange}
-use Rattle.types.specs.declared.machine.Answer.{Answer}
+use Rattle.types.specs.declared.machine.StepAnswer.{StepAnswer}
 use Rattle.prelude.specs.Choice.{pick}
 use Rattle.types.specs.Addresses.{bankSize, inBankOf}
 use Rattle.model.specs.Decode.{decode}
 use Rattle.model.specs.Rules.{nextAddress, targetAddress, mAfter, xAfter, kindNumber}
 use Rattle.prelude.specs.Choice.{bit}
-use Rattle.model.specs.Memory.{Memory, Act, ret, _>>=_, Outcome, done, unmapped, come, inImage}
+use Rattle.model.specs.Memory.{Memory, Act, ret, _>>=_, Outcome, done, unmapped, evaluate, inImage}
 use Rattle.model.specs.Memory.{served, stored}
-use Rattle.model.specs.Addressing.{accessOf, isShort, dataOf, pulledAt, pulledWord, pulledLong}
+use Rattle.model.specs.Addressing.{operandUseOf, isShort, dataOf, pulledAt, pulledWord, pulledLong}
 use Rattle.model.specs.Arithmetic.{withWidths, withStatus, withS}
 use Rattle.model.specs.Effects.{Effect, effectOf, store, pushedAt}
 
@@ -37,17 +37,17 @@ callLimit = 64
 
 -- 'each with its 24-bit return address and kind': an open call is one number, the eight bytes of its entry (StateBytes):
 -- four of the address, one of the kind, three that are 0 once a call is opened there
-abbrev pub entryUnit : ℕ
-entryUnit = 4_294_967_296
+abbrev pub recordUnit : ℕ
+recordUnit = 4_294_967_296
 
-abbrev pub entryOf : ℕ → ℕ → ℕ
-entryOf address kind = address + entryUnit * kind
+abbrev pub callRecord : ℕ → ℕ → ℕ
+callRecord address kind = address + recordUnit * kind
 
 abbrev pub returnOf : ℕ → ℕ
-returnOf entry = entry % entryUnit
+returnOf entry = entry % recordUnit
 
 abbrev pub kindOf : ℕ → ℕ
-kindOf entry = entry / entryUnit % 256
+kindOf entry = entry / recordUnit % 256
 
 -- the numbers of the stops
 abbrev pub stopNumber : Stop → ℕ
@@ -94,12 +94,12 @@ onRead (done v) more = more v
 onRead unmapped more = stops Stop.Unmapped
 
 -- 27, 'ADC or SBC with D=1'
-abbrev pub isDecimal : Access → Registers → Bool
-isDecimal Access.Operand r = false
-isDecimal Access.Addend r = r .status .decimal
-isDecimal Access.Address r = false
-isDecimal Access.Pull r = false
-isDecimal Access.DirectWord r = false
+abbrev pub isDecimal : OperandUse → Registers → Bool
+isDecimal OperandUse.Operand r = false
+isDecimal OperandUse.Addend r = r .status .decimal
+isDecimal OperandUse.Address r = false
+isDecimal OperandUse.Pull r = false
+isDecimal OperandUse.DirectWord r = false
 
 -- how many bytes a return address of a kind has
 abbrev pub returnBytes : Kind → ℕ
@@ -123,8 +123,8 @@ module _ (c : Core) (i : Instruction) where
   abbrev pub short : Bool
   short = isShort (i .entry .width) (r .status .m) (r .status .x)
 
-  abbrev pub access : Access
-  access = accessOf (i .entry .operation)
+  abbrev pub access : OperandUse
+  access = operandUseOf (i .entry .operation)
 
   -- an operation works on its data, and goes on where its flow says
   abbrev pub works : (Bool → ℕ) → Data → Plan
@@ -137,7 +137,7 @@ module _ (c : Core) (i : Instruction) where
   unfoldable pub operates : Memory → (Bool → ℕ) → Plan
   operates m goes =
       pick (isDecimal access r) (stops Stop.Decimal)
-      (onRead (come m (dataOf access (i .entry .mode) (i .entry .accumulator) r short (i .operand))) (works goes))
+      (onRead (evaluate m (dataOf access (i .entry .mode) (i .entry .accumulator) r short (i .operand))) (works goes))
 
   -- 'A call pushes the address of the instruction after it .., bank first for JSR long, then high byte, then low'
   abbrev pub pushesReturn : Kind → List Store
@@ -178,7 +178,7 @@ module _ (c : Core) (i : Instruction) where
   planBy m open-call Flow.Branch = operates m (λ taken. pick taken target next)
   planBy m open-call Flow.Jump = changes (change r target CallChange.Keep [])
   planBy m open-call (Flow.Call kind) = calls kind
-  planBy m open-call (Flow.Return kind) = onRead (come m (pullsReturn kind)) (returnsTo open-call kind)
+  planBy m open-call (Flow.Return kind) = onRead (evaluate m (pullsReturn kind)) (returnsTo open-call kind)
   planBy m open-call Flow.Halt = stops Stop.Halt
 
 -- the entry of the call opened last
@@ -190,16 +190,16 @@ plan m s i = planBy (s .core) i m (lastOpened s) (i .entry .flow)
 
 -- The step's answer, and state and RAM after it.
 pub record Stepped : Type 0 where
-  pub answer : Answer
+  pub answer : StepAnswer
   pub state : State
   pub ram : List ℕ
 
-abbrev pub stepped : Answer → State → List ℕ → Stepped
+abbrev pub stepped : StepAnswer → State → List ℕ → Stepped
 stepped answer s ram = record { answer = answer; state = s; ram = ram }
 
 -- 'A stop undoes its whole step.'
 abbrev pub stopped : Stop → Memory → State → Stepped
-stopped stop m s = stepped (Answer.Stopped stop) s (m .ram)
+stopped stop m s = stepped (StepAnswer.Stopped stop) s (m .ram)
 
 -- the open calls after a step: an entry changes only when a call is opened in it
 abbrev pub depthAfter : CallChange → ℕ → ℕ
@@ -209,13 +209,13 @@ depthAfter CallChange.Close depth = depth - 1
 
 abbrev pub callsAfter : CallChange → ℕ → List ℕ → List ℕ
 callsAfter CallChange.Keep depth calls = calls
-callsAfter (CallChange.Open address kind) depth calls = set calls depth (entryOf address kind)
+callsAfter (CallChange.Open address kind) depth calls = set calls depth (callRecord address kind)
 callsAfter CallChange.Close depth calls = calls
 
-abbrev pub answerOf : CallChange → Answer
-answerOf CallChange.Keep = Answer.Completed
-answerOf (CallChange.Open address kind) = Answer.Called
-answerOf CallChange.Close = Answer.Completed
+abbrev pub answerOf : CallChange → StepAnswer
+answerOf CallChange.Keep = StepAnswer.Completed
+answerOf (CallChange.Open address kind) = StepAnswer.Called
+answerOf CallChange.Close = StepAnswer.Completed
 
 -- the widths after an instruction, whatever its operation left in the status
 abbrev pub widthsAfter : Instruction → Registers → Registers → Registers
@@ -245,7 +245,7 @@ stateAfter i s d = record {
 -- 23 and 26 of the stores, then all of them
 abbrev pub onServed : Served → Instruction → Change → Memory → State → Stepped
 onServed Served.All i d m s = stepped (answerOf (d .calls)) (stateAfter i s d) (stored (d .stores) (m .ram))
-onServed (Served.Refused stop) i d m s = stopped stop m s
+onServed (Served.Unserved stop) i d m s = stopped stop m s
 
 abbrev pub finish : Plan → Instruction → Memory → State → Stepped
 finish (stops stop) i m s = stopped stop m s

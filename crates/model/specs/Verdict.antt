@@ -12,8 +12,8 @@ use Rattle.types.specs.declared.code.Instruction.{Instruction}
 use Rattle.types.specs.declared.code.Decoded.{Decoded}
 use Rattle.types.specs.declared.refusals.Refusal.{Refusal}
 use Rattle.types.specs.declared.refusals.TestResult.{TestResult}
-use Rattle.types.specs.declared.rules.Want.{Want}
-use Rattle.types.specs.declared.rules.Owed.{Owed}
+use Rattle.types.specs.declared.rules.Requirement.{Requirement}
+use Rattle.types.specs.declared.rules.Requirements.{Requirements}
 use Rattle.types.specs.declared.rules.Verdict.{Verdict}
 use Rattle.prelude.specs.Choice.{pick}
 use Rattle.model.specs.Image.{isStart, isFormed, lengthFits, baseFits, markAt, resetFits}
@@ -28,22 +28,22 @@ unfoldable pub isClear : List ℕ → ℕ → ℕ → Bool
 isClear marks at n = eqb (firstFrom (startAt marks) (at + 1) (n - 1)) (at + 1 + (n - 1))
 
 -- 8: 'a successor, call target or address after a call is no marked start'
-unfoldable pub wantsStart : List ℕ → ℕ → Want → Bool
-wantsStart marks base w = isStart (markAt marks base (w .address))
+unfoldable pub isStartAt : List ℕ → ℕ → Requirement → Bool
+isStartAt marks base w = isStart (markAt marks base (w .address))
 
-unfoldable pub allStarts : List ℕ → ℕ → Owed → Bool
-allStarts marks base Owed.Nothing = true
-allStarts marks base (Owed.One w) = wantsStart marks base w
-allStarts marks base (Owed.Two v w) = wantsStart marks base v && wantsStart marks base w
+unfoldable pub allStarts : List ℕ → ℕ → Requirements → Bool
+allStarts marks base Requirements.Nothing = true
+allStarts marks base (Requirements.One w) = isStartAt marks base w
+allStarts marks base (Requirements.Two v w) = isStartAt marks base v && isStartAt marks base w
 
 -- 9: 'one of those breaks its rule'
-unfoldable pub wantsMark : List ℕ → ℕ → Want → Bool
-wantsMark marks base w = eqb (markAt marks base (w .address)) (w .mark)
+unfoldable pub hasMarkAt : List ℕ → ℕ → Requirement → Bool
+hasMarkAt marks base w = eqb (markAt marks base (w .address)) (w .mark)
 
-unfoldable pub allMarks : List ℕ → ℕ → Owed → Bool
-allMarks marks base Owed.Nothing = true
-allMarks marks base (Owed.One w) = wantsMark marks base w
-allMarks marks base (Owed.Two v w) = wantsMark marks base v && wantsMark marks base w
+unfoldable pub allMarks : List ℕ → ℕ → Requirements → Bool
+allMarks marks base Requirements.Nothing = true
+allMarks marks base (Requirements.One w) = hasMarkAt marks base w
+allMarks marks base (Requirements.Two v w) = hasMarkAt marks base v && hasMarkAt marks base w
 
 -- the rules of a whole instruction: '7, 10, 8, 9'. 8 on every want comes before 9 on any.
 abbrev pub wholeTests : List ℕ → ℕ → ℕ → Instruction → Tests

@@ -12,13 +12,13 @@ use Rattle.types.specs.declared.code.Operation.{Operation}
 use Rattle.types.specs.declared.code.Accumulator.{Accumulator}
 use Rattle.types.specs.declared.code.Mode.{Mode}
 use Rattle.types.specs.declared.machine.Data.{Data}
-use Rattle.model.specs.Addressing.{accessOf}
+use Rattle.model.specs.Addressing.{operandUseOf}
 use Rattle.prelude.specs.Choice.{pick}
 use Rattle.model.specs.Effects.{Effect, effectOf}
 use Rattle.codepages.specs.Packing.{operations, modes, modePlace, accumulators, unpacked}
 use Rattle.cpu.specs.File.{registersOf}
 use Rattle.actions.specs.Tasks.{unpackedTask}
-use Rattle.actions.specs.Works.{byAction, effectBy}
+use Rattle.actions.specs.ActionEffects.{byAction, effectBy}
 use Rattle.operations.specs.Table.{part, Does, Tasked}
 
 -- what holds of the list of modes holds of every mode
@@ -85,7 +85,7 @@ by-row f g table same first k =
 
 module _ (table : List ℕ) where
   abbrev pub Accesses : ℕ → Type 0
-  Accesses column = map (λ row. unpackedTask (part column row) .access) table ≡ map accessOf rows
+  Accesses column = map (λ row. unpackedTask (part column row) .access) table ≡ map operandUseOf rows
 
   module _ (named : Accumulator) (column : ℕ) where
     -- what the tasks of a column do, and what the operations do
@@ -105,7 +105,7 @@ module _ (table : List ℕ) where
         → Does named (getD operations k Operation.Unassigned) (part column (getD table k 0))
     unfolding unpackedTask byAction effectOf
     does none accesses works k = (
-      by-row (λ row. unpackedTask (part column row) .access) accessOf table accesses (rw none refl) k,
+      by-row (λ row. unpackedTask (part column row) .access) operandUseOf table accesses (rw none refl) k,
       λ mode short operand next d file. by-row
           (λ row. effectBy mode short operand next d file (unpackedTask (part column row)))
           (effectOf mode named short operand next d (registersOf file)) table

@@ -10,18 +10,18 @@ use Rattle.types.specs.declared.code.Accumulator.{Accumulator}
 use Rattle.types.specs.declared.code.Mode.{Mode}
 use Rattle.types.specs.declared.code.Operation.{Operation}
 use Rattle.types.specs.declared.machine.Data.{Data}
-use Rattle.model.specs.Addressing.{accessOf}
+use Rattle.model.specs.Addressing.{operandUseOf}
 use Rattle.prelude.specs.Choice.{pick}
 use Rattle.model.specs.Effects.{effectOf}
 use Rattle.codepages.specs.Packing.{unpacked}
 use Rattle.cpu.specs.File.{registersOf}
 use Rattle.actions.specs.Tasks.{unpackedTask}
-use Rattle.actions.specs.Works.{effectBy}
+use Rattle.actions.specs.ActionEffects.{effectBy}
 
 -- a task does what an operation does
 abbrev pub Does : Accumulator → Operation → ℕ → Type 0
 Does named operation n =
-    (unpackedTask n .access ≡ accessOf operation)
+    (unpackedTask n .access ≡ operandUseOf operation)
     × ((mode : Mode) (short : Bool) (operand next : ℕ) (d : Data) (file : List ℕ)
     → effectBy mode short operand next d file (unpackedTask n)
     ≡ effectOf mode named short operand next d (registersOf file) operation)

@@ -5,7 +5,7 @@ use mathlib.Core.Bool.{Bool, true, false}
 use mathlib.Core.List.{List, [], _∷_}
 use Prim.Native.Nat.{ℕ, zero, suc, _≤_}
 use native.Mathlib.Omega.{arith}
-use Rattle.types.specs.declared.machine.Answer.{Answer}
+use Rattle.types.specs.declared.machine.StepAnswer.{StepAnswer}
 use Rattle.types.specs.declared.machine.State.{State}
 use Rattle.types.specs.declared.refusals.TestResult.{TestResult}
 use Rattle.types.specs.Refusals.{firstRefusal}
@@ -19,10 +19,10 @@ use Rattle.model.specs.StateBytes.{stateOf}
 use Rattle.model.proofs.Run.{by-first-step, admitted}
 use Rattle.packing.specs.Packed.{RunFits}
 
-one-call : (a : Answer) → bit (isCall a) ≤ bit (isCompleted a)
-one-call Answer.Completed = omega arith
-one-call Answer.Called = omega arith
-one-call (Answer.Stopped stop) = omega arith
+one-call : (a : StepAnswer) → bit (isCall a) ≤ bit (isCompleted a)
+one-call StepAnswer.Completed = omega arith
+one-call StepAnswer.Called = omega arith
+one-call (StepAnswer.Stopped stop) = omega arith
 
 calls-few : (h : List Event) → callsAmong h ≤ completedSteps h
 calls-few [] = omega arith

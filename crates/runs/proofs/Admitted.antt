@@ -14,11 +14,11 @@ use Rattle.types.specs.declared.runs.RunAnswer.{RunAnswer}
 use Rattle.types.specs.Refusals.{firstRefusal}
 use Rattle.model.specs.Memory.{Memory}
 use Rattle.model.specs.Step.{callLimit}
-use Rattle.model.specs.Run.{levelLimit, callsFit, stateFits, runTests, Ran, played}
+use Rattle.model.specs.Run.{levelLimit, callsFit, stateFits, runTests, Ran, executed}
 use Rattle.model.specs.RunBytes.{bytesFit, asBytes, ranBytes}
 use Rattle.model.specs.StateBytes.{stateSize, stateOf}
 use Rattle.prelude.proofs.Choice.{both-true}
-use Rattle.machine.specs.Turns.{state}
+use Rattle.machine.specs.StepResults.{state}
 
 -- a state that a run takes
 module _ (bytes : ℕ) (c : Core) (calls : List ℕ) (taken : (eqb bytes stateSize && stateFits (state c calls)) ≡ true)
@@ -49,7 +49,7 @@ module _ (m : Memory) (bytes : List ℕ) (asked : ℕ) (c : Core) (calls : List 
   unfolding ranBytes
   run-refused why e = rw (← same-fits, ← is-admission, e) refl
 
-  pub run-taken : a ≡ TestResult.Passed → (r : Ran) → r ≡ played m (state c calls) asked
+  pub run-taken : a ≡ TestResult.Passed → (r : Ran) → r ≡ executed m (state c calls) asked
       → ranBytes m bytes asked ≡ asBytes r
   unfolding ranBytes
   run-taken e r is-run = rw (← same-fits, ← is-admission, e, is-run, same-state) refl

@@ -1,3 +1,3 @@
 -- The laws that the proofs of the functions share.
-pub mod Going
+pub mod RunInvariant
 pub mod Admitted

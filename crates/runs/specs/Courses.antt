@@ -2,11 +2,11 @@
 -- Assumes nothing.
 use Prim.Native.Nat.{ℕ}
 use mathlib.Core.List.{List}
-use Rattle.runs.specs.declared.course.Course.{Course}
+use Rattle.runs.specs.declared.steps.RunResult.{RunResult}
 use Rattle.types.specs.declared.runs.RunAnswer.{RunAnswer}
 use Rattle.model.specs.Run.{Ran}
-use Rattle.machine.specs.Turns.{state}
+use Rattle.machine.specs.StepResults.{state}
 
-abbrev pub leftBy : Course → List ℕ → List ℕ → Ran
+abbrev pub leftBy : RunResult → List ℕ → List ℕ → Ran
 leftBy t calls ram =
     record { answer = RunAnswer.Ended (t .end) (t .steps) (t .calls); state = state (t .core) calls; ram = ram }

@@ -1,5 +1,5 @@
 // A run of a state that is given as bytes: any bytes are answered.
-use crate::course::run_in;
+use crate::steps::run_steps;
 use codepages::pages;
 use image::test_image;
 use operations::table::tasks;
@@ -22,7 +22,7 @@ ghost use Rattle.types.specs.Refusals.{firstRefusal};
 ghost use Rattle.model.specs.Run.{stateFits, runTests};
 ghost use Rattle.model.specs.RunBytes.{ranBytes};
 ghost use Rattle.model.specs.StateBytes.{stateSize};
-ghost use Rattle.machine.specs.Turns.{state};
+ghost use Rattle.machine.specs.StepResults.{state};
 
 // The limit of model/specs/Run.antt.
 const STEP_LIMIT: u32 = 1_000_000;
@@ -78,7 +78,7 @@ pub fn run(image: &[u8], base: u32, bytes: &mut [u8], ram: &mut [u8], asked: u32
     if let TestResult::Failed(why) = tested {
         return RunAnswer::NotRun(why);
     }
-    let course = run_in(
+    let steps = run_steps(
         &pages(),
         &tasks(),
         image,
@@ -88,12 +88,12 @@ pub fn run(image: &[u8], base: u32, bytes: &mut [u8], ram: &mut [u8], asked: u32
         ram,
         asked,
     );
-    let end = course.end;
-    let after = course.core;
+    let end = steps.end;
+    let after = steps.core;
     put_state(bytes, after, &calls);
     RunAnswer::Ended {
         end,
-        steps: course.steps,
-        calls: course.calls,
+        steps: steps.steps,
+        calls: steps.calls,
     }
 }

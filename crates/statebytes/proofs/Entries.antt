@@ -8,22 +8,22 @@ use native.Mathlib.Omega.{arith}
 use lib.ListN.{length, getD, take, drop, set, length-set}
 use lib.Seq.{drop-drop, take-all, take-suc, take-suc-set}
 use Rattle.model.specs.Step.{callLimit}
-use Rattle.model.specs.StateBytes.{headSize, entrySize}
+use Rattle.model.specs.StateBytes.{headSize, recordSize}
 use Rattle.fields.specs.Fields.{parted, fieldAt}
 use Rattle.fields.proofs.Fields.{length-parted, parted-at}
 
 -- the entries before i are in their places
 abbrev pub Filled : List ℕ → List ℕ → ℕ → Type 0
 Filled bytes calls i = (i ≤ callLimit) × (length calls ≡ callLimit)
-    × (take i calls ≡ take i (parted entrySize callLimit (drop headSize bytes)))
+    × (take i calls ≡ take i (parted recordSize callLimit (drop headSize bytes)))
 
 pub one-more-filled : (bytes calls : List ℕ) (i v : ℕ) → i < callLimit → Filled bytes calls i
-    → v ≡ fieldAt (headSize + entrySize * i) entrySize bytes → Filled bytes (set calls i v) (i + 1)
+    → v ≡ fieldAt (headSize + recordSize * i) recordSize bytes → Filled bytes (set calls i v) (i + 1)
 one-more-filled bytes calls i v inside f e =
-    let entries = parted entrySize callLimit (drop headSize bytes) in
-    let long : length entries ≡ callLimit = length-parted entrySize callLimit (drop headSize bytes) in
-    let entry = parted-at entrySize callLimit i (drop headSize bytes) inside in
-    let here : v ≡ getD entries i 0 = rw (e, entry, drop-drop (entrySize * i) headSize bytes) refl in (
+    let entries = parted recordSize callLimit (drop headSize bytes) in
+    let long : length entries ≡ callLimit = length-parted recordSize callLimit (drop headSize bytes) in
+    let entry = parted-at recordSize callLimit i (drop headSize bytes) inside in
+    let here : v ≡ getD entries i 0 = rw (e, entry, drop-drop (recordSize * i) headSize bytes) refl in (
       omega arith,
       rw (length-set calls i v) (f .1),
       rw (
@@ -36,10 +36,10 @@ one-more-filled bytes calls i v inside f e =
     )
 
 pub all-filled : (bytes calls : List ℕ) (i : ℕ) → callLimit ≤ i → Filled bytes calls i
-    → calls ≡ parted entrySize callLimit (drop headSize bytes)
+    → calls ≡ parted recordSize callLimit (drop headSize bytes)
 all-filled bytes calls i past f =
-    let entries = parted entrySize callLimit (drop headSize bytes) in
-    let long : length entries ≡ callLimit = length-parted entrySize callLimit (drop headSize bytes) in
+    let entries = parted recordSize callLimit (drop headSize bytes) in
+    let long : length entries ≡ callLimit = length-parted recordSize callLimit (drop headSize bytes) in
     let whole = take-all i entries (omega (arith, long)) in
     let same = take-all i calls (omega (arith, f .1)) in
     sym same ∙ f .2 ∙ whole

@@ -11,7 +11,7 @@ use Rattle.types.specs.declared.machine.Core.{Core}
 use Rattle.types.specs.declared.machine.State.{State}
 use Rattle.types.specs.Status.{numberOf}
 use Rattle.model.specs.Step.{callLimit}
-use Rattle.model.specs.StateBytes.{headSize, entrySize, stateSize, headOf, bytesOf}
+use Rattle.model.specs.StateBytes.{headSize, recordSize, stateSize, headOf, stateBytes}
 use Rattle.fields.specs.Fields.{lowBytes, joined}
 use Rattle.fields.proofs.Fields.{length-joined}
 use Rattle.fields.proofs.Writing.{sets-append}
@@ -34,13 +34,13 @@ head-long c = refl
 
 pub put-whole : (bytes : List ℕ) (s : State) (words first second : List ℕ) → length bytes ≡ stateSize
     → length (s .calls) ≡ callLimit → joined 2 words ≡ headOf (s .core) → first ≡ sets bytes 0 (joined 2 words)
-    → second ≡ sets first headSize (joined entrySize (s .calls)) → second ≡ bytesOf s
-unfolding bytesOf
+    → second ≡ sets first headSize (joined recordSize (s .calls)) → second ≡ stateBytes s
+unfolding stateBytes
 put-whole bytes s words first second long calls e-words e-first e-second =
     let head = headOf (s .core) in
-    let entries = joined entrySize (s .calls) in
+    let entries = joined recordSize (s .calls) in
     let size : length (head ++ entries) ≡ stateSize =
-    rw (length-append head entries, head-long (s .core), length-joined entrySize (s .calls), calls) refl in
+    rw (length-append head entries, head-long (s .core), length-joined recordSize (s .calls), calls) refl in
     let joint : second ≡ sets bytes 0 (head ++ entries) =
     rw (e-second, e-first, e-words, sets-append bytes 0 head entries, head-long (s .core)) refl in
     rw (

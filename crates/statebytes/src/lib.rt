@@ -5,7 +5,7 @@ use fields::word_of;
 use types::addresses::ADDRESS_LIMIT;
 use types::machine::CALL_LIMIT;
 use types::machine::Core;
-use types::machine::ENTRY_UNIT;
+use types::machine::RECORD_UNIT;
 use types::machine::Registers;
 use types::machine::Status;
 ghost use mathlib.Core.Path.{_≡_};
@@ -13,15 +13,15 @@ ghost use Prim.Native.Nat.{_≤_};
 ghost use lib.ListN.{length};
 ghost use Rattle.model.specs.Run.{ramFits, callFits, callsFit, stateFits};
 ghost use Rattle.model.specs.Step.{callLimit};
-ghost use Rattle.model.specs.StateBytes.{stateSize, stateOf, headOf, bytesOf};
+ghost use Rattle.model.specs.StateBytes.{stateSize, stateOf, headOf, stateBytes};
 ghost use Rattle.fields.specs.Fields.{joined, fieldAt};
 
 // The sizes and limits of model/specs/StateBytes.antt and Run.antt.
 const HEAD_SIZE: usize = 20;
 
-const ENTRY_SIZE: usize = 8;
+const RECORD_SIZE: usize = 8;
 
-pub const STATE_SIZE: usize = HEAD_SIZE + ENTRY_SIZE * CALL_LIMIT;
+pub const STATE_SIZE: usize = HEAD_SIZE + RECORD_SIZE * CALL_LIMIT;
 
 const LEVEL_LIMIT: u8 = 8;
 
@@ -70,7 +70,7 @@ pub fn calls_of(bytes: &[u8]) -> [u64; CALL_LIMIT]
     let mut calls = [0u64; CALL_LIMIT];
     let mut i = 0;
     while i < CALL_LIMIT {
-        calls[i] = field_at(bytes, HEAD_SIZE + ENTRY_SIZE * i, ENTRY_SIZE);
+        calls[i] = field_at(bytes, HEAD_SIZE + RECORD_SIZE * i, RECORD_SIZE);
         i += 1;
     }
     calls
@@ -99,10 +99,10 @@ fn words_of(core: Core) -> [u64; 10]
 // Writes a state. Asks for as many bytes as it has, so that none is tested.
 pub fn put_state(bytes: &mut [u8], core: Core, calls: &[u64; CALL_LIMIT])
     requires { ⌜ length (now bytes) ≡ stateSize ⌝ }
-    ensures { λ _. ⌜ now (bytes .exit) ≡ bytesOf (record { core = core; calls = now (calls .entry) }) ⌝ }
+    ensures { λ _. ⌜ now (bytes .exit) ≡ stateBytes (record { core = core; calls = now (calls .entry) }) ⌝ }
 {
     put_fields(bytes, 0, 2, &words_of(core));
-    put_fields(bytes, HEAD_SIZE, ENTRY_SIZE, calls);
+    put_fields(bytes, HEAD_SIZE, RECORD_SIZE, calls);
 }
 
 // Number 11: RAM of 1 to 4,096 bytes, no more than the base's number.
@@ -122,8 +122,8 @@ pub fn ram_fits(n: usize, base: u32) -> bool
 fn call_fits(entry: u64) -> bool
     ensures { λ r. ⌜ r ≡ callFits entry ⌝ }
 {
-    let kind = entry / ENTRY_UNIT % 256;
-    let inside = entry % ENTRY_UNIT < ADDRESS_LIMIT as u64;
+    let kind = entry / RECORD_UNIT % 256;
+    let inside = entry % RECORD_UNIT < ADDRESS_LIMIT as u64;
     if kind == 1 {
         return inside;
     }

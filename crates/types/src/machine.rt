@@ -102,7 +102,7 @@ pub struct Core {
 pub const CALL_LIMIT: usize = 64;
 
 // The place of an open call's kind in its entry.
-pub const ENTRY_UNIT: u64 = 4_294_967_296;
+pub const RECORD_UNIT: u64 = 4_294_967_296;
 
 // The state: the open calls stand in the first `depth` entries, the first opened first, each as one number
 // (model/specs/Step.antt, `entryOf`).
@@ -125,7 +125,7 @@ pub enum Stop {
 
 // What an operation asks of memory before it works: the data that its addressing mode names, if any; the same, to be
 // added or subtracted; the address alone; data from the stack; a word of the direct page.
-pub enum Access {
+pub enum OperandUse {
     Operand,
     Addend,
     Address,
@@ -134,7 +134,7 @@ pub enum Access {
 }
 
 // Where the data of an addressing mode lies: in memory; behind the code; in a register, if there is any.
-pub enum Residence {
+pub enum OperandPlace {
     Memory,
     Instruction,
     Register,
@@ -161,7 +161,7 @@ pub enum ByteRead {
 // Whether stores can be served.
 pub enum Served {
     All,
-    Refused(Stop),
+    Unserved(Stop),
 }
 
 // What a step does to the open calls.
@@ -172,7 +172,7 @@ pub enum CallChange {
 }
 
 // How a step ended: completed, completed as a call, or stopped.
-pub enum Answer {
+pub enum StepAnswer {
     Completed,
     Called,
     Stopped(Stop),

@@ -2,16 +2,16 @@
 use crate::refusals::Refusal;
 
 // At an address stands a start with this mark.
-pub struct Want {
+pub struct Requirement {
     pub address: u32,
     pub mark: u8,
 }
 
 // What a start owes: nothing, or one or two wants.
-pub enum Owed {
+pub enum Requirements {
     Nothing,
-    One(Want),
-    Two(Want, Want),
+    One(Requirement),
+    Two(Requirement, Requirement),
 }
 
 // The check's answer: the first rule that is broken, and its offset.

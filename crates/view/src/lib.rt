@@ -7,14 +7,14 @@ use fields::byte_at;
 use types::code::Decoded;
 use types::rules::Verdict;
 ghost use mathlib.Core.Path.{_≡_};
-ghost use Rattle.codepages.specs.Packing.{numbers};
+ghost use Rattle.codepages.specs.Packing.{packedPages};
 ghost use Rattle.model.specs.Image.{startCount};
 ghost use Rattle.model.specs.Rules.{instructionAt};
 ghost use Rattle.model.specs.Verdict.{verdict};
 
 // What stands at an offset of an image, at the widths marked there.
 fn decode_marked(image: &[u8], marks: &[u8], codes: &CodePages, at: usize) -> Decoded
-    requires { ⌜ now codes ≡ numbers ⌝ }
+    requires { ⌜ now codes ≡ packedPages ⌝ }
     ensures { λ r. ⌜ r ≡ instructionAt (now (image .entry)) (now (marks .entry)) at ⌝ }
 {
     let mark = byte_at(marks, at);
@@ -49,7 +49,7 @@ impl<'i, 'm> View<'i, 'm> {
     // What stands at an offset, at the widths marked there. Asks for the code pages that `codepages::pages` makes,
     // lent: a loop over the starts makes them once.
     pub fn instruction_at(self, codes: &CodePages, at: usize) -> Decoded
-        requires { ⌜ now codes ≡ numbers ⌝ }
+        requires { ⌜ now codes ≡ packedPages ⌝ }
         ensures { λ r. ⌜ r ≡ instructionAt (now (self .entry .image)) (now (self .entry .marks)) at ⌝ }
     {
         decode_marked(self.image, self.marks, codes, at)

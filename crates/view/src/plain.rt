@@ -4,7 +4,7 @@ use codepages::CodePages;
 use types::code::Decoded;
 use types::rules::Verdict;
 ghost use mathlib.Core.Path.{_≡_};
-ghost use Rattle.codepages.specs.Packing.{numbers};
+ghost use Rattle.codepages.specs.Packing.{packedPages};
 ghost use Rattle.model.specs.Image.{startCount};
 ghost use Rattle.model.specs.Rules.{instructionAt};
 ghost use Rattle.model.specs.Verdict.{verdict};
@@ -35,7 +35,7 @@ pub fn instruction_at(
     codes: &CodePages,
     at: usize,
 ) -> Decoded
-    requires { ⌜ now codes ≡ numbers ⌝ }
+    requires { ⌜ now codes ≡ packedPages ⌝ }
     ensures { λ r. ⌜ r ≡ instructionAt (now (image .entry)) (now (marks .entry)) at ⌝ }
 {
     View { image, marks, base }.instruction_at(codes, at)

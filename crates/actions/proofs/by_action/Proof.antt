@@ -5,8 +5,8 @@ use native.Mathlib.Omega.{arith}
 use lib.Dec.{eqb}
 use Rattle.model.specs.Effects.{pushes}
 use Rattle.cpu.specs.File.{registersOf}
-use Rattle.cpu.specs.Rows.{status, leaving, loading}
-use Rattle.actions.specs.Works.{withFlags, byAction}
+use Rattle.cpu.specs.FileEffects.{status, leaving, loading}
+use Rattle.actions.specs.ActionEffects.{withFlags, byAction}
 use borrow.Author.Needs.{needs}
 use Rattle.actions.proofs.by_action.Statement.{statement}
 use Rattle.actions.proofs.by_action.Tie as tie

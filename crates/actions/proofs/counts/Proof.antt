@@ -9,8 +9,8 @@ use lib.ListN.{getD}
 use Rattle.anywidth.specs.AnyWidth.{low, decremented}
 use Rattle.model.specs.Addressing.{bits}
 use Rattle.prelude.specs.Choice.{pick}
-use Rattle.cpu.specs.Rows.{status, loading}
-use Rattle.actions.specs.Works.{counted}
+use Rattle.cpu.specs.FileEffects.{status, loading}
+use Rattle.actions.specs.ActionEffects.{counted}
 use borrow.Author.Needs.{needs}
 use Rattle.actions.proofs.counts.Statement.{statement}
 use Rattle.actions.proofs.counts.Tie as tie

@@ -5,7 +5,7 @@ use lib.ListN.{getD}
 use Rattle.anywidth.specs.AnyWidth.{merged}
 use Rattle.model.specs.Addressing.{bits}
 use Rattle.model.specs.Arithmetic.{withResult}
-use Rattle.cpu.specs.Rows.{status, pulling}
+use Rattle.cpu.specs.FileEffects.{status, pulling}
 use borrow.Author.Needs.{needs}
 use Rattle.actions.proofs.pulls_data.Statement.{statement}
 use Rattle.actions.proofs.pulls_data.Tie as tie

@@ -3,7 +3,7 @@
 use mathlib.Core.Path.{ap, _∙_}
 use Rattle.model.specs.Addressing.{bits}
 use Rattle.model.specs.Arithmetic.{withResult}
-use Rattle.cpu.specs.Rows.{status, pulling}
+use Rattle.cpu.specs.FileEffects.{status, pulling}
 use borrow.Author.Needs.{needs}
 use Rattle.actions.proofs.pulls_whole.Statement.{statement}
 use Rattle.actions.proofs.pulls_whole.Tie as tie

@@ -2,12 +2,12 @@
 -- number.
 -- Assumes nothing.
 use Rattle.prelude.proofs.Table.{same-pages}
-use Rattle.codepages.specs.Packing.{numbers}
+use Rattle.codepages.specs.Packing.{packedPages}
 use Rattle.codepages.proofs.pages.Statement.{statement}
 use Rattle.codepages.proofs.pages.Tie as tie
 
 returns : tie.Need-returns
-unfolding numbers
+unfolding packedPages
 returns c = same-pages _ _ tt
 
 pub pages-spec : {M : Type 1} → statement M

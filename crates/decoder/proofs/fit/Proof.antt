@@ -1,4 +1,4 @@
--- A frame fits where its length does.
+-- A layout fits where its length does.
 -- Assumes nothing.
 use borrow.Author.Tests.{lt-leb, le-leb}
 use mathlib.Core.Path.{refl}

@@ -17,10 +17,10 @@ returns c =
     let args = known .before .args in
     let pre = known .before .pre in
     let value =
-    operand-of-six (args .image .now) (args .at) (args .frame .prefix) (args .frame .length) (c .low-bytes .result)
+    operand-of-six (args .image .now) (args .at) (args .layout .prefix) (args .layout .length) (c .low-bytes .result)
     (bytes-small known) (pre .1) (pre .2) (rw (← c .before .six-bytes .ensures) (c .low-bytes .ensures)) in
     let few =
-    operand-small (args .image .now) (args .at) (args .frame .prefix) (args .frame .length) (c .low-bytes .result)
+    operand-small (args .image .now) (args .at) (args .layout .prefix) (args .layout .length) (c .low-bytes .result)
     (bytes-small known) (pre .2) in
     (value, rw value few)
 
@@ -30,10 +30,10 @@ returns-2 c =
     let args = known .before .args in
     let pre = known .before .pre in
     let value =
-    operand-of-part (args .image .now) (args .at) (args .frame .prefix) (args .frame .length) (c .number .result)
+    operand-of-part (args .image .now) (args .at) (args .layout .prefix) (args .layout .length) (c .number .result)
     (pre .1) (pre .2) (c .number .ensures) in
     let few =
-    operand-small (args .image .now) (args .at) (args .frame .prefix) (args .frame .length) (c .number .result)
+    operand-small (args .image .now) (args .at) (args .layout .prefix) (args .layout .length) (c .number .result)
     (bytes-small known) (pre .2) in
     (value, rw value few)
 

@@ -4,7 +4,7 @@ use Prim.Native.Nat.{_-_, _≤_}
 use native.Mathlib.Omega.{arith}
 use lib.ListN.{length, getD}
 use borrow.Author.Needs.{needs}
-use Rattle.image.proofs.Forms.{Told, nothing-told, one-more-told, all-told-at, misfit-unformed}
+use Rattle.image.proofs.Forms.{Told, nothing-told, one-more-told, all-told-at, malformed-unformed}
 use Rattle.model.specs.Verdict as spec
 use Rattle.model.specs.Verdict.{badMark}
 use Rattle.model.specs.Image.{isFormed}
@@ -24,8 +24,8 @@ loop-holds c = (nothing-told (spec.unformedAt (c .before .args .marks .now)), om
 loop-again : tie.Need-loop-again Inv-loop μ-loop
 loop-again c = (
   one-more-told (spec.unformedAt (c .before .before .before .before .before .args .marks .now)) (c .before
-      .before .before .loop .bad) (c .before .before .before .loop .i) (c .misfit .result) (c .misfit .ensures ∙
-      misfit-unformed (isFormed (getD (c .before .before .before .before .before .args .marks .now) (c .before .before
+      .before .before .loop .bad) (c .before .before .before .loop .i) (c .malformed .result) (c .malformed .ensures ∙
+      malformed-unformed (isFormed (getD (c .before .before .before .before .before .args .marks .now) (c .before .before
       .before .loop .i) 0))) (c .before .before .before .loop .inv .0),
   omega (
     arith,

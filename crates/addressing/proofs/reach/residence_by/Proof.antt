@@ -9,7 +9,7 @@ returns : tie.Need-returns
 returns c = rw (c .if1 .taken) refl
 
 returns-2 : tie.Need-returns-2
-returns-2 c = rw (c .before .if1 .left) (c .residence-of .ensures)
+returns-2 c = rw (c .before .if1 .left) (c .operand-place-of .ensures)
 
 pub residence-by-spec : {M : Type 1} → statement M
 residence-by-spec =

@@ -14,13 +14,13 @@ returns : tie.Need-returns
 unfolding owedAt owedBy
 returns c =
     let args = c .before .before .before .before .before .before .before .before .before .before .args in
-    let operand = operandOf (drop (args .at) (args .image .now)) (args .frame .prefix) (args .frame .length) in
-    let kept = kept-mark (args .frame .number) operand (args .mark) (omega arith)
+    let operand = operandOf (drop (args .at) (args .image .now)) (args .layout .prefix) (args .layout .length) in
+    let kept = kept-mark (args .layout .number) operand (args .mark) (omega arith)
     (sym (c .before .before .before .keeps-widths .ensures) ∙ c .before .before .if1 .taken) in
     rw (
       ← c .before .before .before .before .before .before .flow-of .ensures,
       c .before .before .before .before .enum-told .given .1,
-      c .want .ensures,
+      c .requirement .ensures,
       c .before .before .before .before .before .before .before .next-address .ensures,
       c .before .mark-kept .ensures,
       kept,
@@ -32,9 +32,9 @@ returns-2 c =
     rw (
       ← c .before .before .before .before .before .before .flow-of .ensures,
       c .before .before .before .before .enum-told .given .1,
-      c .want2 .ensures,
+      c .requirement2 .ensures,
       c .before .before .before .before .before .before .before .next-address .ensures,
-      c .before .mark-after-frame .ensures,
+      c .before .mark-after-layout .ensures,
     )
 
 returns-3 : tie.Need-returns-3
@@ -44,10 +44,10 @@ returns-3 c =
       ← c .before .before .before .before .before .before .flow-of .ensures,
       c .before .before .before .before .enum-told2 .given .1,
       ← c .before .before .before .before .before .before .before .next-address .ensures,
-      ← c .before .before .before .mark-after-frame2 .ensures,
-      ← c .before .before .target-of-frame .ensures,
-      c .before .want3 .ensures,
-      c .want4 .ensures,
+      ← c .before .before .before .mark-after-layout2 .ensures,
+      ← c .before .before .target-of-layout .ensures,
+      c .before .requirement3 .ensures,
+      c .requirement4 .ensures,
     )
 
 returns-4 : tie.Need-returns-4
@@ -56,9 +56,9 @@ returns-4 c =
     rw (
       ← c .before .before .before .before .before .flow-of .ensures,
       c .before .before .before .enum-told3 .given .1,
-      c .want5 .ensures,
-      c .before .before .mark-after-frame3 .ensures,
-      c .before .target-of-frame2 .ensures,
+      c .requirement5 .ensures,
+      c .before .before .mark-after-layout3 .ensures,
+      c .before .target-of-layout2 .ensures,
     )
 
 returns-5 : tie.Need-returns-5
@@ -69,7 +69,7 @@ returns-5 c =
       c .before .before .before .kind .given .1,
       c .owed-by-call .ensures,
       c .before .before .before .before .before .before .next-address .ensures,
-      c .before .target-of-frame3 .ensures,
+      c .before .target-of-layout3 .ensures,
     )
 
 returns-6 : tie.Need-returns-6

@@ -9,8 +9,8 @@ returns : tie.Need-returns
 unfolding owedBy
 returns c =
     rw (
-      c .before .before .want .ensures,
-      c .want2 .ensures,
+      c .before .before .requirement .ensures,
+      c .requirement2 .ensures,
       c .before .before .before .mark-of-routine .ensures,
       c
           .before .mark-on-return .ensures,

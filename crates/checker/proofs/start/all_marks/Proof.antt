@@ -10,10 +10,10 @@ unfolding allMarks
 returns c =
     rw (
       c .before .before .before .before .owed2 .given .1,
-      ← c .before .before .wants-mark2 .ensures,
+      ← c .before .before .has-mark-at2 .ensures,
       c .before
           .if1 .taken,
-    ) (c .wants-mark3 .ensures)
+    ) (c .has-mark-at3 .ensures)
 
 returns-2 : tie.Need-returns-2
 unfolding allMarks
@@ -21,11 +21,11 @@ returns-2 c = rw (c .enum-told .given .1)
 
 returns-3 : tie.Need-returns-3
 unfolding allMarks
-returns-3 c = rw (c .before .before .owed .given .1) (c .wants-mark .ensures)
+returns-3 c = rw (c .before .before .owed .given .1) (c .has-mark-at .ensures)
 
 returns-4 : tie.Need-returns-4
 unfolding allMarks
-returns-4 c = rw (c .before .before .before .owed2 .given .1, ← c .before .wants-mark2 .ensures, c .if1 .left)
+returns-4 c = rw (c .before .before .before .owed2 .given .1, ← c .before .has-mark-at2 .ensures, c .if1 .left)
 
 pub all-marks-spec : {M : Type 1} → statement M
 all-marks-spec =

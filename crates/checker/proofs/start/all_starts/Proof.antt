@@ -10,10 +10,10 @@ unfolding allStarts
 returns c =
     rw (
       c .before .before .before .before .owed2 .given .1,
-      ← c .before .before .wants-start2 .ensures,
+      ← c .before .before .is-start-at2 .ensures,
       c .before
           .if1 .taken,
-    ) (c .wants-start3 .ensures)
+    ) (c .is-start-at3 .ensures)
 
 returns-2 : tie.Need-returns-2
 unfolding allStarts
@@ -21,11 +21,11 @@ returns-2 c = rw (c .enum-told .given .1)
 
 returns-3 : tie.Need-returns-3
 unfolding allStarts
-returns-3 c = rw (c .before .before .owed .given .1) (c .wants-start .ensures)
+returns-3 c = rw (c .before .before .owed .given .1) (c .is-start-at .ensures)
 
 returns-4 : tie.Need-returns-4
 unfolding allStarts
-returns-4 c = rw (c .before .before .before .owed2 .given .1, ← c .before .wants-start2 .ensures, c .if1 .left)
+returns-4 c = rw (c .before .before .before .owed2 .given .1, ← c .before .is-start-at2 .ensures, c .if1 .left)
 
 pub all-starts-spec : {M : Type 1} → statement M
 all-starts-spec =

@@ -1,9 +1,9 @@
--- What is framed at a start decides what is decoded there, and keeps the bounds that its rules ask for.
+-- What is layout at a start decides what is decoded there, and keeps the bounds that its rules ask for.
 -- Assumes nothing.
 use Prim.Native.Nat.{_/_, _%_}
 use lib.ListN.{drop}
 use borrow.Author.Tests.{not-true, not-false}
-use Rattle.decoder.proofs.Frames.{fits-in, decoded-framed}
+use Rattle.decoder.proofs.Layouts.{fits-in, decoded-layout}
 use Rattle.checker.specs.Steps.{bytesAt}
 use Rattle.model.specs.Verdict.{startResult}
 use borrow.Author.Needs.{needs}
@@ -20,12 +20,12 @@ returns c =
           .result) (c .if1 .taken),
     )
 
-framed-step-requires : tie.Need-framed-step-requires
-framed-step-requires c κs = (
+layout-step-requires : tie.Need-layout-step-requires
+layout-step-requires c κs = (
   fits-in (c .before .before .before .before .before .before .args .image .now)
       (c .before .before .before .before .before .before .args .at)
       (c .before .before .before .byte-at .result / 2 % 2) (c .before .before .before .byte-at .result / 4 % 2)
-      (c .frame-at .result) (c .frame-at .ensures),
+      (c .layout-at .result) (c .layout-at .ensures),
   c .before .before .before .before .before .before .pre .1,
   c .before .before .before .before .before .before .pre .2,
 )
@@ -37,12 +37,12 @@ returns-2 c =
       ← c .before .before .before .before .byte-at .ensures,
       ← c .before .before .before .is-start .ensures,
       not-false (c .before .before .before .is-start .result) (c .before .before .if1 .left),
-      decoded-framed (drop (c
+      decoded-layout (drop (c
           .before .before .before .before .before .before .before .args .at) (c .before .before .before .before .before
           .before .before .args .image .now)) (c .before .before .before .before .byte-at .result / 2 % 2) (c .before
           .before .before .before .byte-at .result / 4 % 2),
-      ← c .before .frame-at .ensures,
-    ) (c .framed-step .ensures)
+      ← c .before .layout-at .ensures,
+    ) (c .layout-result .ensures)
 
 pub step-at-spec : {M : Type 1} → statement M
 step-at-spec =
@@ -52,5 +52,5 @@ step-at-spec =
     (λ c κs. search needs)
     returns
     (λ c κs. search needs)
-    framed-step-requires
+    layout-step-requires
     returns-2)

@@ -4,7 +4,7 @@
 use mathlib.Core.Path.{refl, sym, _∙_}
 use Prim.Native.Nat.{_+_}
 use lib.ListN.{getD, drop}
-use Rattle.decoder.specs.Frame.{instructionOf}
+use Rattle.decoder.specs.Layout.{instructionOf}
 use Rattle.model.proofs.TestResults.{fails, holds}
 use Rattle.checker.proofs.Owes.{marks-of-starts, something-owed, nothing-owed}
 use borrow.Author.Needs.{needs}
@@ -19,7 +19,7 @@ test-owed-requires c κs =
     let args = c .before .before .before .before .before .before .before .before .args in (
       c .before .before .before .before .before .before .before .before .pre .1,
       rw (c .before .before .owed-at .ensures) (marks-of-starts (args .marks .now) (args .base)
-          (instructionOf (drop (args .at) (args .image .now)) (args .frame)) (args .base + args .at)
+          (instructionOf (drop (args .at) (args .image .now)) (args .layout)) (args .base + args .at)
           (c .before .before .before .before .before .byte-at .result)),
     )
 
@@ -28,7 +28,7 @@ test-owed-requires-2 c κs =
     let args = c .before .before .before .before .before .before .before .before .args in (
       c .before .before .before .before .before .before .before .before .pre .1,
       rw (c .before .before .owed-at .ensures) (marks-of-starts (args .marks .now) (args .base)
-          (instructionOf (drop (args .at) (args .image .now)) (args .frame)) (args .base + args .at)
+          (instructionOf (drop (args .at) (args .image .now)) (args .layout)) (args .base + args .at)
           (c .before .before .before .before .before .byte-at .result)),
     )
 
@@ -38,7 +38,7 @@ returns-2 c =
     let mark = c .before .before .before .before .before .before .before .byte-at .ensures in
     holds _ _ (c .before .before .before .before .before .before .is-clear .ensures)
     (c .before .before .before .before .before .if1 .left)
-    (nothing-owed (args .marks .now) (args .base) (instructionOf (drop (args .at) (args .image .now)) (args .frame))
+    (nothing-owed (args .marks .now) (args .base) (instructionOf (drop (args .at) (args .image .now)) (args .layout))
     (args .base + args .at) (getD (args .marks .now) (args .at) 0)
     (sym (rw mark at (c .before .before .before .before .owed-at .ensures)) ∙ c .before .before .enum-told .given .1)
     (rw (c .before .flow-of .ensures, mark) at (c .test-return .ensures)))
@@ -50,7 +50,7 @@ returns-3 c =
     let owed = rw mark at (c .before .before .before .owed-at .ensures) in
     holds _ _ (c .before .before .before .before .before .is-clear .ensures)
     (c .before .before .before .before .if1 .left)
-    (something-owed (args .marks .now) (args .base) (instructionOf (drop (args .at) (args .image .now)) (args .frame))
+    (something-owed (args .marks .now) (args .base) (instructionOf (drop (args .at) (args .image .now)) (args .layout))
     (args .base + args .at) (getD (args .marks .now) (args .at) 0)
     (rw (← owed, c .before .enum-told2 .given .1) refl) (rw owed at (c .test-owed .ensures)))
 
@@ -61,7 +61,7 @@ returns-4 c =
     let owed = rw mark at (c .before .before .before .owed-at .ensures) in
     holds _ _ (c .before .before .before .before .before .is-clear .ensures)
     (c .before .before .before .before .if1 .left)
-    (something-owed (args .marks .now) (args .base) (instructionOf (drop (args .at) (args .image .now)) (args .frame))
+    (something-owed (args .marks .now) (args .base) (instructionOf (drop (args .at) (args .image .now)) (args .layout))
     (args .base + args .at) (getD (args .marks .now) (args .at) 0)
     (rw (← owed, c .before .enum-told3 .given .1) refl) (rw owed at (c .test-owed2 .ensures)))
 

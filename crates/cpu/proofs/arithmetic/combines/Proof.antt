@@ -3,7 +3,7 @@
 use mathlib.Core.Path.{ap, _∙_}
 use Rattle.anywidth.specs.AnyWidth.{low}
 use Rattle.model.specs.Addressing.{bits}
-use Rattle.cpu.specs.Rows.{status, combined, loadingWork}
+use Rattle.cpu.specs.FileEffects.{status, combined, loadingWork}
 use borrow.Author.Needs.{needs}
 use Rattle.cpu.proofs.arithmetic.combines.Statement.{statement}
 use Rattle.cpu.proofs.arithmetic.combines.Tie as tie

@@ -3,7 +3,7 @@
 use Rattle.cpu.proofs.Steps.{through}
 use Rattle.model.specs.Addressing.{bits}
 use Rattle.model.specs.Arithmetic.{withResult}
-use Rattle.cpu.specs.Rows.{leaving}
+use Rattle.cpu.specs.FileEffects.{leaving}
 use mathlib.Core.Path.{refl, ap, _∙_}
 use native.Mathlib.Omega.{arith}
 use borrow.Author.Needs.{needs}

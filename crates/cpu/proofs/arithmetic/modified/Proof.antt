@@ -9,7 +9,7 @@ use Rattle.types.specs.declared.machine.Status.{Status}
 use Rattle.anywidth.specs.AnyWidth.{shiftedLeft, shiftedRight}
 use Rattle.model.specs.Addressing.{bits}
 use Rattle.types.specs.Status.{statusOf}
-use Rattle.cpu.specs.Rows.{worked, modifications}
+use Rattle.cpu.specs.FileEffects.{worked, modifications}
 use borrow.Author.Needs.{needs}
 use Rattle.cpu.proofs.arithmetic.modified.Statement.{statement}
 use Rattle.cpu.proofs.arithmetic.modified.Tie as tie

@@ -7,9 +7,9 @@ use Rattle.memory.specs.Listed.{listed}
 use Rattle.model.specs.Effects.{effect}
 use Rattle.model.specs.Addressing.{bits}
 use Rattle.model.specs.Arithmetic.{withStatus}
-use Rattle.types.specs.declared.machine.Residence.{Residence}
+use Rattle.types.specs.declared.machine.OperandPlace.{OperandPlace}
 use Rattle.cpu.specs.File.{registersOf}
-use Rattle.cpu.specs.Rows.{status, modified, modifying}
+use Rattle.cpu.specs.FileEffects.{status, modified, modifying}
 use borrow.Author.Needs.{needs}
 use Rattle.cpu.proofs.arithmetic.modifies.Statement.{statement}
 use Rattle.cpu.proofs.arithmetic.modifies.Tie as tie
@@ -18,7 +18,7 @@ returns : tie.Need-returns
 returns c =
     let a = c .before .before .before .before .before .before .before .before .before .before .args in
     rw (
-      ← c .before .before .before .before .before .before .residence-of .ensures,
+      ← c .before .before .before .before .before .before .operand-place-of .ensures,
       c .before .before .before .before .enum-told .given .1,
     ) (
       rw (c .stores-to .ensures .0) (
@@ -30,7 +30,7 @@ returns c =
             c .before .before .wide2 .ensures,
             c .before .before .before .low .ensures .0,
           ) refl)
-          ∙ ap (modifying (a .registers .now) (a .to) (a .short) Residence.Memory (a .given .address))
+          ∙ ap (modifying (a .registers .now) (a .to) (a .short) OperandPlace.Memory (a .given .address))
           (c .before .before .before .before .before .before .before .modified .ensures
           ∙ ap (λ v. modified (a .which) (bits (a .short)) v (status (a .registers .now)))
           (c .before .before .before .before .before .before .before .before .before .wide .ensures)),
@@ -40,9 +40,9 @@ returns c =
 returns-2 : tie.Need-returns-2
 returns-2 c =
     let a = c .before .before .before .before .before .before .before .args in
-    rw (← c .before .before .before .residence-of .ensures, c .before .enum-told2 .given .1) (
+    rw (← c .before .before .before .operand-place-of .ensures, c .before .enum-told2 .given .1) (
       c .loads .ensures .0
-          ∙ ap (modifying (a .registers .now) (a .to) (a .short) Residence.Instruction (a .given .address))
+          ∙ ap (modifying (a .registers .now) (a .to) (a .short) OperandPlace.Instruction (a .given .address))
           (c .before .before .before .before .modified .ensures
           ∙ ap (λ v. modified (a .which) (bits (a .short)) v (status (a .registers .now)))
           (c .before .before .before .before .before .before .wide .ensures)),
@@ -52,9 +52,9 @@ returns-2 c =
 returns-3 : tie.Need-returns-3
 returns-3 c =
     let a = c .before .before .before .before .before .before .before .args in
-    rw (← c .before .before .before .residence-of .ensures, c .before .enum-told3 .given .1) (
+    rw (← c .before .before .before .operand-place-of .ensures, c .before .enum-told3 .given .1) (
       c .loads2 .ensures .0
-          ∙ ap (modifying (a .registers .now) (a .to) (a .short) Residence.Register (a .given .address))
+          ∙ ap (modifying (a .registers .now) (a .to) (a .short) OperandPlace.Register (a .given .address))
           (c .before .before .before .before .modified .ensures
           ∙ ap (λ v. modified (a .which) (bits (a .short)) v (status (a .registers .now)))
           (c .before .before .before .before .before .before .wide .ensures)),

@@ -2,12 +2,12 @@
 -- Assumes nothing.
 use mathlib.Core.Path.{refl}
 use Rattle.cpu.specs.File.{registersOf}
-use Rattle.cpu.specs.View.{viewed}
+use Rattle.cpu.specs.CodeEffects.{asEffect}
 use Rattle.memory.specs.Listed.{listed}
 use Rattle.types.specs.declared.machine.CallChange.{CallChange}
 use Rattle.types.specs.declared.machine.Registers.{Registers}
 use Rattle.model.specs.Memory.{Memory, memory}
-use Rattle.machine.proofs.Turning.{stops-at-stores, completes}
+use Rattle.machine.proofs.Finishing.{stops-at-stores, completes}
 use borrow.Author.Needs.{needs}
 use Rattle.machine.proofs.commit.finish.Statement.{statement}
 use Rattle.machine.proofs.commit.finish.Tie as tie
@@ -21,7 +21,7 @@ module _ (served : tie.After-served-all) where
   m = memory (start .args .ram .now) (start .args .image .now) (start .args .base)
 
   abbrev after : Registers
-  after = viewed (start .args .effect) (registersOf (start .args .registers .now)) .registers
+  after = asEffect (start .args .effect) (registersOf (start .args .registers .now)) .registers
 
 returns : tie.Need-returns
 returns c =

@@ -1,9 +1,9 @@
--- Under the base nothing stands; from the base on the frame at the image's place decides, at the widths in force.
+-- Under the base nothing stands; from the base on the layout at the image's place decides, at the widths in force.
 -- Assumes nothing.
 use mathlib.Core.Path.{ap}
 use Prim.Native.Nat.{ℕ, _-_}
 use native.Mathlib.Omega.{arith}
-use Rattle.decoder.proofs.Frames.{fits-at, decoded-fits, decoded-uncarried, decoded-short}
+use Rattle.decoder.proofs.Layouts.{fits-at, decoded-fits, decoded-uncarried, decoded-short}
 use Rattle.types.specs.declared.code.Decoded.{Decoded}
 use Rattle.model.proofs.Step.{fetched-under}
 use Rattle.machine.specs.declared.fetch.Fetched.{Fetched}
@@ -25,8 +25,8 @@ operand-at-requires c κs =
     let a = c .before .before .before .before .before .before .before .before .args in
     let m = c .before .before .before .before .before .bit-at .result in
     let x = c .before .before .before .before .bit-at2 .result in
-    let framed = c .before .before .before .frame-at in
-    fits-at (a .image .now) (a .place - a .base) m x (framed .result) (framed .ensures) _ (c .before .frame .given .1)
+    let layout = c .before .before .before .layout-at in
+    fits-at (a .image .now) (a .place - a .base) m x (layout .result) (layout .ensures) _ (c .before .layout .given .1)
 
 returns-2 : tie.Need-returns-2
 returns-2 c =
@@ -36,16 +36,16 @@ returns-2 c =
     let from = c .before .before .before .before .before .before .before .if1 .left in
     let m = c .before .before .before .before .before .before .bit-at in
     let x = c .before .before .before .before .before .bit-at2 in
-    let framed = c .before .before .before .before .frame-at in
-    let frame = c .before .before .frame .given in
-    let f = frame .0 .0 in
+    let layout = c .before .before .before .before .layout-at in
+    let layout = c .before .before .layout .given in
+    let f = layout .0 .0 in
     let read = c .operand-at in
     let with-operand : ℕ → Fetched = λ n. record { number = f .number; length = f .length; operand = n } in
     let i = instruction (with-operand (read .result)) in
-    let fits = fits-at (a .image .now) at (m .result) (x .result) (framed .result) (framed .ensures) f (frame .1) in (
+    let fits = fits-at (a .image .now) at (m .result) (x .result) (layout .result) (layout .ensures) f (layout .1) in (
       fetched-at (a .image .now) (a .base) (a .place) (a .status) (start .pre .1) (start .pre .2)
           (omega (arith, from)) (m .result) (x .result) (m .ensures .0) (x .ensures .0) (Decoded.Whole i)
-          (decoded-fits (a .image .now) at (m .result) (x .result) (framed .result) (framed .ensures) f i (frame .1)
+          (decoded-fits (a .image .now) at (m .result) (x .result) (layout .result) (layout .ensures) f i (layout .1)
           (ap (λ n. instruction (with-operand n)) (read .ensures .0))),
       (fits .2, read .ensures .1),
     )
@@ -57,11 +57,11 @@ returns-3 c =
     let from = c .before .before .before .before .before .if1 .left in
     let m = c .before .before .before .before .bit-at in
     let x = c .before .before .before .bit-at2 in
-    let framed = c .before .before .frame-at in (
+    let layout = c .before .before .layout-at in (
       fetched-at (a .image .now) (a .base) (a .place) (a .status) (start .pre .1) (start .pre .2)
           (omega (arith, from)) (m .result) (x .result) (m .ensures .0) (x .ensures .0) Decoded.NotCarried
-          (decoded-uncarried (a .image .now) (a .place - a .base) (m .result) (x .result) (framed .result)
-          (framed .ensures) (c .enum-told .given .1)),
+          (decoded-uncarried (a .image .now) (a .place - a .base) (m .result) (x .result) (layout .result)
+          (layout .ensures) (c .enum-told .given .1)),
       tt,
     )
 
@@ -72,11 +72,11 @@ returns-4 c =
     let from = c .before .before .before .before .before .if1 .left in
     let m = c .before .before .before .before .bit-at in
     let x = c .before .before .before .bit-at2 in
-    let framed = c .before .before .frame-at in (
+    let layout = c .before .before .layout-at in (
       fetched-at (a .image .now) (a .base) (a .place) (a .status) (start .pre .1) (start .pre .2)
           (omega (arith, from)) (m .result) (x .result) (m .ensures .0) (x .ensures .0) Decoded.CutOff
-          (decoded-short (a .image .now) (a .place - a .base) (m .result) (x .result) (framed .result)
-          (framed .ensures) (c .enum-told2 .given .1)),
+          (decoded-short (a .image .now) (a .place - a .base) (m .result) (x .result) (layout .result)
+          (layout .ensures) (c .enum-told2 .given .1)),
       tt,
     )
 

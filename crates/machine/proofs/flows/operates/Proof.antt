@@ -4,7 +4,7 @@ use mathlib.Core.Path.{refl}
 use native.Mathlib.Omega.{arith}
 use borrow.Author.Needs.{needs}
 use Rattle.model.specs.Memory.{memory}
-use Rattle.machine.specs.Turns.{goesBy}
+use Rattle.machine.specs.StepResults.{goesBy}
 use Rattle.machine.proofs.Operating.{stops-decimal, stops-unmapped, works-on}
 use Rattle.machine.proofs.flows.operates.Statement.{statement}
 use Rattle.machine.proofs.flows.operates.Tie as tie
@@ -15,8 +15,8 @@ returns c =
     let start = asked .before .before .before .before in
     let a = start .args in (
       stops-decimal (a .i) (memory (a .ram .now) (a .image .now) (a .base)) (a .place) (a .depth) (a .registers .now)
-          (goesBy (a .branches) (a .i) (a .place)) (asked .before .task-at .result) (asked .access-of .result)
-          (asked .before .task-at .ensures) (asked .access-of .ensures) (c .before .before .is-decimal .result)
+          (goesBy (a .branches) (a .i) (a .place)) (asked .before .task-at .result) (asked .operand-use-of .result)
+          (asked .before .task-at .ensures) (asked .operand-use-of .ensures) (c .before .before .is-decimal .result)
           (c .before .before .is-decimal .ensures) (c .before .if1 .taken) (c .stopped .result) (c .stopped .ensures),
       start .pre .3,
     )
@@ -29,7 +29,7 @@ module _ (read : tie.After-data-of) where
   abbrev tested : tie.Else1
   tested = sized .before .before .before .before .before
 
-  abbrev asked : tie.After-access-of
+  abbrev asked : tie.After-operand-use-of
   asked = tested .before .before .before
 
   abbrev start : tie.Start
@@ -44,8 +44,8 @@ returns-2 c =
     let a = start read .args in
     let so =
     stops-unmapped (a .i) (memory (a .ram .now) (a .image .now) (a .base)) (a .place) (a .depth) (a .registers .now)
-    (goesBy (a .branches) (a .i) (a .place)) (ask .before .task-at .result) (ask .access-of .result)
-    (ask .before .task-at .ensures) (ask .access-of .ensures) (test .before .is-decimal .result)
+    (goesBy (a .branches) (a .i) (a .place)) (ask .before .task-at .result) (ask .operand-use-of .result)
+    (ask .before .task-at .ensures) (ask .operand-use-of .ensures) (test .before .is-decimal .result)
     (test .before .is-decimal .ensures) (test .if1 .left) (size .before .before .before .width-of .result)
     (size .before .before .before .width-of .ensures) _ refl (size .before .before .is-set .result)
     (size .before .before .is-set .ensures) (size .before .is-set2 .result) (size .before .is-set2 .ensures)
@@ -84,8 +84,8 @@ returns-3 c =
     let after = end .finish .last .1 .1 .1 .1 .1 .1 .1 in
     let so =
     works-on (a .i) (memory (a .ram .now) (a .image .now) (a .base)) (a .place) (a .depth) (a .registers .now)
-    (goesBy (a .branches) (a .i) (a .place)) (ask .before .task-at .result) (ask .access-of .result)
-    (ask .before .task-at .ensures) (ask .access-of .ensures) (test .before .is-decimal .result)
+    (goesBy (a .branches) (a .i) (a .place)) (ask .before .task-at .result) (ask .operand-use-of .result)
+    (ask .before .task-at .ensures) (ask .operand-use-of .ensures) (test .before .is-decimal .result)
     (test .before .is-decimal .ensures) (test .if1 .left) (size .before .before .before .width-of .result)
     (size .before .before .before .width-of .ensures) _ refl (size .before .before .is-set .result)
     (size .before .before .is-set .ensures) (size .before .is-set2 .result) (size .before .is-set2 .ensures)

@@ -1,9 +1,9 @@
 -- A whole instruction is performed; anything else that is fetched is a stop.
 -- Assumes nothing.
 use Rattle.machine.proofs.Stepping.{step-whole, step-uncarried, step-outside}
-use Rattle.machine.proofs.Turning.{place-kept}
+use Rattle.machine.proofs.Finishing.{place-kept}
 use Rattle.machine.specs.Fetches.{decodedAs}
-use Rattle.machine.specs.Turns.{coreOf}
+use Rattle.machine.specs.StepResults.{coreAt}
 use Rattle.types.specs.declared.machine.Core.{Core}
 use Rattle.model.specs.Memory.{Memory, memory}
 use Rattle.model.specs.Step.{fetched}
@@ -24,7 +24,7 @@ module _ (c : tie.After-fetch-at) where
   m = memory (start .args .ram .now) (start .args .image .now) (start .args .base)
 
   abbrev here : Core
-  here = coreOf (start .args .place % addressLimit) (start .args .depth) (start .args .registers .now)
+  here = coreAt (start .args .place % addressLimit) (start .args .depth) (start .args .registers .now)
 
   is-fetched : decodedAs (c .fetch-at .result) ≡ fetched m here
   is-fetched =

@@ -3,7 +3,7 @@
 use mathlib.Core.Path.{refl}
 use Rattle.model.specs.Effects.{effectOf}
 use Rattle.actions.specs.Tasks.{unpackedTask}
-use Rattle.actions.specs.Works.{byAction}
+use Rattle.actions.specs.ActionEffects.{byAction}
 use Rattle.operations.proofs.Tables.{tasked}
 use Rattle.operations.proofs.table.tasks.Statement.{statement}
 use Rattle.operations.proofs.table.tasks.Tie as tie

@@ -76,7 +76,7 @@ returns-2 c =
     sym (run-taken (m at) (bytes at) (start at .args .asked) (core at .core-of .result)
     (calls at .calls-of .result) (core at .core-of .ensures) (calls at .calls-of .ensures)
     (fits at .fits2 .result) (fits at .fits2 .ensures) (at .test-run .result) (at .test-run .ensures)
-    (told .enum-told .given .1) _ (ran .run-in .ensures)) in
+    (told .enum-told .given .1) _ (ran .run-steps .ensures)) in
     (ap (λ r. r .answer) e, (c .before .before .put-state .ensures ∙ ap (λ r. r .state) e, ap (λ r. r .ram) e))
 
 pub run-spec : {M : Type 1} → statement M

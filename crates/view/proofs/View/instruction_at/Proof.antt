@@ -36,7 +36,7 @@ use Rattle.types.specs.declared.code.Decoded.{Decoded}
 use Rattle.model.specs.Rules.{instructionAt}
 use Rattle.model.proofs.code.Decoded as R
 use Rattle.model.proofs.code.Decoded.Laws as R′
-use Rattle.codepages.specs.Packing.{numbers}
+use Rattle.codepages.specs.Packing.{packedPages}
 use Rattle.view.specs.declared.View.{View}
 use Rattle.walks.proofs.PlainFacts.{Begins, WalkAt, ends, Contracted, calls, Stated, walked-meets}
 use Rattle.walks.proofs.Locals.{local-at, gone}
@@ -92,7 +92,7 @@ module _ {M : Type 1} (𝓤 : URA M) (H : Heap 𝓤) (A : Atoms 𝓤) (W : Given
       tt,
     )
 
-    apart : now codes ≡ numbers → ent 𝓤 (Begins 𝓤 H A W here.signature entry) (Callee .pre to)
+    apart : now codes ≡ packedPages → ent 𝓤 (Begins 𝓤 H A W here.signature entry) (Callee .pre to)
     apart right =
         qed W ((‵ (flft κ q) ⊛ ‵ (flft κ′ q′) ⊛ ‵ (flft κ″ q″) ⊛ ‵ ftrue)
         ∷ ‵ (owns (T.the-row α β ∷ ShrRef (named 2) κ″ Pages ∷ usize ∷ []) (entry .3) (entry .4)) ∷ []) ∵
@@ -103,7 +103,7 @@ module _ {M : Type 1} (𝓤 : URA M) (H : Heap 𝓤) (A : Atoms 𝓤) (W : Given
 
     module _ (C : Calls 𝓤 H) (Λ : Loops 𝓤 H) (fm : FmC 𝓤 H (W .laws) C) (known : Triple 𝓤 (C #callee) Callee) where
       walk : Holds (hasTy (T′.mir (named 0) (named 1)) (T′.lowered d)) × WT (T′.lowered d)
-          → at < 2 ^ 64 → now codes ≡ numbers → WalkAt 𝓤 H A W here.signature entry (φ d at) C Λ code.function
+          → at < 2 ^ 64 → now codes ≡ packedPages → WalkAt 𝓤 H A W here.signature entry (φ d at) C Λ code.function
       walk wt fits right =
           qed W (raw (Begins 𝓤 H A W here.signature entry) ∷ []) ∵ enter ! C Λ code.function _ _ $
           alloc1 ! (λ l₀. alloc1 ! (λ l₁. alloc1 ! (λ l₂. alloc1 ! (λ l₃. alloc1 ! (λ l₄. alloc1 ! (λ l₅. alloc0 ! $
@@ -144,7 +144,7 @@ instruction-at-spec 𝓤 H 𝓜 𝓖 𝓡 =
     let 𝓣 = tables 𝓤 H 𝓜 𝓡 code.env in
     walked-meets 𝓤 H 𝓜 𝓖 𝓡 code.env #here code.function (code.unfolded 𝓤 H 𝓜 𝓡) here.ended
     (here.clauses 𝓤 H (𝓖 .A) (𝓜 .mem) (𝓡 .run)) (states 𝓤 H (𝓖 .A) W (𝓜 .mem) (𝓡 .run))
-    (λ fm κs qs bounds a g are. needs 𝓤 (now (a .1 .0) ≡ numbers) _ (λ right.
+    (λ fm κs qs bounds a g are. needs 𝓤 (now (a .1 .0) ≡ packedPages) _ (λ right.
     walk 𝓤 H (𝓖 .A) W (𝓜 .mem) (𝓡 .run) (κs .0) (κs .1 .0) (κs .1 .1 .0) (qs .0) (qs .1 .0) (qs .1 .1 .0)
     (a .0) (a .1 .0) (a .1 .1 .0) (𝓣 .C) (𝓣 .Λ) fm
     (cited 𝓤 H (Callee 𝓤 H (𝓖 .A) W (𝓜 .mem) (𝓡 .run)) 𝓜 𝓡 code.env #callee callee-def.routine

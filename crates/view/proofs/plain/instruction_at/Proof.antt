@@ -36,7 +36,7 @@ use Rattle.types.specs.declared.code.Decoded.{Decoded}
 use Rattle.model.specs.Rules.{instructionAt}
 use Rattle.model.proofs.code.Decoded as R
 use Rattle.model.proofs.code.Decoded.Laws as R′
-use Rattle.codepages.specs.Packing.{numbers}
+use Rattle.codepages.specs.Packing.{packedPages}
 use Rattle.view.specs.declared.View.{View}
 use Rattle.walks.proofs.PlainFacts.{Begins, WalkAt, ends, Contracted, calls, Stated, walked-meets}
 use Rattle.walks.proofs.Locals.{local-at, gone}
@@ -90,7 +90,7 @@ module _ {M : Type 1} (𝓤 : URA M) (H : Heap 𝓤) (A : Atoms 𝓤) (W : Given
     abbrev Others : List RattleType
     Others = ShrRef (named 2) κ″ Pages ∷ usize ∷ []
 
-    together : d .base < 2 ^ 32 → now codes ≡ numbers → ent 𝓤 (Begins 𝓤 H A W here.signature entry) (Callee .pre to)
+    together : d .base < 2 ^ 32 → now codes ≡ packedPages → ent 𝓤 (Begins 𝓤 H A W here.signature entry) (Callee .pre to)
     together fits right =
         qed W ((‵ (flft κ q) ⊛ ‵ (flft κ′ q′) ⊛ ‵ (flft κ″ q″) ⊛ ‵ ftrue)
         ∷ ‵ (owns (parts-and α β Others) (entry .3) (entry .4)) ∷ []) ∵
@@ -102,7 +102,7 @@ module _ {M : Type 1} (𝓤 : URA M) (H : Heap 𝓤) (A : Atoms 𝓤) (W : Given
     module _ (C : Calls 𝓤 H) (Λ : Loops 𝓤 H) (fm : FmC 𝓤 H (W .laws) C) (known : Triple 𝓤 (C #callee) Callee) where
       walk : Is (ShrSlice (named 0) κ u8) (d .image) (imageVal d ∷ [])
           → Is (ShrSlice (named 1) κ′ u8) (d .marks) (marksVal d ∷ [])
-          → d .base < 2 ^ 32 → at < 2 ^ 64 → now codes ≡ numbers
+          → d .base < 2 ^ 32 → at < 2 ^ 64 → now codes ≡ packedPages
           → WalkAt 𝓤 H A W here.signature entry (φ d at) C Λ code.function
       walk p p′ fits fits′ right =
           let wt = shr-slice-lawful 𝓤 H A W (named 0) κ u8 .typed (d .image) (imageVal d ∷ []) p .0 in
@@ -150,7 +150,7 @@ instruction-at-spec 𝓤 H 𝓜 𝓖 𝓡 =
     let 𝓣 = tables 𝓤 H 𝓜 𝓡 code.env in
     walked-meets 𝓤 H 𝓜 𝓖 𝓡 code.env #here code.function (code.unfolded 𝓤 H 𝓜 𝓡) here.ended
     (here.clauses 𝓤 H (𝓖 .A) (𝓜 .mem) (𝓡 .run)) (states 𝓤 H (𝓖 .A) W (𝓜 .mem) (𝓡 .run))
-    (λ fm κs qs bounds a g are. needs 𝓤 (now (a .1 .1 .1 .0) ≡ numbers) _ (λ right.
+    (λ fm κs qs bounds a g are. needs 𝓤 (now (a .1 .1 .1 .0) ≡ packedPages) _ (λ right.
     walk 𝓤 H (𝓖 .A) W (𝓜 .mem) (𝓡 .run) (κs .0) (κs .1 .0) (κs .1 .1 .0) (qs .0) (qs .1 .0) (qs .1 .1 .0)
     (record { image = a .0; marks = a .1 .0; base = a .1 .1 .0 }) (a .1 .1 .1 .0) (a .1 .1 .1 .1 .0) (𝓣 .C) (𝓣 .Λ) fm
     (cited 𝓤 H (Callee 𝓤 H (𝓖 .A) W (𝓜 .mem) (𝓡 .run)) 𝓜 𝓡 code.env #callee callee-def.routine

@@ -1,0 +1,33 @@
+-- The choices, put together, are the table that is compared with the definition.
+-- Assumes nothing.
+use Rattle.image.proofs.Form.{chosen-formed}
+use native.Mathlib.Omega.{arith}
+use borrow.Author.Needs.{needs}
+use Rattle.image.proofs.malformed.Statement.{statement}
+use Rattle.image.proofs.malformed.Tie as tie
+
+returns : tie.Need-returns
+returns c =
+    rw (
+      c .choose6 .ensures,
+      c .before .choose5 .ensures,
+      c .before .before .choose4 .ensures,
+      c .before .before
+          .before .choose3 .ensures,
+      c .before .before .before .before .choose2 .ensures,
+      c .before .before .before
+          .before .before .choose .ensures,
+    ) (chosen-formed (c .before .before .before .before .before .before .args .mark)
+    (omega arith))
+
+pub malformed-spec : {M : Type 1} → statement M
+malformed-spec =
+    tie.close
+    (tie.spec
+    (λ c κs. search needs)
+    (λ c κs. search needs)
+    (λ c κs. search needs)
+    (λ c κs. search needs)
+    (λ c κs. search needs)
+    (λ c κs. search needs)
+    returns)
