@@ -18,6 +18,9 @@ use Rattle.model.specs.Refusals.{refusalNumber, Tests, firstRefusal, isF
 pub failed-passed : {why : Refusal} → Failed why ≡ Passed → ⊥
 failed-passed e = let z : _≡_ {A = ℕ} 0 1 = cc in absurd (omega arith)
 
+pub same-why : {why other : Refusal} → Failed why ≡ Failed other → why ≡ other
+same-why e = cc
+
 -- ---- what a result says
 
 abbrev pub AllHold : Tests → Type 0
