@@ -13,7 +13,7 @@ use Rattle.types.specs.declared.refusals.Refusal.{Refusal}
 use Rattle.types.specs.declared.refusals.TestResult.{TestResult}
 use Rattle.types.specs.Refusals.{refusalNumber, Tests, firstRefusal, answered}
 use Rattle.model.specs.Grounds.{Grounds, FirstGround, NoGround, AnswersBy}
-use Rattle.model.proofs.TestResults.{failed-passed, passes, refusal-range, same-refusal}
+use Rattle.model.proofs.TestResults.{failed-passed, same-why, passes, refusal-range, same-refusal}
 use Rattle.prelude.proofs.Choice.{both-true}
 
 -- ---- grounds and their tests
@@ -43,9 +43,6 @@ Decided [] tests = Unit {0}
 
 -- ---- one test before others
 
-failed-by : {why other : Refusal} → TestResult.Failed why ≡ TestResult.Failed other → why ≡ other
-failed-by e = cc
-
 never-given : (why : Refusal) (tests : Tests) → notGiven why tests ≡ true → firstRefusal tests ≡ TestResult.Failed why
     → ⊥
 unfolding firstRefusal
@@ -55,7 +52,7 @@ never-given why ((true, other) ∷ rest) apart e =
 never-given why ((false, other) ∷ rest) apart e =
     eqb-false (refusalNumber other) (refusalNumber why)
     (not-true (isSame other why) (both-true (not (isSame other why)) (notGiven why rest) apart .0))
-    (ap refusalNumber (failed-by e))
+    (ap refusalNumber (same-why e))
 
 module _ (Ground More : Type 0) (number why : Refusal) (rest : Tests) where
   same : isSame number why ≡ true → number ≡ why
@@ -79,7 +76,7 @@ module _ (Ground More : Type 0) (number why : Refusal) (rest : Tests) where
   )
   one-first false true e apart decided more = (λ f. decided .0 refl, λ g. ap TestResult.Failed (same e))
   one-first false false e apart decided more = (
-    λ f. absurd (eqb-false (refusalNumber number) (refusalNumber why) e (ap refusalNumber (failed-by f))),
+    λ f. absurd (eqb-false (refusalNumber number) (refusalNumber why) e (ap refusalNumber (same-why f))),
     λ first. absurd (first .0 (decided .0 refl)),
   )
 

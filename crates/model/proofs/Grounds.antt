@@ -1,6 +1,6 @@
--- A run, the reader and the writer refuse by the first ground that holds. Each of their tests is turned into its ground,
--- and the law of FirstGround.antt does the rest. 3 is asked of marks in form, where a start with m=0, x=0 and kind 0 is
--- mark 01.
+-- A run, the reader and the writer refuse by the first ground that holds. Each of their tests is turned into its
+-- ground, and the law of FirstGround.antt does the rest. 3 is asked of marks in form, where a start with m=0, x=0 and
+-- kind 0 is mark 01.
 -- Assumes nothing.
 use mathlib.Core.Path.{_≡_, refl, sym, ap, _∙_}
 use mathlib.Core.Logic.{_↔_, _⊎_, inl, inr, ⊎-elim}
@@ -22,9 +22,9 @@ use Rattle.types.specs.declared.refusals.TestResult.{TestResult}
 use Rattle.types.specs.declared.runs.RunAnswer.{RunAnswer}
 use Rattle.prelude.specs.Choice.{pick}
 use Rattle.types.specs.Addresses.{bankSize, addressLimit}
-use Rattle.model.specs.Image.{imageLimit, isStart, markKind, returnM}
+use Rattle.model.specs.Image.{imageLimit, isStart, markKind, returnM, returnX, markOf}
 use Rattle.types.specs.Addresses.{inBankOf}
-use Rattle.model.specs.Image.{returnX, markOf, isFormed, lengthFits, baseFits, markAt, resetFits}
+use Rattle.model.specs.Image.{isFormed, lengthFits, baseFits, markAt, resetFits}
 use Rattle.types.specs.Refusals.{firstRefusal, answered}
 use Rattle.prelude.specs.First.{firstFrom}
 use Rattle.model.specs.Verdict.{badMark, allFormed}
@@ -39,8 +39,7 @@ use Rattle.model.specs.StateBytes.{stateSize, stateOf}
 use Rattle.model.specs.RunBytes.{bytesFit, ranBytesBy, ranBytes}
 use Rattle.model.specs.Grounds.{WrongSize, WrongLength, WrongBase, IsResetStart, WrongReset, IsMark, WrongMark}
 use Rattle.model.specs.Grounds.{WrongRam, WrongCall, WrongState, WrongBytes, runGrounds, RunAnswers}
-use Rattle.model.specs.Grounds.{RunBytesAnswers}
-use Rattle.model.specs.Grounds.{readGrounds, ReadAnswers, writeGrounds, WriteAnswers}
+use Rattle.model.specs.Grounds.{RunBytesAnswers, readGrounds, ReadAnswers, writeGrounds, WriteAnswers}
 use Rattle.prelude.proofs.Choice.{both-true}
 use Rattle.prelude.proofs.First.{none-found}
 use Rattle.model.proofs.Verdict.{formed-all}
@@ -134,19 +133,20 @@ returnFormed mark = not (eqb (markKind mark) 0) || (eqb (returnM mark) 0 && eqb 
 abbrev startFormed : ℕ → Bool
 startFormed mark = isStart mark && ltb mark 128 && not (eqb (markKind mark) 3) && returnFormed mark
 
+unmarked : IsMark 0
+unmarked = record {
+  kind-used = λ three. absurd (omega arith);
+  bit-7-clear = omega arith;
+  no-start = λ _. refl;
+  no-return = λ _. (refl, refl);
+}
+
 formed-is : (mark : ℕ) → isFormed mark ≡ true → IsMark mark
 unfolding isFormed
 formed-is mark = by (eqb mark 0) refl
   where
     by : (b : Bool) → eqb mark 0 ≡ b → b || startFormed mark ≡ true → IsMark mark
-    by true e h =
-        let zero = eqb-true mark 0 e in
-        record {
-          kind-used = λ three. absurd (omega arith);
-          bit-7-clear = omega arith;
-          no-start = λ _. zero;
-          no-return = λ _. (omega arith, omega arith);
-        }
+    by true e h = rw (eqb-true mark 0 e) unmarked
     by false e h =
         let kind = eqb (markKind mark) 3 in
         let three = both-true (isStart mark && ltb mark 128 && not kind) (returnFormed mark) h in
@@ -198,14 +198,6 @@ formed-at : (marks : List ℕ) (base address : ℕ) → allFormed marks ≡ true
 unfolding markAt
 formed-at marks base address formed = by (leb base address)
   where
-    unmarked : IsMark 0
-    unmarked = record {
-      kind-used = λ three. absurd (omega arith);
-      bit-7-clear = omega arith;
-      no-start = λ _. refl;
-      no-return = λ _. (refl, refl);
-    }
-
     at : (k : ℕ) (b : Bool) → ltb k (length marks) ≡ b → IsMark (getD marks k 0)
     at k true e = formed-is (getD marks k 0) (formed-all marks formed k (ltb-true k (length marks) e))
     at k false e = rw (List·getD-eq-default marks 0 (ltb-false k (length marks) e)) unmarked

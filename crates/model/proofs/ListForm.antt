@@ -1,5 +1,5 @@
--- The reader's test for 14 passes exactly the texts that are mark lists. The addresses in turn take lines of starts, and no
--- other text, whole: by induction over the addresses. A first line shows what it was made of.
+-- The reader's test for 14 passes exactly the texts that are mark lists. The addresses in turn take lines of starts,
+-- and no other text, whole: by induction over the addresses. A first line shows what it was made of.
 -- Assumes nothing.
 use mathlib.Core.Path.{_≡_, refl, sym, ap, _∙_}
 use mathlib.Core.Logic.{_↔_, _⊎_, inl, inr}

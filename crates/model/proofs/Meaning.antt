@@ -32,7 +32,7 @@ use Rattle.model.specs.Verdict.{badMark}
 use Rattle.model.specs.Verdict.{marksTests, offsetOf, verdict}
 use Rattle.prelude.proofs.First.{first-is}
 use Rattle.model.proofs.Image.{right-length}
-use Rattle.model.proofs.TestResults.{AllHold, FirstFails, shown, failed-passed, not-failed}
+use Rattle.model.proofs.TestResults.{AllHold, FirstFails, shown, failed-passed, same-why, not-failed}
 use Rattle.prelude.proofs.Choice.{both-true}
 use Rattle.model.proofs.Verdict.{clear-all, formed-all, start-inside, start-rules}
 
@@ -51,9 +51,6 @@ one-of-two test v w h = by (test v) refl h
     by : (b : Bool) → test v ≡ b → b && test w ≡ false → Failing (λ u. test u ≡ false) (Requirements.Two v w)
     by true e h′ = (w, inr refl, h′)
     by false e h′ = (v, inl refl, e)
-
-same-why : {why why′ : Refusal} → TestResult.Failed why ≡ TestResult.Failed why′ → why ≡ why′
-same-why e = cc
 
 module _ (marks : List ℕ) (base : ℕ) where
   no-start : (o : Requirements) → allStarts marks base o ≡ false → Failing (λ w. isStart (markAt marks base (w .address)) ≡

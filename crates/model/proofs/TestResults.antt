@@ -16,6 +16,9 @@ use Rattle.types.specs.Refusals.{refusalNumber, Tests, firstRefusal, isFailed, 
 pub failed-passed : {why : Refusal} → TestResult.Failed why ≡ TestResult.Passed → ⊥
 failed-passed e = let z : _≡_ {A = ℕ} 0 1 = cc in absurd (omega arith)
 
+pub same-why : {why other : Refusal} → TestResult.Failed why ≡ TestResult.Failed other → why ≡ other
+same-why e = cc
+
 -- ---- what a result says
 
 abbrev pub AllHold : Tests → Type 0

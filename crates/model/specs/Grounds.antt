@@ -35,7 +35,7 @@ use Rattle.model.specs.RunBytes.{ranBytes}
 abbrev pub Grounds : Type 1
 Grounds = List (Type 0 × Refusal)
 
--- the ground of a refusal holds, and none before it: of 12 in a run, the grounds of 1, 2 and 11 don't hold and 12's does
+-- the ground of a refusal holds, and none before it: of 12 in a run, those of 1, 2 and 11 don't hold and 12's does
 abbrev pub FirstGround : Grounds → Refusal → Type 0
 FirstGround [] why = ⊥
 FirstGround (ground ∷ rest) why =
