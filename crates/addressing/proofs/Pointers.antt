@@ -25,7 +25,7 @@ use Rattle.model.specs.Memory.{readWord, readLong, readData}
 use Rattle.anywidth.specs.AnyWidth.{size, low}
 use Rattle.model.specs.Addressing.{bits, dataAt, addressOf, operandPlaceOf, operandBy, dataOf}
 use Rattle.types.specs.declared.machine.Data.{Data}
-use Rattle.model.proofs.machine.OperandUse.{the-type}
+use Rattle.types.proofs.machine.OperandUse.{the-type}
 use Rattle.model.proofs.Memory.{onDone, evaluate-bind, after-done, after-unmapped}
 
 most : (short : Bool) → size (bits short) ≤ 65_536

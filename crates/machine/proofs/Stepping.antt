@@ -10,7 +10,7 @@ use lib.ListN.{getD}
 use types.Run.{OneOf}
 use denote.Enum.Declared.{tagOf}
 use Rattle.cpu.specs.File.{registersOf}
-use Rattle.model.proofs.code.Flow.{the-type}
+use Rattle.types.proofs.code.Flow.{the-type}
 use Rattle.types.specs.declared.code.Kind.{Kind}
 use Rattle.types.specs.declared.code.Decoded.{Decoded}
 use Rattle.types.specs.declared.code.Flow.{Flow}

@@ -3,8 +3,8 @@
 use Rattle.decoder.proofs.Layouts.{coded-plain}
 use mathlib.Core.Path.{sym, _∙_}
 use borrow.Author.Needs.{needs}
-use Rattle.decoder.proofs.code_at.Statement.{statement}
-use Rattle.decoder.proofs.code_at.Tie as tie
+use Rattle.decoder.proofs.code-at.Statement.{statement}
+use Rattle.decoder.proofs.code-at.Tie as tie
 
 returns : tie.Need-returns
 returns c =
@@ -13,8 +13,8 @@ returns c =
     coded-plain (start .args .image .now) (start .args .at) (number .packed-at .result) (start .pre .1)
     (rw (← start .pre .0) (number .packed-at .ensures)) (sym (c .before .is-carried .ensures) ∙ c .if1 .taken)
 
-look-behind-requires : tie.Need-look-behind-requires
-look-behind-requires c κs =
+code-behind-prefix-requires : tie.Need-code-behind-prefix-requires
+code-behind-prefix-requires c κs =
     let pre = c .before .before .before .before .before .pre in
     let at-code = rw (pre .0) at (c .before .before .packed-at .ensures) in
     (pre .0, pre .1, rw (← at-code) (sym (c .before .is-carried .ensures) ∙ c .if1 .left))
@@ -23,5 +23,5 @@ pub code-at-spec : {M : Type 1} → statement M
 code-at-spec =
     tie.close
     (tie.spec
-    (λ c. search needs) (λ c κs. search needs) (λ c κs. search needs) returns look-behind-requires
+    (λ c. search needs) (λ c κs. search needs) (λ c κs. search needs) returns code-behind-prefix-requires
     (λ c. search needs))

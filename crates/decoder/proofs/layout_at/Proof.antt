@@ -16,21 +16,21 @@ returns-2 : tie.Need-returns-2
 returns-2 c =
     let code = c .before .before .before .before in
     let args = code .before .before .before .args in
-    layout-at (args .image .now) (args .at) (code .code_at .result) (args .m) (args .x) (c .fit .result)
-    (code .code_at .ensures) (rw (c .before .before .number .given .1) (c .fit .ensures))
+    layout-at (args .image .now) (args .at) (code .code-at .result) (args .m) (args .x) (c .fit .result)
+    (code .code-at .ensures) (rw (c .before .before .number .given .1) (c .fit .ensures))
 
 returns-3 : tie.Need-returns-3
 returns-3 c =
     let code = c .before .before in
     let args = code .before .before .before .args in
-    layout-at (args .image .now) (args .at) (code .code_at .result) (args .m) (args .x) LayoutRead.Uncarried
-    (code .code_at .ensures) (rw (c .enum-told .given .1) refl)
+    layout-at (args .image .now) (args .at) (code .code-at .result) (args .m) (args .x) LayoutRead.Uncarried
+    (code .code-at .ensures) (rw (c .enum-told .given .1) refl)
 
 returns-4 : tie.Need-returns-4
 returns-4 c =
     let code = c .before .before in
     let args = code .before .before .before .args in
-    layout-at (args .image .now) (args .at) (code .code_at .result) (args .m) (args .x) LayoutRead.Short (code .code_at .ensures)
+    layout-at (args .image .now) (args .at) (code .code-at .result) (args .m) (args .x) LayoutRead.Short (code .code-at .ensures)
     (rw (c .enum-told2 .given .1) refl)
 
 pub layout-at-spec : {M : Type 1} → statement M

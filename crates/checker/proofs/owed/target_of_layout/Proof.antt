@@ -8,6 +8,6 @@ returns : tie.Need-returns
 returns c =
     rw (← c .before .before .target-form-of .ensures, ← c .before .operand-at .ensures .0) (c .target-of .ensures)
 
-pub target-of-frame-spec : {M : Type 1} → statement M
-target-of-frame-spec =
+pub target-of-layout-spec : {M : Type 1} → statement M
+target-of-layout-spec =
     tie.close (tie.spec (λ c κs. search needs) (λ c κs. search needs) (λ c κs. search needs) returns)

@@ -50,8 +50,8 @@ returns c =
     (c .before .tested .given .1)) in
     (ap (λ r. r .answer) e, (ap (λ r. r .state) e, ap (λ r. r .ram) e))
 
-run-in-requires : tie.Need-run-in-requires
-run-in-requires c κs =
+run-steps-requires : tie.Need-run-steps-requires
+run-steps-requires c κs =
     let pages = c .before .before .before .before .before in
     let at = pages .before .before .before in
     let b = bounds (pages .before) in
@@ -85,4 +85,4 @@ run-spec =
     (tie.spec
     (λ c κs. search needs) (λ c κs. search needs) (λ c κs. search needs) (λ c κs. search needs) (λ c. search needs)
     (λ c. search needs) (λ c. search needs) returns (λ c. search needs) (λ c κs. search needs)
-    (λ c κs. search needs) run-in-requires put-state-requires (λ c. search needs) (λ c. search needs) returns-2)
+    (λ c κs. search needs) run-steps-requires put-state-requires (λ c. search needs) (λ c. search needs) returns-2)

@@ -34,8 +34,8 @@ use denote.Triple.Statement.{Contract, Triple}
 use denote.Triple.Table.{cited}
 use Rattle.types.specs.declared.rules.Verdict.{Verdict}
 use Rattle.model.specs.Verdict.{verdict}
-use Rattle.model.proofs.rules.Verdict as R
-use Rattle.model.proofs.rules.Verdict.Laws as R′
+use Rattle.types.proofs.rules.Verdict as R
+use Rattle.types.proofs.rules.Verdict.Laws as R′
 use Rattle.checker.proofs.check as callee
 use Rattle.checker.proofs.check.Symbol as callee-def
 use Rattle.checker.proofs.check.Symbol.{name as #callee}

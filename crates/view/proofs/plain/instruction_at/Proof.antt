@@ -34,8 +34,8 @@ use denote.Triple.Table.{cited}
 use denote.Triple.Walked.{says, needs}
 use Rattle.types.specs.declared.code.Decoded.{Decoded}
 use Rattle.model.specs.Rules.{instructionAt}
-use Rattle.model.proofs.code.Decoded as R
-use Rattle.model.proofs.code.Decoded.Laws as R′
+use Rattle.types.proofs.code.Decoded as R
+use Rattle.types.proofs.code.Decoded.Laws as R′
 use Rattle.codepages.specs.Packing.{packedPages}
 use Rattle.view.specs.declared.View.{View}
 use Rattle.walks.proofs.PlainFacts.{Begins, WalkAt, ends, Contracted, calls, Stated, walked-meets}

@@ -41,8 +41,8 @@ use denote.Triple.Table.{cited}
 use Rattle.types.specs.declared.rules.Verdict.{Verdict}
 use Rattle.model.specs.Image.{startCount}
 use Rattle.model.specs.Verdict.{verdict}
-use Rattle.model.proofs.rules.Verdict as R
-use Rattle.model.proofs.rules.Verdict.Laws as R′
+use Rattle.types.proofs.rules.Verdict as R
+use Rattle.types.proofs.rules.Verdict.Laws as R′
 use Rattle.view.specs.declared.View.{View}
 use Rattle.view.specs.declared.plain.Judged.{Judged}
 use Rattle.walks.proofs.PlainFacts.{Begins, WalkAt, ends, Contracted, calls, Stated, walked-meets}
