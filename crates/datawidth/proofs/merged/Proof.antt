@@ -6,14 +6,7 @@ use borrow.Author.Needs.{needs}
 use Rattle.datawidth.proofs.merged.Statement.{statement}
 use Rattle.datawidth.proofs.merged.Tie as tie
 
-returns : tie.Need-returns
-returns c = rw (c .if1 .taken) refl
-
-returns-2 : tie.Need-returns-2
-returns-2 c = rw (c .if1 .left) (omega arith)
-
 pub merged-spec : {M : Type 1} → statement M
 merged-spec =
-    tie.close
-    (tie.spec
-    (λ c. search needs) (λ c. search needs) (λ c. search needs) returns (λ c. search needs) returns-2)
+    tie.close (tie.spec (λ c. search needs) (λ c. search needs) (λ c. search needs)
+    (λ c. rw (c .if1 .taken) refl) (λ c. search needs) (λ c. rw (c .if1 .left) (omega arith)))

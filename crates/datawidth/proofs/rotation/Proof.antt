@@ -5,13 +5,6 @@ use mathlib.Core.Path.{refl}
 use Rattle.datawidth.proofs.rotation.Statement.{statement}
 use Rattle.datawidth.proofs.rotation.Tie as tie
 
-returns : tie.Need-returns
-returns c = rw (c .if1 .taken) (refl, omega arith)
-
-returns-2 : tie.Need-returns-2
-returns-2 c = rw (c .if1 .left) (refl, omega arith)
-
 pub rotation-spec : {M : Type 1} → statement M
-rotation-spec = tie.close
-    (tie.spec
-    returns returns-2)
+rotation-spec =
+    tie.close (tie.spec (λ c. rw (c .if1 .taken) (refl, omega arith)) (λ c. rw (c .if1 .left) (refl, omega arith)))

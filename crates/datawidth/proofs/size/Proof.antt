@@ -5,11 +5,7 @@ use mathlib.Core.Path.{refl}
 use Rattle.datawidth.proofs.size.Statement.{statement}
 use Rattle.datawidth.proofs.size.Tie as tie
 
-returns : tie.Need-returns
-returns c = rw (c .if1 .taken) (refl, omega arith, omega arith)
-
-returns-2 : tie.Need-returns-2
-returns-2 c = rw (c .if1 .left) (refl, omega arith, omega arith)
-
 pub size-spec : {M : Type 1} → statement M
-size-spec = tie.close (tie.spec returns returns-2)
+size-spec =
+    tie.close (tie.spec (λ c. rw (c .if1 .taken) (refl, omega arith, omega arith))
+    (λ c. rw (c .if1 .left) (refl, omega arith, omega arith)))

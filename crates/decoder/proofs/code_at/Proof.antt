@@ -3,8 +3,8 @@
 use Rattle.decoder.proofs.Layouts.{coded-plain}
 use mathlib.Core.Path.{sym, _∙_}
 use borrow.Author.Needs.{needs}
-use Rattle.decoder.proofs.code-at.Statement.{statement}
-use Rattle.decoder.proofs.code-at.Tie as tie
+use Rattle.decoder.proofs.code_at.Statement.{statement}
+use Rattle.decoder.proofs.code_at.Tie as tie
 
 returns : tie.Need-returns
 returns c =

@@ -3,16 +3,11 @@
 use mathlib.Core.Path.{refl}
 use borrow.Author.Needs.{needs}
 use Rattle.prelude.proofs.Match.{no-key}
-use Rattle.types.specs.declared.code.Accumulator.{Accumulator}
 use Rattle.codepages.specs.Packing.{accumulators}
 use Rattle.entries.proofs.accumulator_at.Statement.{statement}
 use Rattle.entries.proofs.accumulator_at.Tie as tie
 
-other : tie.Need-returns-3
-other c = no-key accumulators Accumulator.Unnamed (c .before .args .n) refl (c .match .rest)
-
 pub accumulator-at-spec : {M : Type 1} → statement M
 accumulator-at-spec =
-    tie.close
-    (tie.spec
-    (λ c. search needs) (λ c. search needs) other)
+    tie.close (tie.spec (λ c. search needs) (λ c. search needs)
+    (λ c. no-key accumulators _ _ refl (c .match .rest)))

@@ -5,9 +5,5 @@ use borrow.Author.Needs.{needs}
 use Rattle.entries.proofs.bytes_of.Statement.{statement}
 use Rattle.entries.proofs.bytes_of.Tie as tie
 
-returns : tie.Need-returns
-unfolding unpacked
-returns c = search needs
-
 pub bytes-of-spec : {M : Type 1} → statement M
-bytes-of-spec = tie.close (tie.spec (λ c. search needs) returns)
+bytes-of-spec = tie.close (tie.spec (λ c. search needs) (λ c. unfold unpacked in search needs))

@@ -3,16 +3,11 @@
 use mathlib.Core.Path.{refl}
 use borrow.Author.Needs.{needs}
 use Rattle.prelude.proofs.Match.{no-key}
-use Rattle.types.specs.declared.code.WidthEffect.{WidthEffect}
 use Rattle.codepages.specs.Packing.{effects}
 use Rattle.entries.proofs.effect_at.Statement.{statement}
 use Rattle.entries.proofs.effect_at.Tie as tie
 
-other : tie.Need-returns-5
-other c = no-key effects WidthEffect.KeepWidths (c .before .args .n) refl (c .match .rest)
-
 pub effect-at-spec : {M : Type 1} → statement M
 effect-at-spec =
-    tie.close
-    (tie.spec
-    (λ c. search needs) (λ c. search needs) (λ c. search needs) (λ c. search needs) other)
+    tie.close (tie.spec (λ c. search needs) (λ c. search needs) (λ c. search needs) (λ c. search needs)
+    (λ c. no-key effects _ _ refl (c .match .rest)))

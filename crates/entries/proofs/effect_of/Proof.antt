@@ -5,9 +5,5 @@ use borrow.Author.Needs.{needs}
 use Rattle.entries.proofs.effect_of.Statement.{statement}
 use Rattle.entries.proofs.effect_of.Tie as tie
 
-returns : tie.Need-returns
-unfolding unpacked
-returns c = search needs
-
 pub effect-of-spec : {M : Type 1} → statement M
-effect-of-spec = tie.close (tie.spec (λ c κs. search needs) returns)
+effect-of-spec = tie.close (tie.spec (λ c κs. search needs) (λ c. unfold unpacked in c .effect-at .ensures))

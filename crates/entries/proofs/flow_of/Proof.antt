@@ -5,9 +5,5 @@ use borrow.Author.Needs.{needs}
 use Rattle.entries.proofs.flow_of.Statement.{statement}
 use Rattle.entries.proofs.flow_of.Tie as tie
 
-returns : tie.Need-returns
-unfolding unpacked
-returns c = search needs
-
 pub flow-of-spec : {M : Type 1} → statement M
-flow-of-spec = tie.close (tie.spec (λ c κs. search needs) returns)
+flow-of-spec = tie.close (tie.spec (λ c κs. search needs) (λ c. unfold unpacked in c .flow-at .ensures))

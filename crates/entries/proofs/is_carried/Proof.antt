@@ -5,9 +5,5 @@ use borrow.Author.Needs.{needs}
 use Rattle.entries.proofs.is_carried.Statement.{statement}
 use Rattle.entries.proofs.is_carried.Tie as tie
 
-returns : tie.Need-returns
-unfolding unpacked
-returns c = search needs
-
 pub is-carried-spec : {M : Type 1} → statement M
-is-carried-spec = tie.close (tie.spec returns)
+is-carried-spec = tie.close (tie.spec (λ c. unfold unpacked in search needs))

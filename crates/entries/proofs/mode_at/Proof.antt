@@ -3,21 +3,15 @@
 use mathlib.Core.Path.{refl}
 use borrow.Author.Needs.{needs}
 use Rattle.prelude.proofs.Match.{no-key}
-use Rattle.types.specs.declared.code.Mode.{Mode}
 use Rattle.codepages.specs.Packing.{modes}
 use Rattle.entries.proofs.mode_at.Statement.{statement}
 use Rattle.entries.proofs.mode_at.Tie as tie
 
-other : tie.Need-returns-28
-other c = no-key modes Mode.Implied (c .before .args .n) refl (c .match .rest)
-
 pub mode-at-spec : {M : Type 1} → statement M
 mode-at-spec =
-    tie.close
-    (tie.spec
+    tie.close (tie.spec (λ c. search needs) (λ c. search needs) (λ c. search needs) (λ c. search needs)
     (λ c. search needs) (λ c. search needs) (λ c. search needs) (λ c. search needs) (λ c. search needs)
     (λ c. search needs) (λ c. search needs) (λ c. search needs) (λ c. search needs) (λ c. search needs)
     (λ c. search needs) (λ c. search needs) (λ c. search needs) (λ c. search needs) (λ c. search needs)
     (λ c. search needs) (λ c. search needs) (λ c. search needs) (λ c. search needs) (λ c. search needs)
-    (λ c. search needs) (λ c. search needs) (λ c. search needs) (λ c. search needs) (λ c. search needs)
-    (λ c. search needs) (λ c. search needs) other)
+    (λ c. search needs) (λ c. search needs) (λ c. search needs) (λ c. no-key modes _ _ refl (c .match .rest)))

@@ -3,16 +3,10 @@
 use mathlib.Core.Path.{refl}
 use borrow.Author.Needs.{needs}
 use Rattle.prelude.proofs.Match.{no-key}
-use Rattle.types.specs.declared.code.LengthRule.{LengthRule}
 use Rattle.codepages.specs.Packing.{rules}
 use Rattle.entries.proofs.rule_at.Statement.{statement}
 use Rattle.entries.proofs.rule_at.Tie as tie
 
-other : tie.Need-returns-3
-other c = no-key rules LengthRule.Fixed (c .before .args .n) refl (c .match .rest)
-
 pub rule-at-spec : {M : Type 1} → statement M
 rule-at-spec =
-    tie.close
-    (tie.spec
-    (λ c. search needs) (λ c. search needs) other)
+    tie.close (tie.spec (λ c. search needs) (λ c. search needs) (λ c. no-key rules _ _ refl (c .match .rest)))

@@ -5,9 +5,5 @@ use borrow.Author.Needs.{needs}
 use Rattle.entries.proofs.target_form_of.Statement.{statement}
 use Rattle.entries.proofs.target_form_of.Tie as tie
 
-returns : tie.Need-returns
-unfolding unpacked
-returns c = search needs
-
 pub target-form-of-spec : {M : Type 1} → statement M
-target-form-of-spec = tie.close (tie.spec (λ c κs. search needs) returns)
+target-form-of-spec = tie.close (tie.spec (λ c κs. search needs) (λ c. unfold unpacked in c .target-at .ensures))

@@ -3,16 +3,11 @@
 use mathlib.Core.Path.{refl}
 use borrow.Author.Needs.{needs}
 use Rattle.prelude.proofs.Match.{no-key}
-use Rattle.types.specs.declared.code.DataWidth.{DataWidth}
 use Rattle.codepages.specs.Packing.{widths}
 use Rattle.entries.proofs.width_at.Statement.{statement}
 use Rattle.entries.proofs.width_at.Tie as tie
 
-other : tie.Need-returns-5
-other c = no-key widths DataWidth.NoData (c .before .args .n) refl (c .match .rest)
-
 pub width-at-spec : {M : Type 1} → statement M
 width-at-spec =
-    tie.close
-    (tie.spec
-    (λ c. search needs) (λ c. search needs) (λ c. search needs) (λ c. search needs) other)
+    tie.close (tie.spec (λ c. search needs) (λ c. search needs) (λ c. search needs) (λ c. search needs)
+    (λ c. no-key widths _ _ refl (c .match .rest)))

@@ -5,9 +5,5 @@ use borrow.Author.Needs.{needs}
 use Rattle.entries.proofs.width_of.Statement.{statement}
 use Rattle.entries.proofs.width_of.Tie as tie
 
-returns : tie.Need-returns
-unfolding unpacked
-returns c = search needs
-
 pub width-of-spec : {M : Type 1} → statement M
-width-of-spec = tie.close (tie.spec (λ c κs. search needs) returns)
+width-of-spec = tie.close (tie.spec (λ c κs. search needs) (λ c. unfold unpacked in c .width-at .ensures))

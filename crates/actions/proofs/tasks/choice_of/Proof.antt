@@ -5,9 +5,5 @@ use borrow.Author.Needs.{needs}
 use Rattle.actions.proofs.tasks.choice_of.Statement.{statement}
 use Rattle.actions.proofs.tasks.choice_of.Tie as tie
 
-returns : tie.Need-returns
-unfolding unpackedTask
-returns c = search needs
-
 pub choice-of-spec : {M : Type 1} → statement M
-choice-of-spec = tie.close (tie.spec (λ c. search needs) returns)
+choice-of-spec = tie.close (tie.spec (λ c. search needs) (λ c. unfold unpackedTask in search needs))

@@ -12,17 +12,18 @@ use Rattle.cpu.proofs.arithmetic.compares.Tie as tie
 
 returns : tie.Need-returns
 returns c =
-    let a = c .before .before .before .before .before .before .before .before .before .args in
-    let rest = c .before .before .before .before .before .difference .result in
+    let taken = c .before .before .before .before .before in
+    let a = taken .before .before .before .before .args in
+    let rest = taken .difference .result in
     rw (c .leaves .ensures) (
       ap (leaving (a .registers .now)) (through (withResult (bits (a .short)) rest)
           (c .before .with-result .ensures) (c .before .before .with-carry .ensures))
           ∙ rw (
             c .before .before .before .before .is-past .ensures,
-            c .before .before .before .before .before .difference .ensures,
-            c .before .before .before .before .before .before .low .ensures .0,
-            c .before .before .before .before .before .before .before .wide .ensures,
-            c .before .before .before .before .before .before .before .before .wide-arg .given,
+            taken .difference .ensures,
+            taken .before .low .ensures .0,
+            taken .before .before .wide .ensures,
+            taken .before .before .before .wide-arg .given,
             c .before .before .before .with-carry-arg .given,
           ) refl,
       (omega arith, omega arith),

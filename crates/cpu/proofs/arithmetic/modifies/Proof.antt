@@ -16,9 +16,10 @@ use Rattle.cpu.proofs.arithmetic.modifies.Tie as tie
 
 returns : tie.Need-returns
 returns c =
-    let a = c .before .before .before .before .before .before .before .before .before .before .args in
+    let known = c .before .before .before .before .before .before in
+    let a = known .before .before .before .before .args in
     rw (
-      ← c .before .before .before .before .before .before .operand-place-of .ensures,
+      ← known .operand-place-of .ensures,
       c .before .before .before .before .enum-told .given .1,
     ) (
       rw (c .stores-to .ensures .0) (
@@ -31,33 +32,35 @@ returns c =
             c .before .before .before .low .ensures .0,
           ) refl)
           ∙ ap (modifying (a .registers .now) (a .to) (a .short) OperandPlace.Memory (a .given .address))
-          (c .before .before .before .before .before .before .before .modified .ensures
+          (known .before .modified .ensures
           ∙ ap (λ v. modified (a .which) (bits (a .short)) v (status (a .registers .now)))
-          (c .before .before .before .before .before .before .before .before .before .wide .ensures)),
+          (known .before .before .before .wide .ensures)),
       rw (c .stores-to .ensures .0) (omega arith, omega arith),
     )
 
 returns-2 : tie.Need-returns-2
 returns-2 c =
-    let a = c .before .before .before .before .before .before .before .args in
-    rw (← c .before .before .before .operand-place-of .ensures, c .before .enum-told2 .given .1) (
+    let known = c .before .before .before in
+    let a = known .before .before .before .before .args in
+    rw (← known .operand-place-of .ensures, c .before .enum-told2 .given .1) (
       c .loads .ensures .0
           ∙ ap (modifying (a .registers .now) (a .to) (a .short) OperandPlace.Instruction (a .given .address))
-          (c .before .before .before .before .modified .ensures
+          (known .before .modified .ensures
           ∙ ap (λ v. modified (a .which) (bits (a .short)) v (status (a .registers .now)))
-          (c .before .before .before .before .before .before .wide .ensures)),
+          (known .before .before .before .wide .ensures)),
       c .loads .ensures .1,
     )
 
 returns-3 : tie.Need-returns-3
 returns-3 c =
-    let a = c .before .before .before .before .before .before .before .args in
-    rw (← c .before .before .before .operand-place-of .ensures, c .before .enum-told3 .given .1) (
+    let known = c .before .before .before in
+    let a = known .before .before .before .before .args in
+    rw (← known .operand-place-of .ensures, c .before .enum-told3 .given .1) (
       c .loads2 .ensures .0
           ∙ ap (modifying (a .registers .now) (a .to) (a .short) OperandPlace.Register (a .given .address))
-          (c .before .before .before .before .modified .ensures
+          (known .before .modified .ensures
           ∙ ap (λ v. modified (a .which) (bits (a .short)) v (status (a .registers .now)))
-          (c .before .before .before .before .before .before .wide .ensures)),
+          (known .before .before .before .wide .ensures)),
       c .loads2 .ensures .1,
     )
 

@@ -8,17 +8,19 @@ use Rattle.cpu.proofs.arithmetic.swaps.Tie as tie
 
 returns : tie.Need-returns
 returns c =
+    let flags = c .before .before .before .before .before in
+    let other = flags .before .before in
     rw (
       c .puts-both .ensures,
       c .before .merged2 .ensures,
       c .before .before .wide3 .ensures,
       c .before .before .before .merged .ensures,
       c .before .before .before .before .wide2 .ensures,
-      c .before .before .before .before .before .with-result .ensures,
-      c .before .before .before .before .before .before .before .wide .ensures,
-      c .before .before .before .before .before .before .with-result-arg .given,
-      c .before .before .before .before .before .before .before .before .b .given,
-      c .before .before .before .before .before .before .before .before .before .a .given,
+      flags .with-result .ensures,
+      other .wide .ensures,
+      flags .before .with-result-arg .given,
+      other .before .b .given,
+      other .before .before .a .given,
     ) (refl, (omega arith, omega arith))
 
 pub swaps-spec : {M : Type 1} → statement M

@@ -4,8 +4,5 @@ use Rattle.cpu.proofs.Masks.{flags-set}
 use Rattle.cpu.proofs.flags.with_flags_set.Statement.{statement}
 use Rattle.cpu.proofs.flags.with_flags_set.Tie as tie
 
-returns : tie.Need-returns
-returns c = flags-set (c .args .mask) (c .args .status)
-
 pub with-flags-set-spec : {M : Type 1} → statement M
-with-flags-set-spec = tie.close (tie.spec returns)
+with-flags-set-spec = tie.close (tie.spec (λ c. flags-set (c .args .mask) (c .args .status)))

@@ -5,12 +5,8 @@ use Rattle.cpu.proofs.Numbers.{overflow-changed}
 use Rattle.cpu.proofs.flags.with_overflow.Statement.{statement}
 use Rattle.cpu.proofs.flags.with_overflow.Tie as tie
 
-returns : tie.Need-returns
-returns c = rw (c .bit-of .ensures .0) (overflow-changed (c .before .args .flag) (c .before .args .status))
-
 pub with-overflow-spec : {M : Type 1} → statement M
 with-overflow-spec =
-    tie.close
-    (tie.spec
-    (λ c. search needs) (λ c. search needs) (λ c κs. search needs) (λ c. search needs) (λ c. search needs)
-    (λ c. search needs) returns)
+    tie.close (tie.spec (λ c. search needs) (λ c. search needs) (λ c κs. search needs) (λ c. search needs)
+    (λ c. search needs) (λ c. search needs)
+    (λ c. rw (c .bit-of .ensures .0) (overflow-changed (c .before .args .flag) (c .before .args .status))))

@@ -9,10 +9,8 @@ returns-2 c = rw (c .before .before .before .before .before .stores .given .1) (
 
 returns-3 : tie.Need-returns-3
 returns-3 c =
-    rw (
-      c .before .before .before .before .before .before .before .before .before .stores2 .given .1,
-      ← c .before .before .before .before .before .before .put2 .ensures,
-    ) (c .before .before .put3 .ensures)
+    let first = c .before .before .before .before .before .before in
+    rw (first .before .before .before .stores2 .given .1, ← first .put2 .ensures) (c .before .before .put3 .ensures)
 
 returns-4 : tie.Need-returns-4
 returns-4 c =
