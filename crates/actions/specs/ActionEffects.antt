@@ -18,7 +18,8 @@ use Rattle.model.specs.Effects.{Effect, pushes, behindAddress}
 use Rattle.types.specs.Addresses.{bankSize}
 use Rattle.types.specs.Status.{numberOf, isSet}
 use Rattle.cpu.specs.File.{registersOf}
-use Rattle.cpu.specs.FileEffects.{status, putting, leaving, loading, combining, comparing, rotating, modified, modifying}
+use Rattle.cpu.specs.FileEffects.{status, putting, leaving, loading, combining, comparing, rotating, modified}
+use Rattle.cpu.specs.FileEffects.{modifying}
 use Rattle.cpu.specs.FileEffects.{pulling, swapping, storing, branching}
 use Rattle.actions.specs.declared.tasks.Action.{Action}
 use Rattle.actions.specs.Tasks.{Task}

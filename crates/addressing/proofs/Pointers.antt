@@ -96,7 +96,8 @@ module _ (m : Memory) (act : Act ℕ) (short : Bool) (a : AddressRead) (e : a �
   there-nowhere : a ≡ AddressRead.Unmapped → DataRead.Unmapped ≡ dataRead (evaluate m (act >>= then))
   there-nowhere e′ = ap dataRead (sym (after-unmapped m act then (address-unmapped (evaluate m act) a e e′)))
 
-  module _ (at : ℕ) (e′ : a ≡ AddressRead.At at) (w : WordRead) (read : w ≡ wordRead (evaluate m (readData short at))) where
+  module _ (at : ℕ) (e′ : a ≡ AddressRead.At at) (w : WordRead)
+      (read : w ≡ wordRead (evaluate m (readData short at))) where
     reached : evaluate m (act >>= then) ≡ evaluate m (then at)
     reached = after-done m act then at (address-done (evaluate m act) a at e e′)
 

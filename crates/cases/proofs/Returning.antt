@@ -73,7 +73,8 @@ module _ (m : Memory) (s : State) where
     repeated : (n : ℕ) → history m s n ≡ replicate n still
     unfolding history
     repeated zero = refl
-    repeated (suc n) = goes-by m s n (stepped StepAnswer.Completed s (m .ram)) same refl (replicate n still) (repeated n)
+    repeated (suc n) =
+        goes-by m s n (stepped StepAnswer.Completed s (m .ram)) same refl (replicate n still) (repeated n)
 
     -- a run that is not refused
     run-back : (n : ℕ) → admission m s n ≡ TestResult.Passed

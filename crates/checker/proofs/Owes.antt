@@ -76,7 +76,8 @@ after-start effect operand mark =
     (returnX mark)
 
 module _ (marks : List ℕ) (base : ℕ) where
-  one-start : (w : Requirement) → isStart (w .mark) ≡ true → hasMarkAt marks base w ≡ true → isStartAt marks base w ≡ true
+  one-start : (w : Requirement) → isStart (w .mark) ≡ true → hasMarkAt marks base w ≡ true
+      → isStartAt marks base w ≡ true
   unfolding hasMarkAt isStartAt
   one-start w odd h = rw (eqb-true (markAt marks base (w .address)) (w .mark) h) odd
 

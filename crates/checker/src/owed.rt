@@ -140,10 +140,12 @@ pub(crate) fn owed_at(
     mark: u8,
 ) -> Requirements
     requires { ⌜
-        Fitting (length (now image) - at) layout × (base + length (now marks) ≤ addressLimit) × (at < length (now marks))
+        Fitting (length (now image) - at) layout × (base + length (now marks) ≤ addressLimit)
+        × (at < length (now marks))
         ⌝ }
     ensures { λ r. ⌜
-        r ≡ rules.owedAt (now (marks .entry)) base (instructionOf (drop at (now (image .entry))) layout) (base + at) mark
+        r
+        ≡ rules.owedAt (now (marks .entry)) base (instructionOf (drop at (now (image .entry))) layout) (base + at) mark
         ⌝ }
 {
     let address = base + at as u32;

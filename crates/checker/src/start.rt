@@ -184,7 +184,8 @@ fn test_owed(marks: &[u8], base: u32, owed: Requirements) -> TestResult
 // The rules of the instruction of a layout at a place: 7, 10, 8, 9. What owes something is no return, and passes 10.
 fn test_whole(image: &[u8], marks: &[u8], base: u32, at: usize, layout: Layout) -> TestResult
     requires { ⌜
-        Fitting (length (now image) - at) layout × (base + length (now marks) ≤ addressLimit) × (at < length (now marks))
+        Fitting (length (now image) - at) layout × (base + length (now marks) ≤ addressLimit)
+        × (at < length (now marks))
         ⌝ }
     ensures { λ r. ⌜
         r ≡ firstRefusal (verdict.wholeTests (now (marks .entry)) base

@@ -24,12 +24,14 @@ use Rattle.codepages.proofs.Unpacked.{unpacked-at}
 use Rattle.decoder.specs.declared.Layout.{Layout}
 use Rattle.decoder.specs.declared.LayoutRead.{LayoutRead}
 use Rattle.decoder.specs.declared.CodeRead.{CodeRead}
-use Rattle.decoder.specs.Layout.{fitted, framedOn, layoutRead, codeOn, codeRead, layoutBy, instructionOf, decodedOf}
+use Rattle.decoder.specs.Layout.{fitted, layoutOn, layoutRead, codeOn, codeRead, layoutBy, instructionOf}
+use Rattle.decoder.specs.Layout.{decodedOf}
 use Rattle.decoder.specs.Layout.{Fitting, FittingIn}
 
 chosen : (bytes : List ℕ) (f : Layout) (a b c : Bool)
     → pick a (pick b (pick c (Decoded.Whole (instructionOf bytes f)) Decoded.CutOff) Decoded.NotCarried) Decoded.CutOff
-    ≡ decodedOf bytes (pick a (pick b (pick c (LayoutRead.Fits f) LayoutRead.Short) LayoutRead.Uncarried) LayoutRead.Short)
+    ≡ decodedOf bytes
+    (pick a (pick b (pick c (LayoutRead.Fits f) LayoutRead.Short) LayoutRead.Uncarried) LayoutRead.Short)
 chosen bytes f true true true = refl
 chosen bytes f true true false = refl
 chosen bytes f true false c = refl
@@ -48,14 +50,14 @@ module _ (page : ℕ) (bytes : List ℕ) (m x : ℕ) where
   abbrev the-frame : Layout
   the-frame = record { number = at-code; prefix = prefix; length = long }
 
-  decoded-on : decodeOn page bytes m x ≡ decodedOf bytes (framedOn page bytes m x)
-  unfolding decodeOn judged framedOn fitted
+  decoded-on : decodeOn page bytes m x ≡ decodedOf bytes (layoutOn page bytes m x)
+  unfolding decodeOn judged layoutOn fitted
   decoded-on =
       rw (← unpacked-at page (getD bytes prefix 0))
       (chosen bytes the-frame (ltb prefix (length bytes)) (unpacked at-code .carried) (leb long (length bytes)))
 
-  fitting-on : FittingIn (length bytes) (framedOn page bytes m x)
-  unfolding framedOn fitted
+  fitting-on : FittingIn (length bytes) (layoutOn page bytes m x)
+  unfolding layoutOn fitted
   fitting-on =
       by (ltb prefix (length bytes)) (unpacked at-code .carried) (leb long (length bytes)) refl refl
     where
@@ -81,12 +83,13 @@ unfolding layoutRead
 fitting bytes m x = fitting-on (pageOf (getD bytes 0 0)) bytes m x
 
 layout-nothing : (bytes : List ℕ) (m x : ℕ) → length bytes ≡ 0 → LayoutRead.Short ≡ layoutRead bytes m x
-unfolding layoutRead framedOn
+unfolding layoutRead layoutOn
 layout-nothing [] m x h = refl
 layout-nothing (b ∷ bs) m x h = absurd (omega arith)
 
 -- what a layout at a place of an image says of it
-module _ (image : List ℕ) (at m x : ℕ) (layout-here : LayoutRead) (is-layout : layout-here ≡ layoutRead (drop at image) m x)
+module _ (image : List ℕ) (at m x : ℕ) (layout-here : LayoutRead)
+    (is-layout : layout-here ≡ layoutRead (drop at image) m x)
   where
     pub fits-in : FittingIn (length image - at) layout-here
     fits-in = rw (is-layout, ← length-drop at image) (fitting (drop at image) m x)
@@ -94,7 +97,8 @@ module _ (image : List ℕ) (at m x : ℕ) (layout-here : LayoutRead) (is-layout
     pub fits-at : (f : Layout) → layout-here ≡ LayoutRead.Fits f → Fitting (length image - at) f
     fits-at f e = rw e at fits-in
 
-    pub decoded-fits : (f : Layout) (i : Instruction) → layout-here ≡ LayoutRead.Fits f → i ≡ instructionOf (drop at image) f
+    pub decoded-fits : (f : Layout) (i : Instruction) → layout-here ≡ LayoutRead.Fits f
+        → i ≡ instructionOf (drop at image) f
         → Decoded.Whole i ≡ decode (drop at image) m x
     decoded-fits f i e same = rw (decoded-layout (drop at image) m x, ← is-layout, e, same)
 
@@ -113,7 +117,7 @@ layout-by left n prefix m x true false = refl
 layout-by left n prefix m x false b = refl
 
 layout-coded : (bytes : List ℕ) (m x : ℕ) → layoutRead bytes m x ≡ layoutBy (length bytes) (codeRead bytes) m x
-unfolding layoutRead framedOn fitted codeRead codeOn
+unfolding layoutRead layoutOn fitted codeRead codeOn
 layout-coded bytes m x =
     let page = pageOf (getD bytes 0 0) in
     let n = packedAt packedPages page (getD bytes (prefixBytes page) 0) in

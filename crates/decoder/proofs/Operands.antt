@@ -1,5 +1,5 @@
--- An operand is the low bytes of six where these are there to be read, so that it needs no loop, and a part of the image
--- near its end.
+-- An operand is the low bytes of six where these are there to be read, so that it needs no loop, and a part of the
+-- image near its end.
 -- Assumes nothing.
 use mathlib.Core.Path.{_≡_, _∙_}
 use mathlib.Core.List.{List}

@@ -23,8 +23,8 @@ fitted left prefix n long =
     LayoutRead.Uncarried
 
 -- what the bytes begin with, its code behind the prefix bytes of a page
-unfoldable pub framedOn : ℕ → List ℕ → ℕ → ℕ → LayoutRead
-framedOn page bytes m x =
+unfoldable pub layoutOn : ℕ → List ℕ → ℕ → ℕ → LayoutRead
+layoutOn page bytes m x =
     pick (ltb (prefixBytes page) (length bytes))
     (fitted (length bytes) (prefixBytes page) (packedAt packedPages page (getD bytes (prefixBytes page) 0))
     (lengthAt (unpacked (packedAt packedPages page (getD bytes (prefixBytes page) 0))) m x))
@@ -32,7 +32,7 @@ framedOn page bytes m x =
 
 -- what the bytes begin with, at the widths m and x
 unfoldable pub layoutRead : List ℕ → ℕ → ℕ → LayoutRead
-layoutRead bytes m x = framedOn (pageOf (getD bytes 0 0)) bytes m x
+layoutRead bytes m x = layoutOn (pageOf (getD bytes 0 0)) bytes m x
 
 -- the code that the bytes begin with, behind the prefix bytes of a page, before the widths enter
 unfoldable pub codeOn : ℕ → List ℕ → CodeRead

@@ -167,8 +167,8 @@ pub fn layout_at(codes: &CodePages, image: &[u8], at: usize, m: u8, x: u8) -> La
     }
 }
 
-// The operand of a layout at a place of an image: the bytes behind the code as one number. Asks that the layout fits, as
-// one that is read there does, so that no byte is tested.
+// The operand of a layout at a place of an image: the bytes behind the code as one number. Asks that the layout fits,
+// as one that is read there does, so that no byte is tested.
 pub fn operand_at(image: &[u8], at: usize, layout: Layout) -> u64
     requires { ⌜ Fitting (length (now image) - at) layout ⌝ }
     ensures { λ r. ⌜

@@ -27,7 +27,8 @@ use Rattle.model.specs.Grounds.{AnswersBy, WrongBytes, runGrounds, readGrounds,
 use Rattle.model.specs.MarkList.{marksBy, marksRead, pageBy, pageWritten}
 use Rattle.model.specs.Memory.{memory}
 use Rattle.model.specs.Step.{stopNumber, step}
-use Rattle.model.specs.Run.{Event, withRam, history, endOf, endNumber, completedSteps, callsAmong, executed, ran, oneStep}
+use Rattle.model.specs.Run.{Event, withRam, history, endOf, endNumber, completedSteps, callsAmong, executed, ran}
+use Rattle.model.specs.Run.{oneStep}
 use Rattle.model.specs.Run.{admission, admittedHistory, runHistory, Run, runsFrom}
 use Rattle.model.specs.StateBytes.{stateSize, stateOf, stateBytes}
 use Rattle.model.specs.RunBytes.{asBytes}

@@ -4,7 +4,8 @@ use mathlib.Core.Path.{_≡_, refl, sym, ap, _∙_}
 use mathlib.Core.List.{List, [], _∷_}
 use Prim.Native.Nat.{ℕ, zero, suc, _+_, _*_, _/_, _%_, _^_, _≤_, _<_}
 use native.Mathlib.Nat.{add-mul-mod-self-left, div-add-mod, div-lt-iff-lt-mul, le-of-suc-le-suc, mod-eq-of-lt, mod-lt}
-use native.Mathlib.Nat.{mod-one, mul-assoc, mul-comm, mul-suc, mul-zero, one-le-pow, pow-le-pow-right, pow-suc, pow-zero}
+use native.Mathlib.Nat.{mod-one, mul-assoc, mul-comm, mul-suc, mul-zero, one-le-pow, pow-le-pow-right, pow-suc}
+use native.Mathlib.Nat.{pow-zero}
 use native.Mathlib.Nat.{zero-mod}
 use native.Mathlib.Omega.{arith}
 use lib.ListN.{length, getD, take, drop, length-append, length-drop, length-take}

@@ -52,6 +52,7 @@ pub fn field_at(bytes: &[u8], at: usize, size: usize) -> u64
     number(&bytes[at..])
 }
 
+// Two bytes from a place on. Asks for both, as `six_bytes` does.
 fn pair(bytes: &[u8], at: usize) -> u64
     requires { ⌜ at + 2 ≤ length (now bytes) ⌝ }
     ensures { λ r. ⌜ (r ≡ spec.fieldAt at 2 (now (bytes .entry))) × (r < 65_536) ⌝ }

@@ -219,7 +219,8 @@ module _ (i : Fetched) (m : Memory) (place depth : ℕ) (file calls : List ℕ) 
     stops-none-open t e h =
         stops-so i m place depth file calls Stop.Astray plan t e (none-open core (instruction i) opened kind address h)
 
-    pub stops-other-kind : (n : ℕ) (t : StepResult) → n ≡ kindNumber kind → t ≡ stepResult (StepAnswer.Stopped Stop.Astray) place depth
+    pub stops-other-kind : (n : ℕ) (t : StepResult) → n ≡ kindNumber kind
+        → t ≡ stepResult (StepAnswer.Stopped Stop.Astray) place depth
         → (kindOf opened ≡ n → ⊥) → left t file calls (m .ram) ≡ finished plan i m place depth file calls
     stops-other-kind n t is-kind e h =
         stops-so i m place depth file calls Stop.Astray plan t e
@@ -246,7 +247,8 @@ module _ (i : Fetched) (m : Memory) (place depth : ℕ) (file calls : List ℕ) 
   module _ (opened s : ℕ) (kind : Kind) (w : LongRead) (is-s : s ≡ here .s)
       (read : (depth : ℕ) (file : List ℕ) (i : Fetched) → s ≡ registersOf file .s
       → w ≡ longRead (evaluate m (spec.pullsReturn (coreAt place depth file) (instruction i) kind))) where
-    pub stops-pulling : (t : StepResult) → t ≡ stepResult (StepAnswer.Stopped Stop.Unmapped) place depth → w ≡ LongRead.Unmapped
+    pub stops-pulling : (t : StepResult) → t ≡ stepResult (StepAnswer.Stopped Stop.Unmapped) place depth
+        → w ≡ LongRead.Unmapped
         → left t file calls (m .ram)
         ≡ finished (planBy core (instruction i) m opened (Flow.Return kind)) i m place depth file calls
     stops-pulling t e e′ =

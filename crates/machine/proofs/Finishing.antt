@@ -30,7 +30,8 @@ core-kept place depth file =
 
 module _ (i : Fetched) (m : Memory) (place depth : ℕ) (file calls : List ℕ) where
   -- a plan that stops leaves all as it was
-  pub stops-so : (stop : Stop) (p : Plan) (t : StepResult) → t ≡ stepResult (StepAnswer.Stopped stop) place depth → stops stop ≡ p
+  pub stops-so : (stop : Stop) (p : Plan) (t : StepResult) → t ≡ stepResult (StepAnswer.Stopped stop) place depth
+      → stops stop ≡ p
       → left t file calls (m .ram) ≡ finished p i m place depth file calls
   stops-so stop p t e e′ = rw (e, ← e′) refl
 

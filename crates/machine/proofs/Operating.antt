@@ -83,8 +83,8 @@ module _ (i : Fetched) (m : Memory) (place depth : ℕ) (file : List ℕ) where
     pub stops-decimal : decimal ≡ true → (t : StepResult) → t ≡ stepResult (StepAnswer.Stopped Stop.Decimal) place depth
         → (calls : List ℕ)
         → left t file calls (m .ram) ≡ finished (operates c (instruction i) m goes) i m place depth file calls
-    stops-decimal h t is-turn calls =
-        stops-so i m place depth file calls Stop.Decimal (operates c (instruction i) m goes) t is-turn
+    stops-decimal h t is-result calls =
+        stops-so i m place depth file calls Stop.Decimal (operates c (instruction i) m goes) t is-result
         (sym (decimal-first m c (instruction i) goes (is-tested ∙ h)))
 
     module _ (h : decimal ≡ false) (width : DataWidth) (is-width : width ≡ entry .width)
@@ -108,11 +108,12 @@ module _ (i : Fetched) (m : Memory) (place depth : ℕ) (file : List ℕ) where
       unfolding operates
       unmapped-plan e = rw (is-tested, h, data-unmapped asked w again e) refl
 
-      pub stops-unmapped : w ≡ DataRead.Unmapped → (t : StepResult) → t ≡ stepResult (StepAnswer.Stopped Stop.Unmapped) place depth
+      pub stops-unmapped : w ≡ DataRead.Unmapped → (t : StepResult)
+          → t ≡ stepResult (StepAnswer.Stopped Stop.Unmapped) place depth
           → (calls : List ℕ)
           → left t file calls (m .ram) ≡ finished (operates c (instruction i) m goes) i m place depth file calls
-      stops-unmapped e t is-turn calls =
-          stops-so i m place depth file calls Stop.Unmapped (operates c (instruction i) m goes) t is-turn
+      stops-unmapped e t is-result calls =
+          stops-so i m place depth file calls Stop.Unmapped (operates c (instruction i) m goes) t is-result
           (unmapped-plan e)
 
       module _ (given : Data) (found : w ≡ DataRead.Found given) (inside : place < addressLimit)

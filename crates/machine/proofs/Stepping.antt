@@ -127,10 +127,12 @@ module _ (m : Memory) (place depth : ℕ) (file opens : List ℕ) (found : Fetch
         → after ≡ step m (state (coreAt place depth file) opens)
     step-whole i e e′ = by-fetch (rw e e′)
 
-    pub step-uncarried : (t : StepResult) → found ≡ Fetch.NotCarried → t ≡ stepResult (StepAnswer.Stopped Stop.Uncarried) place depth
+    pub step-uncarried : (t : StepResult) → found ≡ Fetch.NotCarried
+        → t ≡ stepResult (StepAnswer.Stopped Stop.Uncarried) place depth
         → after ≡ left t file opens (m .ram) → after ≡ step m (state (coreAt place depth file) opens)
     step-uncarried t e e′ e″ = by-fetch (rw (e, e″, e′, core-kept place depth file) refl)
 
-    pub step-outside : (t : StepResult) → found ≡ Fetch.CutOff → t ≡ stepResult (StepAnswer.Stopped Stop.Outside) place depth
+    pub step-outside : (t : StepResult) → found ≡ Fetch.CutOff
+        → t ≡ stepResult (StepAnswer.Stopped Stop.Outside) place depth
         → after ≡ left t file opens (m .ram) → after ≡ step m (state (coreAt place depth file) opens)
     step-outside t e e′ e″ = by-fetch (rw (e, e″, e′, core-kept place depth file) refl)

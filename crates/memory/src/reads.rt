@@ -38,7 +38,8 @@ fn byte_at(ram: &[u8], image: &[u8], base: u32, address: u64) -> ByteRead
 
 // The word whose bytes lie at two addresses.
 pub fn word_from(ram: &[u8], image: &[u8], base: u32, at: u64, then: u64) -> WordRead
-    ensures { λ r. ⌜ r ≡ wordRead (evaluate (memory (now (ram .entry)) (now (image .entry)) base) (wordFrom at then)) ⌝ }
+    ensures { λ r. ⌜ r ≡ wordRead (evaluate (memory (now (ram .entry)) (now (image .entry)) base) (wordFrom at then))
+        ⌝ }
 {
     let first = byte_at(ram, image, base, at);
     let ByteRead::Byte(low) = first else {

@@ -121,7 +121,8 @@ isBehind OperandPlace.Instruction = true
 isBehind OperandPlace.Register = false
 
 abbrev behindCode : ℕ → Entry → Bool
-behindCode prefix e = not (isIn (Operation.SEP ∷ Operation.CLP ∷ []) (e .operation)) || isBehind (operandPlaceOf (e .mode))
+behindCode prefix e =
+    not (isIn (Operation.SEP ∷ Operation.CLP ∷ []) (e .operation)) || isBehind (operandPlaceOf (e .mode))
 
 all-behind : T (every (page-test behindCode) 0 pages)
 unfolding pages plain behind42 behind89

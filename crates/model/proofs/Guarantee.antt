@@ -389,7 +389,8 @@ module _ (marks : List ℕ) (base : ℕ) (s : State) (i : Instruction) (st : Sta
       }
 
   calls-good : (kind : Kind) → i .entry .effect ≡ WidthEffect.KeepWidths
-      → Met marks base (requirement (target (s .core) i) (markOfRoutine kind mark (markAt marks base (target (s .core) i))))
+      → Met marks base
+      (requirement (target (s .core) i) (markOfRoutine kind mark (markAt marks base (target (s .core) i))))
       → Met marks base (requirement (next (s .core) i) (markOnReturn mark (markAt marks base (target (s .core) i))))
       → Good marks base s i (calls (s .core) i kind)
   unfolding calls
@@ -426,7 +427,8 @@ module _ (marks : List ℕ) (base : ℕ) (s : State) (i : Instruction) (st : Sta
       }
 
   returns-good : (m : Memory) (kind : Kind) → i .entry .effect ≡ WidthEffect.KeepWidths → returnsBy kind mark ≡ true
-      → Good marks base s i (onRead (evaluate m (pullsReturn (s .core) i kind)) (returnsTo (s .core) i (lastOpened s) kind))
+      → Good marks base s i
+      (onRead (evaluate m (pullsReturn (s .core) i kind)) (returnsTo (s .core) i (lastOpened s) kind))
   unfolding returnsTo
   returns-good m kind keeps rule = by (evaluate m (pullsReturn (s .core) i kind))
     where

@@ -31,7 +31,8 @@ use Rattle.model.specs.Memory.{Memory, Act, Outcome, done, unmapped, eva
 use Rattle.model.specs.Addressing.{pulledAt, dataOf}
 use Rattle.model.specs.Arithmetic.{withS}
 use Rattle.model.specs.Effects.{pushedAt, bytes}
-use Rattle.model.specs.Step.{callLimit, callRecord, fetched, Change, change, Plan, stops, changes, onRead, isDecimal}
+use Rattle.model.specs.Step.{callLimit, callRecord, fetched, Change, change, Plan, stops, changes, onRead}
+use Rattle.model.specs.Step.{isDecimal}
 use Rattle.model.specs.Step.{next, target, short, access, works, operates, pushesReturn, returnBytes, calls}
 use Rattle.model.specs.Step.{pullsReturn, isReturn, returnsTo, planBy, lastOpened, plan, depthAfter, callsAfter}
 use Rattle.model.specs.Step.{stateAfter, onServed, finish, onDecoded, step}

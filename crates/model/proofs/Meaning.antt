@@ -45,7 +45,8 @@ below-end j n h ne = ⊎-elim (λ (e : j ≡ n). absurd (ne e)) (λ (below : j <
 abbrev Failing : (Requirement → Type 0) → Requirements → Type 0
 Failing bad o = (w : Requirement) × Among w o × bad w
 
-one-of-two : (test : Requirement → Bool) (v w : Requirement) → test v && test w ≡ false → Failing (λ u. test u ≡ false) (Requirements.Two v w)
+one-of-two : (test : Requirement → Bool) (v w : Requirement) → test v && test w ≡ false
+    → Failing (λ u. test u ≡ false) (Requirements.Two v w)
 one-of-two test v w h = by (test v) refl h
   where
     by : (b : Bool) → test v ≡ b → b && test w ≡ false → Failing (λ u. test u ≡ false) (Requirements.Two v w)
@@ -53,14 +54,16 @@ one-of-two test v w h = by (test v) refl h
     by false e h′ = (v, inl refl, e)
 
 module _ (marks : List ℕ) (base : ℕ) where
-  no-start : (o : Requirements) → allStarts marks base o ≡ false → Failing (λ w. isStart (markAt marks base (w .address)) ≡
+  no-start : (o : Requirements) → allStarts marks base o ≡ false
+      → Failing (λ w. isStart (markAt marks base (w .address)) ≡
       false) o
   unfolding allStarts isStartAt
   no-start Requirements.Nothing h = let z : _≡_ {A = ℕ} 0 1 = cc in absurd (omega arith)
   no-start (Requirements.One w) h = (w, refl, h)
   no-start (Requirements.Two v w) h = one-of-two (isStartAt marks base) v w h
 
-  other-mark : (o : Requirements) → allMarks marks base o ≡ false → Failing (λ w. markAt marks base (w .address) ≡ w .mark →
+  other-mark : (o : Requirements) → allMarks marks base o ≡ false
+      → Failing (λ w. markAt marks base (w .address) ≡ w .mark →
       ⊥) o
   unfolding allMarks hasMarkAt
   other-mark Requirements.Nothing h = let z : _≡_ {A = ℕ} 0 1 = cc in absurd (omega arith)
@@ -74,8 +77,10 @@ module _ (marks : List ℕ) (base : ℕ) where
   unfolding allStarts isStartAt
   every-start Requirements.Nothing h w a = absurd a
   every-start (Requirements.One v) h w a = rw a h
-  every-start (Requirements.Two u v) h w (inl e) = rw e (both-true (isStartAt marks base u) (isStartAt marks base v) h .0)
-  every-start (Requirements.Two u v) h w (inr e) = rw e (both-true (isStartAt marks base u) (isStartAt marks base v) h .1)
+  every-start (Requirements.Two u v) h w (inl e) =
+      rw e (both-true (isStartAt marks base u) (isStartAt marks base v) h .0)
+  every-start (Requirements.Two u v) h w (inr e) =
+      rw e (both-true (isStartAt marks base u) (isStartAt marks base v) h .1)
 
 -- ---- 7
 

@@ -87,7 +87,8 @@ pub evaluate-bind : {A B : Type 0} (m : Memory) (a : Act A) (f : A → Act B)
 evaluate-bind m (ret v) f = refl
 evaluate-bind {A} {B} m (load at more) f = by (byteAt m at) (λ byte. evaluate-bind m (more byte) f)
   where
-    by : (b : ByteRead) → ((byte : ℕ) → evaluate m (more byte >>= f) ≡ onDone (evaluate m (more byte)) (λ v. evaluate m (f v)))
+    by : (b : ByteRead)
+        → ((byte : ℕ) → evaluate m (more byte >>= f) ≡ onDone (evaluate m (more byte)) (λ v. evaluate m (f v)))
         → onByte b (λ byte. evaluate m (more byte >>= f))
         ≡ onDone (onByte b (λ byte. evaluate m (more byte))) (λ v. evaluate m (f v))
     by (ByteRead.Byte byte) step = step byte

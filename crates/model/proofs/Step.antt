@@ -178,7 +178,8 @@ opens-below c i m opened = by
 
     asked : Outcome Data
     asked =
-        evaluate m (dataOf (access c i) (i .entry .mode) (i .entry .accumulator) (c .registers) (short c i) (i .operand))
+        evaluate m (dataOf (access c i) (i .entry .mode) (i .entry .accumulator) (c .registers) (short c i)
+        (i .operand))
 
     works-so : (b : Bool) (o : Outcome Data) (goes : Bool → ℕ)
         → PlanOpens (pick b (stops Stop.Decimal) (onRead o (works c i goes))) (c .depth)

@@ -58,7 +58,8 @@ all-clear marks at n h =
 
 -- ---- 8 and 9: the wants
 
-met-tests : (marks : List ℕ) (base : ℕ) (w : Requirement) → isStartAt marks base w ≡ true → hasMarkAt marks base w ≡ true
+met-tests : (marks : List ℕ) (base : ℕ) (w : Requirement) → isStartAt marks base w ≡ true
+    → hasMarkAt marks base w ≡ true
     → Met marks base w
 unfolding isStartAt hasMarkAt
 met-tests marks base w s m = record {
@@ -74,7 +75,8 @@ met-mark : (marks : List ℕ) (base : ℕ) (w : Requirement) → Met marks base 
 unfolding hasMarkAt
 met-mark marks base w m = eq-eqb (markAt marks base (w .address)) (w .mark) (m .has-mark)
 
-all-met : (marks : List ℕ) (base : ℕ) (o : Requirements) → allStarts marks base o ≡ true → allMarks marks base o ≡ true →
+all-met : (marks : List ℕ) (base : ℕ) (o : Requirements) → allStarts marks base o ≡ true
+    → allMarks marks base o ≡ true →
     AllMet marks base o
 unfolding allStarts allMarks
 all-met marks base Requirements.Nothing s m = tt

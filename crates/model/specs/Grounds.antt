@@ -131,7 +131,8 @@ runGrounds m Wrong asked =
 abbrev pub RunAnswers : Type 0
 RunAnswers =
     (m : Memory) (s : State) (asked : ℕ)
-    → AnswersBy (runGrounds m (WrongState s) asked) RunAnswer.NotRun (executed m s asked .answer) (ran m s asked .answer)
+    → AnswersBy (runGrounds m (WrongState s) asked) RunAnswer.NotRun (executed m s asked .answer)
+    (ran m s asked .answer)
 
 -- the same of a state that is given as bytes
 abbrev pub RunBytesAnswers : Type 0

@@ -93,7 +93,8 @@ pub record RefusedRun (m : Memory) (s : State) (asked : ℕ) (why : Refusal) : T
 -- every run is one or the other
 pub data RunOutcome (m : Memory) (s : State) (asked : ℕ) : Type 0 where
   admitted : admission m s asked ≡ TestResult.Passed → AdmittedRun m s asked → RunOutcome m s asked
-  refused : (why : Refusal) → admission m s asked ≡ TestResult.Failed why → RefusedRun m s asked why → RunOutcome m s asked
+  refused : (why : Refusal) → admission m s asked ≡ TestResult.Failed why → RefusedRun m s asked why
+      → RunOutcome m s asked
 
 -- ---- the claim
 

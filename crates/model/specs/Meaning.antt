@@ -29,7 +29,8 @@ module _ (image marks : List ℕ) (base at : ℕ) where
 
   -- every want's address is a marked start
   abbrev pub AllStarts : Instruction → Type 0
-  AllStarts i = (w : Requirement) → Among w (owedThere marks base at i) → isStart (markAt marks base (w .address)) ≡ true
+  AllStarts i = (w : Requirement) → Among w (owedThere marks base at i)
+      → isStart (markAt marks base (w .address)) ≡ true
 
   -- the refusal at a start
   pub data StartBreaks : Refusal → Type 0 where

@@ -123,7 +123,7 @@ callFits entry =
 abbrev pub callBroken : List ℕ → ℕ → Bool
 callBroken calls k = not (callFits (getD calls k 0))
 
--- 'among them': among the first so many entries
+-- 'among them': among the first so many records
 unfoldable pub callsFit : List ℕ → ℕ → Bool
 callsFit calls depth = eqb (firstFrom (callBroken calls) 0 depth) depth
 

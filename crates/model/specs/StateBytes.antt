@@ -1,6 +1,6 @@
--- The state as bytes, as include/m7700.h has them: A, B, X, Y, S, PC, DPR, PS (two bytes each, low first), PG, DT (a byte
--- each), the number of open calls (two bytes, low first), then the entries, the first opened first: return address
--- (four bytes, low first), kind (one byte), three bytes reserved. An entry is one number (Step, `entryOf`).
+-- The state as bytes, as include/m7700.h has them: A, B, X, Y, S, PC, DPR, PS (two bytes each, low first), PG, DT (a
+-- byte each), the number of open calls (two bytes, low first), then the call records, the first opened first: return
+-- address (four bytes, low first), kind (one byte), three bytes reserved. A record is one number (Step, `callRecord`).
 -- Assumes nothing.
 use Prim.Native.Nat.{ℕ, _+_, _*_, _^_, _<_}
 use mathlib.Core.Path.{_≡_}
@@ -13,7 +13,7 @@ use Rattle.fields.specs.Fields.{fieldAt, joined, parted}
 use Rattle.types.specs.Status.{statusOf, numberOf}
 use Rattle.model.specs.Step.{callLimit}
 
--- the bytes before the entries, those of an entry, and all of them
+-- the bytes before the call records, those of a record, and all of them
 abbrev pub headSize : ℕ
 headSize = 20
 
@@ -23,7 +23,7 @@ recordSize = 8
 abbrev pub stateSize : ℕ
 stateSize = headSize + recordSize * callLimit
 
--- all but the entries, each field at its place
+-- all but the call records, each field at its place
 unfoldable pub coreOf : List ℕ → Core
 coreOf bytes = record {
   registers =
@@ -46,7 +46,7 @@ coreOf bytes = record {
 unfoldable pub stateOf : List ℕ → State
 stateOf bytes = record { core = coreOf bytes; calls = parted recordSize callLimit (drop headSize bytes) }
 
--- the bytes of all but the entries
+-- the bytes of all but the call records
 unfoldable pub headOf : Core → List ℕ
 headOf c =
     joined 2 (r .a ∷ r .b ∷ r .x ∷ r .y ∷ r .s ∷ c .pc ∷ r .dpr ∷ numberOf (r .status) ∷ [])
@@ -71,7 +71,7 @@ pub record InWidth (r : Registers) : Type 0 where
   pub dt : r .dt < 256
   pub level : r .status .level < 256
 
--- A state that its bytes keep whole: each field is below the bound of its bytes, and there are as many entries as fit.
+-- A state that its bytes keep whole: each field is below the bound of its bytes, and there are as many call records as fit.
 pub record Keeps (state : State) : Type 0 where
   pub registers : InWidth (state .core .registers)
   pub pc : state .core .pc < 65_536

@@ -35,8 +35,8 @@ use Rattle.model.specs.Effects.{Effect, effectOf, store, pushedAt}
 abbrev pub callLimit : ℕ
 callLimit = 64
 
--- 'each with its 24-bit return address and kind': an open call is one number, the eight bytes of its entry (StateBytes):
--- four of the address, one of the kind, three that are 0 once a call is opened there
+-- 'each with its 24-bit return address and kind': an open call is one number, the eight bytes of its record
+-- (StateBytes): four of the address, one of the kind, three that are 0 once a call is opened there
 abbrev pub recordUnit : ℕ
 recordUnit = 4_294_967_296
 
@@ -161,7 +161,7 @@ module _ (c : Core) (i : Instruction) where
     ret (inBankOf place address)
   pullsReturn Kind.ByRtl = pulledLong r
 
-  -- 24, 'no open call, other kind, or pulled address not the open call's', whose entry is given
+  -- 24, 'no open call, other kind, or pulled address not the open call's', whose record is given
   abbrev pub isReturn : ℕ → Kind → ℕ → Bool
   isReturn open-call kind address =
       ltb 0 (c .depth) && eqb (kindOf open-call) (kindNumber kind) && eqb (returnOf open-call) address
@@ -181,7 +181,7 @@ module _ (c : Core) (i : Instruction) where
   planBy m open-call (Flow.Return kind) = onRead (evaluate m (pullsReturn kind)) (returnsTo open-call kind)
   planBy m open-call Flow.Halt = stops Stop.Halt
 
--- the entry of the call opened last
+-- the record of the call opened last
 abbrev pub lastOpened : State → ℕ
 lastOpened s = getD (s .calls) (s .core .depth - 1) 0
 
@@ -201,7 +201,7 @@ stepped answer s ram = record { answer = answer; state = s; ram = ram }
 abbrev pub stopped : Stop → Memory → State → Stepped
 stopped stop m s = stepped (StepAnswer.Stopped stop) s (m .ram)
 
--- the open calls after a step: an entry changes only when a call is opened in it
+-- the open calls after a step: a record changes only when a call is opened in it
 abbrev pub depthAfter : CallChange → ℕ → ℕ
 depthAfter CallChange.Keep depth = depth
 depthAfter (CallChange.Open address kind) depth = depth + 1

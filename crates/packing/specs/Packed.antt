@@ -1,5 +1,5 @@
--- The answers of the C interface as numbers: how an answer is packed into a result, and the numbers that the functions of
--- include/m7700.h take out of a result. That these are the numbers of the answer: proofs/Unpacked.antt.
+-- The answers of the C interface as numbers: how an answer is packed into a result, and the numbers that the
+-- functions of include/m7700.h take out of a result. That these are the numbers of the answer: proofs/Unpacked.antt.
 -- Assumes nothing.
 use Prim.Native.Nat.{ℕ, _+_, _*_, _/_, _%_, _^_, _≤_, _<_}
 use Rattle.types.specs.declared.rules.Verdict.{Verdict}

@@ -112,7 +112,8 @@ module _ (image : List ℕ) (base : ℕ) (calls₀ ram₀ : List ℕ) (given : C
           by true = omega (arith, g .counted)
           by false = omega (arith, g .counted)
 
-      pub stops-so : isCompleted (stepResult .answer) ≡ false → (end : End) → end ≡ endAfter (stepResult .answer) End.Done
+      pub stops-so : isCompleted (stepResult .answer) ≡ false → (end : End)
+          → end ≡ endAfter (stepResult .answer) End.Done
           → (core : Core) → core ≡ coreAt (stepResult .place) (stepResult .depth) file′
           → leftBy (record { end = end; steps = steps; calls = made; core = core }) calls′ ram′ ≡ whole
       stops-so c end e core e′ =
@@ -122,6 +123,7 @@ module _ (image : List ℕ) (base : ℕ) (calls₀ ram₀ : List ℕ) (given : C
           ap (λ t. t .state) is-step ∙ kept .0 in
           let same-ram : ram′ ≡ ram = ap (λ t. t .ram) is-step ∙ kept .1 in
           let first = rw one-more at (g .goes) in
-          rw (e, e′, same-state, same-ram) (sym (stop-ends m s (asked - (steps + 1)) steps made (stepResult .answer) answers
+          rw (e, e′, same-state, same-ram)
+          (sym (stop-ends m s (asked - (steps + 1)) steps made (stepResult .answer) answers
           c)
           ∙ first)

@@ -63,7 +63,7 @@ pub fn core_of(bytes: &[u8]) -> Core
     }
 }
 
-// The entries of the open calls.
+// The records of the open calls.
 pub fn calls_of(bytes: &[u8]) -> [u64; CALL_LIMIT]
     ensures { λ r. ⌜ r ≡ stateOf (now (bytes .entry)) .calls ⌝ }
 {
@@ -76,7 +76,7 @@ pub fn calls_of(bytes: &[u8]) -> [u64; CALL_LIMIT]
     calls
 }
 
-// All but the entries, as words; PG and DT are one.
+// All but the call records, as words; PG and DT are one.
 fn words_of(core: Core) -> [u64; 10]
     ensures { λ r. ⌜ joined 2 r ≡ headOf core ⌝ }
 {
@@ -133,7 +133,7 @@ fn call_fits(entry: u64) -> bool
     false
 }
 
-// All of the first so many entries fit.
+// All of the first so many records fit.
 fn calls_fit(calls: &[u64; CALL_LIMIT], depth: usize) -> bool
     requires { ⌜ depth ≤ callLimit ⌝ }
     ensures { λ r. ⌜ r ≡ callsFit (now (calls .entry)) depth ⌝ }

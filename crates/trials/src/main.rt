@@ -7,7 +7,7 @@ mod records;
 
 use crate::parts::take_u32;
 use crate::records::Kind;
-use crate::records::turn_at;
+use crate::records::trial_at;
 use libc::STDOUT_FILENO;
 ghost use Prim.Native.Nat.{_≤_};
 ghost use lib.ListN.{length};
@@ -49,7 +49,7 @@ fn try_records(kind: Kind, file: &[u8], numbers: &mut [u64; NUMBERS]) {
     let mut left = records;
     while 0 < left {
         left -= 1;
-        let turn = turn_at(kind, file, &mut at);
+        let turn = trial_at(kind, file, &mut at);
         if turn.agrees {
             agreed = std::num::wrapping_add_u64(agreed, 1);
             count(numbers, turn.number);

@@ -31,36 +31,36 @@ pub(crate) enum Kind {
 }
 
 // What a record shows: the number of its answer, and whether the call did what it says.
-pub(crate) struct Turn {
+pub(crate) struct Trial {
     pub(crate) number: usize,
     pub(crate) agrees: bool,
 }
 
 // The record at a place, which moves behind it.
-pub(crate) fn turn_at(kind: Kind, file: &[u8], at: &mut usize) -> Turn {
+pub(crate) fn trial_at(kind: Kind, file: &[u8], at: &mut usize) -> Trial {
     match kind {
-        Kind::Check => check_turn(file, at),
-        Kind::Step => machine_turn(file, at, true),
-        Kind::Run => machine_turn(file, at, false),
-        Kind::Read => read_turn(file, at),
-        Kind::Write => write_turn(file, at),
+        Kind::Check => try_check(file, at),
+        Kind::Step => try_machine(file, at, true),
+        Kind::Run => try_machine(file, at, false),
+        Kind::Read => try_read(file, at),
+        Kind::Write => try_write(file, at),
     }
 }
 
-fn check_turn(file: &[u8], at: &mut usize) -> Turn {
+fn try_check(file: &[u8], at: &mut usize) -> Trial {
     let base = take_u32(file, at);
     let reset = take_u32(file, at);
     let image = take_bytes(file, at);
     let marks = take_bytes(file, at);
     let answer = take_u32(file, at);
-    Turn {
+    Trial {
         number: (answer / 65_536) as usize,
         agrees: m7700_check(image, marks, base, reset) == answer,
     }
 }
 
 // A step or a run. A record of a step asks for one.
-fn machine_turn(file: &[u8], at: &mut usize, by_step: bool) -> Turn {
+fn try_machine(file: &[u8], at: &mut usize, by_step: bool) -> Trial {
     let base = take_u32(file, at);
     let steps = take_u32(file, at);
     let image = take_bytes(file, at);
@@ -84,7 +84,7 @@ fn machine_turn(file: &[u8], at: &mut usize, by_step: bool) -> Turn {
     } else {
         m7700_run(image, base, state, ram, steps)
     };
-    Turn {
+    Trial {
         number: run_number(answer),
         agrees: given == answer
             && (!by_step || steps == 1)
@@ -103,7 +103,7 @@ fn run_number(answer: u64) -> usize {
     }
 }
 
-fn read_turn(file: &[u8], at: &mut usize) -> Turn {
+fn try_read(file: &[u8], at: &mut usize) -> Trial {
     let text = take_bytes(file, at);
     let size = take_u32(file, at) as usize;
     let answer = take_u64(file, at);
@@ -117,13 +117,13 @@ fn read_turn(file: &[u8], at: &mut usize) -> Turn {
         take_over(file, at, after, 0, size);
     }
     let given = m7700_read_list(text, marks);
-    Turn {
+    Trial {
         number: (answer % 256) as usize,
         agrees: marks.len() == size && given == answer && same(marks, after),
     }
 }
 
-fn write_turn(file: &[u8], at: &mut usize) -> Turn {
+fn try_write(file: &[u8], at: &mut usize) -> Trial {
     let base = take_u32(file, at);
     let reset = take_u32(file, at);
     let marks = take_bytes(file, at);
@@ -139,7 +139,7 @@ fn write_turn(file: &[u8], at: &mut usize) -> Turn {
         take_over(file, at, after, 0, (answer / 256) as usize);
     }
     let given = m7700_write_list(marks, base, reset, page);
-    Turn {
+    Trial {
         number: (answer % 256) as usize,
         agrees: page.len() == size && given == answer && same(page, after),
     }

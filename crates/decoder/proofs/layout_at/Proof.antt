@@ -30,7 +30,8 @@ returns-4 : tie.Need-returns-4
 returns-4 c =
     let code = c .before .before in
     let args = code .before .before .before .args in
-    layout-at (args .image .now) (args .at) (code .code-at .result) (args .m) (args .x) LayoutRead.Short (code .code-at .ensures)
+    layout-at (args .image .now) (args .at) (code .code-at .result) (args .m) (args .x) LayoutRead.Short
+    (code .code-at .ensures)
     (rw (c .enum-told2 .given .1) refl)
 
 pub layout-at-spec : {M : Type 1} → statement M

@@ -25,7 +25,8 @@ loop-again : tie.Need-loop-again Inv-loop μ-loop
 loop-again c = (
   one-more-told (spec.unformedAt (c .before .before .before .before .before .args .marks .now)) (c .before
       .before .before .loop .bad) (c .before .before .before .loop .i) (c .malformed .result) (c .malformed .ensures ∙
-      malformed-unformed (isFormed (getD (c .before .before .before .before .before .args .marks .now) (c .before .before
+      malformed-unformed
+      (isFormed (getD (c .before .before .before .before .before .args .marks .now) (c .before .before
       .before .loop .i) 0))) (c .before .before .before .loop .inv .0),
   omega (
     arith,

@@ -17,7 +17,8 @@ use Rattle.runs.proofs.steps.run_steps.Tie as tie
 abbrev Inv-loop : tie.InvT-loop
 Inv-loop codes tasks image base calls₀ ram₀ asked registers₀ place₀ depth₀ steps₀ made₀ calls ram registers place
     depth steps made =
-    RunInvariant image base calls₀ ram₀ (coreAt place₀ depth₀ registers₀) asked calls ram registers place depth steps made
+    RunInvariant image base calls₀ ram₀ (coreAt place₀ depth₀ registers₀) asked calls ram registers place depth steps
+    made
 
 abbrev μ-loop : tie.MeasureT-loop
 μ-loop codes tasks image base calls₀ ram₀ asked registers₀ place₀ depth₀ steps₀ made₀ calls ram registers place
