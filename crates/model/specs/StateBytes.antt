@@ -71,7 +71,7 @@ pub record InWidth (r : Registers) : Type 0 where
   pub dt : r .dt < 256
   pub level : r .status .level < 256
 
--- A state that its bytes keep whole: each field is below the bound of its bytes, and there are as many call records as fit.
+-- A state that its bytes keep whole: each field is below the bound of its bytes, and there are as many records as fit.
 pub record Keeps (state : State) : Type 0 where
   pub registers : InWidth (state .core .registers)
   pub pc : state .core .pc < 65_536

@@ -49,10 +49,10 @@ fn try_records(kind: Kind, file: &[u8], numbers: &mut [u64; NUMBERS]) {
     let mut left = records;
     while 0 < left {
         left -= 1;
-        let turn = trial_at(kind, file, &mut at);
-        if turn.agrees {
+        let trial = trial_at(kind, file, &mut at);
+        if trial.agrees {
             agreed = std::num::wrapping_add_u64(agreed, 1);
-            count(numbers, turn.number);
+            count(numbers, trial.number);
         }
         if file.len() < at {
             break;
