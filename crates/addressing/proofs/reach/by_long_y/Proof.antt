@@ -1,4 +1,4 @@
--- Y is added to three bytes that are read: a number below 2 to the 24, so that the sum is whole.
+-- Y is added to the address that is read, which is below 2 to the 24, so that the sum fits 32 bits.
 -- Assumes nothing.
 use Rattle.model.specs.Addressing.{indexY}
 use mathlib.Core.Path.{subst}

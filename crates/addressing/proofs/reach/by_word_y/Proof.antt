@@ -1,4 +1,4 @@
--- To the word that is read, put into the data bank, Y is added behind it: no other read is made.
+-- Y is added to the address in the data bank that the word names; a word that can't be read gives none.
 -- Assumes nothing.
 use Rattle.model.specs.Addressing.{inDataBank, indexY}
 use Prim.Native.Nat.{_+_}
