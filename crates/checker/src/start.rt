@@ -211,21 +211,21 @@ pub(crate) struct StartResult {
     pub(crate) bytes: u8,
 }
 
-// The step of a layout at a place.
+// What a layout that was read at a place comes to.
 fn layout_result(
     image: &[u8],
     marks: &[u8],
     base: u32,
     at: usize,
-    layout: LayoutRead,
+    read: LayoutRead,
 ) -> StartResult
     requires { ⌜
-        FittingIn (length (now image) - at) layout × (base + length (now marks) ≤ addressLimit)
+        FittingIn (length (now image) - at) read × (base + length (now marks) ≤ addressLimit)
         × (at < length (now marks))
         ⌝ }
-    ensures { λ r. ⌜ r ≡ decodedStep (now (marks .entry)) base at (decodedOf (drop at (now (image .entry))) layout) ⌝ }
+    ensures { λ r. ⌜ r ≡ decodedStep (now (marks .entry)) base at (decodedOf (drop at (now (image .entry))) read) ⌝ }
 {
-    match layout {
+    match read {
         LayoutRead::Fits(layout) => StartResult {
             result: test_whole(image, marks, base, at, layout),
             bytes: layout.length,
@@ -241,7 +241,7 @@ fn layout_result(
     }
 }
 
-// The step at a place.
+// What a place comes to.
 pub(crate) fn step_at(
     codes: &CodePages,
     image: &[u8],

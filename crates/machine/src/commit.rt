@@ -32,7 +32,7 @@ ghost use Rattle.types.specs.Status.{maskM, maskX, isSet, statusOf};
 ghost use Rattle.prelude.specs.Choice.{bit};
 ghost use Rattle.model.specs.Step as spec;
 ghost use Rattle.machine.specs.Fetches.{instruction};
-ghost use Rattle.machine.specs.StepResults.{turn, left, finished};
+ghost use Rattle.machine.specs.StepResults.{stepResult, left, finished};
 
 // How a step ended, the place of execution after it, and how many calls are open then.
 pub struct StepResult {
@@ -43,7 +43,7 @@ pub struct StepResult {
 
 // A step that stopped.
 pub(crate) fn stopped(stop: Stop, place: u32, depth: usize) -> StepResult
-    ensures { λ r. ⌜ r ≡ turn (StepAnswer.Stopped stop) place depth ⌝ }
+    ensures { λ r. ⌜ r ≡ stepResult (StepAnswer.Stopped stop) place depth ⌝ }
 {
     StepResult {
         answer: StepAnswer::Stopped(stop),

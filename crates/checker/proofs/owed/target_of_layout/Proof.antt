@@ -1,8 +1,8 @@
 -- The form of the target and the operand are those of the instruction.
 -- Assumes nothing.
 use borrow.Author.Needs.{needs}
-use Rattle.checker.proofs.owed.target_of_frame.Statement.{statement}
-use Rattle.checker.proofs.owed.target_of_frame.Tie as tie
+use Rattle.checker.proofs.owed.target_of_layout.Statement.{statement}
+use Rattle.checker.proofs.owed.target_of_layout.Tie as tie
 
 returns : tie.Need-returns
 returns c =

@@ -7,14 +7,14 @@ use Rattle.checker.proofs.start.layout_result.Tie as tie
 
 test-whole-requires : tie.Need-test-whole-requires
 test-whole-requires c κs = (
-  rw (c .before .framed .given .1) at (c .before .before .before .before .before .pre .0),
+  rw (c .before .read .given .1) at (c .before .before .before .before .before .pre .0),
   c .before .before .before .before .before .pre .1,
   c .before .before .before .before .before .pre .2,
 )
 
 returns : tie.Need-returns
 unfolding decodedResult
-returns c = rw (c .before .before .framed .given .1, c .test-whole .ensures)
+returns c = rw (c .before .before .read .given .1, c .test-whole .ensures)
 
 returns-2 : tie.Need-returns-2
 unfolding decodedResult

@@ -20,8 +20,8 @@ returns c =
           .result) (c .if1 .taken),
     )
 
-layout-step-requires : tie.Need-layout-step-requires
-layout-step-requires c κs = (
+layout-result-requires : tie.Need-layout-result-requires
+layout-result-requires c κs = (
   fits-in (c .before .before .before .before .before .before .args .image .now)
       (c .before .before .before .before .before .before .args .at)
       (c .before .before .before .byte-at .result / 2 % 2) (c .before .before .before .byte-at .result / 4 % 2)
@@ -52,5 +52,5 @@ step-at-spec =
     (λ c κs. search needs)
     returns
     (λ c κs. search needs)
-    layout-step-requires
+    layout-result-requires
     returns-2)

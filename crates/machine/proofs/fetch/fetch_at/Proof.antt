@@ -36,16 +36,16 @@ returns-2 c =
     let from = c .before .before .before .before .before .before .before .if1 .left in
     let m = c .before .before .before .before .before .before .bit-at in
     let x = c .before .before .before .before .before .bit-at2 in
-    let layout = c .before .before .before .before .layout-at in
+    let found = c .before .before .before .before .layout-at in
     let layout = c .before .before .layout .given in
     let f = layout .0 .0 in
     let read = c .operand-at in
     let with-operand : ℕ → Fetched = λ n. record { number = f .number; length = f .length; operand = n } in
     let i = instruction (with-operand (read .result)) in
-    let fits = fits-at (a .image .now) at (m .result) (x .result) (layout .result) (layout .ensures) f (layout .1) in (
+    let fits = fits-at (a .image .now) at (m .result) (x .result) (found .result) (found .ensures) f (layout .1) in (
       fetched-at (a .image .now) (a .base) (a .place) (a .status) (start .pre .1) (start .pre .2)
           (omega (arith, from)) (m .result) (x .result) (m .ensures .0) (x .ensures .0) (Decoded.Whole i)
-          (decoded-fits (a .image .now) at (m .result) (x .result) (layout .result) (layout .ensures) f i (layout .1)
+          (decoded-fits (a .image .now) at (m .result) (x .result) (found .result) (found .ensures) f i (layout .1)
           (ap (λ n. instruction (with-operand n)) (read .ensures .0))),
       (fits .2, read .ensures .1),
     )
