@@ -212,13 +212,7 @@ pub(crate) struct StartResult {
 }
 
 // What a layout that was read at a place comes to.
-fn layout_result(
-    image: &[u8],
-    marks: &[u8],
-    base: u32,
-    at: usize,
-    read: LayoutRead,
-) -> StartResult
+fn layout_result(image: &[u8], marks: &[u8], base: u32, at: usize, read: LayoutRead) -> StartResult
     requires { ⌜
         FittingIn (length (now image) - at) read × (base + length (now marks) ≤ addressLimit)
         × (at < length (now marks))

@@ -18,7 +18,7 @@ use ghost.Atoms.{Atoms, sem}
 use contract.Monad.{Fun}
 use contract.Running.{givenOf, tables}
 use types.Kit.{Given, ‵, raw, _⊛_, _$_, _∵_, !, qed, by, move, keep, use1, use2, split, join, fsplit, fjoin}
-use types.Kit.{layout, done}
+use types.Kit.{frame, done}
 use types.Part.{agg}
 use types.Run.{look, init, stop, from, of-opd, and-then, no-more, assigns, land, returns}
 use types.Run.{enter, alloc1, alloc0, params1, pass1, pass0, free0}
@@ -123,7 +123,7 @@ module _ {M : Type 1} (𝓤 : URA M) (H : Heap 𝓤) (A : Atoms 𝓤) (W : Given
         fsplit ! $ use1 W (‵ (Own α β d) ⊛ ‵ (Own α β d)) (copied α β d 𝓤 H A W) $ split ! $
         -- [the view; its copy; reset; the tokens]
         move ! (0 ∷ 2 ∷ []) $ fjoin ! $ move ! (2 ∷ 0 ∷ []) $ join ! $ nothing ! $ move ! (1 ∷ 0 ∷ []) $ join ! $
-        layout ! $ done !
+        frame ! $ done !
 
     -- the copy for the second call
     between : (u : Val) (r : Verdict)
