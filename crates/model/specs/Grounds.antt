@@ -100,7 +100,7 @@ WrongState s =
     ⊎ (callLimit < s .core .depth)
     ⊎ ((k : ℕ) × (k < s .core .depth) × WrongCall (getD (s .calls) k 0))
 
--- 12, of a state that is given as bytes: 'A buffer of another length is refused with 12'
+-- 12, of a state that is given as bytes: not so many bytes, or a state that is wrong
 abbrev pub WrongBytes : List ℕ → Type 0
 WrongBytes bytes = (length bytes ≡ stateSize → ⊥) ⊎ WrongState (stateOf bytes)
 
