@@ -1,4 +1,4 @@
--- Field by field.
+-- Each digit and the kind's letter stand between their tabs, so that the eleven bytes are the definition's.
 -- Assumes nothing.
 use Rattle.model.specs.MarkList as spec
 use borrow.Author.Needs.{needs}
