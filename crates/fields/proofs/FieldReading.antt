@@ -1,5 +1,5 @@
--- A field is read from its last byte to its first: each turn of the loop puts a byte in front of what is read, and eight
--- bytes stay below 2 ^ 64.
+-- A field is read from its last byte to its first: each turn of the loop puts a byte in front of what is read, and
+-- eight bytes stay below 2 ^ 64.
 -- Assumes nothing.
 use mathlib.Core.Path.{_≡_, refl}
 use mathlib.Core.List.{List, [], _∷_}
