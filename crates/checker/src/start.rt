@@ -10,6 +10,11 @@ use fields::byte_at;
 use fields::low_bytes;
 use fields::six_bytes;
 use image::is_start;
+use image::marks::mark_kind;
+use image::marks::mark_m;
+use image::marks::mark_x;
+use image::marks::return_m;
+use image::marks::return_x;
 use successors::kind_number;
 use types::code::Flow;
 use types::code::Kind;
@@ -85,13 +90,13 @@ fn all_marks(marks: &[u8], base: u32, owed: Requirements) -> bool
 fn returns_by(kind: Kind, mark: u8) -> bool
     ensures { λ r. ⌜ r ≡ rules.returnsBy kind mark ⌝ }
 {
-    if mark / 8 % 4 != kind_number(kind) {
+    if mark_kind(mark) != kind_number(kind) {
         return false;
     }
-    if mark / 2 % 2 != mark / 32 % 2 {
+    if mark_m(mark) != return_m(mark) {
         return false;
     }
-    mark / 4 % 2 == mark / 64 % 2
+    mark_x(mark) == return_x(mark)
 }
 
 // Number 10: the rule of RTS and RTL.
@@ -255,6 +260,6 @@ pub(crate) fn step_at(
             bytes: 1,
         };
     }
-    let layout = layout_at(codes, image, at, mark / 2 % 2, mark / 4 % 2);
+    let layout = layout_at(codes, image, at, mark_m(mark), mark_x(mark));
     layout_result(image, marks, base, at, layout)
 }
