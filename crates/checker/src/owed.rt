@@ -88,6 +88,7 @@ pub(crate) fn mark_in(marks: &[u8], base: u32, address: u32) -> u8
     byte_at(marks, wrapping_sub_u32(address, base) as usize)
 }
 
+// The mark that must stand at an address.
 fn requirement(address: u32, mark: u8) -> Requirement
     ensures { λ r. ⌜ r ≡ rules.requirement address mark ⌝ }
 {

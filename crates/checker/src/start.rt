@@ -38,6 +38,7 @@ ghost use Rattle.decoder.specs.Layout.{Fitting, FittingIn, instructionOf, decod
 ghost use Rattle.checker.specs.Steps.{decodedStep, stepAt};
 ghost use Rattle.checker.specs.Owes.{returnTests, owedTests, MarksOfStarts};
 
+// Number 8: some start stands there.
 fn is_start_at(marks: &[u8], base: u32, w: Requirement) -> bool
     requires { ⌜ base + length (now marks) ≤ addressLimit ⌝ }
     ensures { λ r. ⌜ r ≡ verdict.isStartAt (now (marks .entry)) base w ⌝ }
@@ -45,6 +46,7 @@ fn is_start_at(marks: &[u8], base: u32, w: Requirement) -> bool
     is_start(mark_in(marks, base, w.address))
 }
 
+// Number 9: that mark stands there.
 fn has_mark_at(marks: &[u8], base: u32, w: Requirement) -> bool
     requires { ⌜ base + length (now marks) ≤ addressLimit ⌝ }
     ensures { λ r. ⌜ r ≡ verdict.hasMarkAt (now (marks .entry)) base w ⌝ }

@@ -38,7 +38,7 @@ pub fn return_x(mark: u8) -> u8
     mark / 64 % 2
 }
 
-// The mark of a start with these fields.
+// The mark of a start with these fields. Asks for fields within their bits, so that the sum is a byte.
 pub fn mark_of(m: u8, x: u8, kind: u8, rm: u8, rx: u8) -> u8
     requires { ⌜ (m ≤ 1) × (x ≤ 1) × (kind ≤ 3) × (rm ≤ 1) × (rx ≤ 1) ⌝ }
     ensures { λ r. ⌜ r ≡ markOf m x kind rm rx ⌝ }
