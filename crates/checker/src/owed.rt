@@ -95,7 +95,7 @@ fn requirement(address: u32, mark: u8) -> Requirement
     Requirement { address, mark }
 }
 
-// The mark that a call wants at its target.
+// The mark that a call requires at its target.
 fn mark_of_routine(kind: Kind, mark: u8, there: u8) -> u8
     ensures { λ r. ⌜ r ≡ rules.markOfRoutine kind mark there ⌝ }
 {
@@ -108,7 +108,7 @@ fn mark_of_routine(kind: Kind, mark: u8, there: u8) -> u8
     )
 }
 
-// The mark that a call wants at the address after it.
+// The mark that a call requires at the address after it.
 fn mark_on_return(mark: u8, there: u8) -> u8
     ensures { λ r. ⌜ r ≡ rules.markOnReturn mark there ⌝ }
 {

@@ -54,7 +54,7 @@ fn has_mark_at(marks: &[u8], base: u32, w: Requirement) -> bool
     mark_in(marks, base, w.address) == w.mark
 }
 
-// Number 8: every want's address is a marked start.
+// Number 8: every required address is a marked start.
 fn all_starts(marks: &[u8], base: u32, owed: Requirements) -> bool
     requires { ⌜ base + length (now marks) ≤ addressLimit ⌝ }
     ensures { λ r. ⌜ r ≡ verdict.allStarts (now (marks .entry)) base owed ⌝ }
@@ -71,7 +71,7 @@ fn all_starts(marks: &[u8], base: u32, owed: Requirements) -> bool
     }
 }
 
-// Number 9: every want's mark stands there.
+// Number 9: every required mark stands there.
 fn all_marks(marks: &[u8], base: u32, owed: Requirements) -> bool
     requires { ⌜ base + length (now marks) ≤ addressLimit ⌝ }
     ensures { λ r. ⌜ r ≡ verdict.allMarks (now (marks .entry)) base owed ⌝ }
