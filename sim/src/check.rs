@@ -7,7 +7,7 @@ use crate::numbers::*;
 /// A refusal: its number and the offset that goes with it.
 type Refusal = (u8, usize);
 
-/// INTERFACE.md's `m7700_check`: number << 16 | offset; 0 accepted.
+/// The C interface's `m7700_check`: number << 16 | offset; 0 accepted.
 pub fn check(image: &[u8], marks: &[u8], base: u32, reset: u32) -> u32 {
     match verdict(image, marks, base, reset) {
         Ok(()) => 0,

@@ -1,6 +1,6 @@
 //! A MELPS 7700 simulator written apart: a second reading of the papers.
 //!
-//! The functions mirror the C interface of INTERFACE.md on slices, with the
+//! The functions mirror the C interface (include/m7700.h) on slices, with the
 //! same packing of the result. "01" in a comment is 01-scope.md, "manual"
 //! the MELPS 7700 Software Manual.
 

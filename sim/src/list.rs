@@ -10,7 +10,7 @@ struct Head {
     reset: u32,
 }
 
-/// INTERFACE.md's `m7700_read_list`: bits 0-7 number; on 0 bits 8-31 base,
+/// The C interface's `m7700_read_list`: bits 0-7 number; on 0 bits 8-31 base,
 /// 32-55 reset.
 pub fn read_list(text: &[u8], marks: &mut [u8]) -> u64 {
     match accept(text, marks.len()) {
@@ -159,7 +159,7 @@ impl Cursor<'_> {
     }
 }
 
-/// INTERFACE.md's `m7700_write_list`: bits 0-7 number; on 0 bits 8-63 the
+/// The C interface's `m7700_write_list`: bits 0-7 number; on 0 bits 8-63 the
 /// length of the list.
 pub fn write_list(marks: &[u8], base: u32, reset: u32, page: &mut [u8]) -> u64 {
     match fits(marks, base, reset, page.len()) {

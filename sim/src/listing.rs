@@ -1,4 +1,4 @@
-//! The listing of the code map, in INTERFACE.md's format.
+//! The listing of the code map, in the agreed format (data/codemap.txt).
 
 use crate::codes::{entry_of, Entry, Mode, Register, Word};
 use std::fmt::Write;

@@ -5,7 +5,7 @@ use crate::codes::{entry_of, page_of, Entry, Mode, Register, Word};
 use crate::numbers::*;
 use crate::state::{self, Registers};
 
-/// INTERFACE.md's `m7700_run`: bits 0-7 refusal; on 0 bits 8-15 end, 16-39
+/// The C interface's `m7700_run`: bits 0-7 refusal; on 0 bits 8-15 end, 16-39
 /// steps completed, 40-63 calls.
 pub fn run(image: &[u8], base: u32, state: &mut [u8], ram: &mut [u8], steps: u32) -> u64 {
     if let Err(number) = accept(image, base, state, ram, steps) {
@@ -34,7 +34,7 @@ pub fn run(image: &[u8], base: u32, state: &mut [u8], ram: &mut [u8], steps: u32
     (end as u64) << 8 | done << 16 | calls << 40
 }
 
-/// INTERFACE.md's `m7700_step`: a run of one step.
+/// The C interface's `m7700_step`: a run of one step.
 pub fn step(image: &[u8], base: u32, state: &mut [u8], ram: &mut [u8]) -> u64 {
     run(image, base, state, ram, 1)
 }
@@ -90,7 +90,7 @@ impl Change {
                 state::set_call(state, depth, address, kind);
                 state::set_depth(state, depth + 1);
             }
-            // Closing leaves the entry's bytes (INTERFACE.md).
+            // Closing leaves the entry's bytes (include/m7700.h).
             Change::Close => state::set_depth(state, depth - 1),
         }
     }

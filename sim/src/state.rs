@@ -1,4 +1,4 @@
-//! The machine's state and its bytes (INTERFACE.md).
+//! The machine's state and its bytes (include/m7700.h).
 
 use crate::alu::{self, Width};
 use crate::numbers::{MAX_ADDRESS, MAX_CALLS, STATE};

@@ -7,7 +7,8 @@ use Rattle.types.specs.declared.machine.OperandUse.{OperandUse}
 use Rattle.actions.specs.declared.tasks.Action.{Action}
 
 -- What is done; with which value, flag or mask or in which way, where the action has a choice; the register's place in
--- the file, or 1 where flags or bits are wanted set; and what is asked of memory. Works.antt says it action by action.
+-- the file, or 1 where flags or bits are wanted set; and what is asked of memory. ActionEffects.antt says it action
+-- by action.
 pub record Task : Type 0 where
   pub action : Action
   pub choice : ℕ

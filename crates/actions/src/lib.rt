@@ -1,5 +1,5 @@
 // What each action does with its data; operations (manual 4.2) that differ in a register or a value alone share one.
-// What `viewed` leaves open of an effect is named in cpu/src/effects.rt.
+// What `asEffect` leaves open of an effect is named in cpu/src/effects.rt.
 pub mod tasks;
 mod values;
 

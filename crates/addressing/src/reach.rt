@@ -54,30 +54,35 @@ fn word(v: u16) -> u32
     v as u32
 }
 
+// X as an address takes it: under x=1 its low byte alone.
 fn index_x(registers: &[u16; FILE_SIZE]) -> u32
     ensures { λ r. ⌜ (r ≡ spec.indexX (registersOf (now (registers .entry)))) × (r ≤ 65_535) ⌝ }
 {
     low(is_set(Status::X, registers[PS]), wide(registers[X])) as u32
 }
 
+// Y likewise.
 fn index_y(registers: &[u16; FILE_SIZE]) -> u32
     ensures { λ r. ⌜ (r ≡ spec.indexY (registersOf (now (registers .entry)))) × (r ≤ 65_535) ⌝ }
 {
     low(is_set(Status::X, registers[PS]), wide(registers[Y])) as u32
 }
 
+// An address of the direct page: DPR and one byte, in bank 0 and on into bank 1.
 fn direct(registers: &[u16; FILE_SIZE], operand: u64) -> u32
     ensures { λ r. ⌜ (r ≡ spec.direct (registersOf (now (registers .entry))) operand) × (r ≤ 65_790) ⌝ }
 {
     word(registers[DPR]) + (operand % 256) as u32
 }
 
+// Two bytes behind the code, in the data bank.
 fn absolute(registers: &[u16; FILE_SIZE], operand: u64) -> u32
     ensures { λ r. ⌜ (r ≡ spec.absolute (registersOf (now (registers .entry))) operand) × (r < addressLimit) ⌝ }
 {
     (registers[DT] % 256) as u32 * BANK_SIZE + low_word(operand)
 }
 
+// S and one byte: a data address, which does not wrap.
 fn stack_relative(registers: &[u16; FILE_SIZE], operand: u64) -> u32
     ensures { λ r. ⌜ (r ≡ spec.stackRelative (registersOf (now (registers .entry))) operand) × (r ≤ 65_790) ⌝ }
 {

@@ -41,6 +41,7 @@ fn read_named(argument: usize, buffer: &mut [u8]) -> usize
     if ended { size } else { whole(buffer) }
 }
 
+// Reads both files, an unread one as one that is too long, and prints the line.
 fn main() {
     let mut image = [0u8; IMAGE_LIMIT + 1];
     let mut list = [0u8; LIST_LIMIT + 1];

@@ -6,6 +6,12 @@ use entries::flow_of;
 use entries::keeps_widths;
 use entries::target_form_of;
 use fields::byte_at;
+use image::marks::mark_kind;
+use image::marks::mark_m;
+use image::marks::mark_of;
+use image::marks::mark_x;
+use image::marks::return_m;
+use image::marks::return_x;
 use std::num::wrapping_sub_u32;
 use successors::kind_number;
 use successors::next_address;
@@ -21,28 +27,20 @@ ghost use mathlib.Core.Path.{_≡_};
 ghost use Prim.Native.Nat.{_+_, _-_, _*_, _/_, _%_, _≤_, _<_};
 ghost use lib.ListN.{length, drop};
 ghost use Rattle.types.specs.Addresses.{addressLimit};
-ghost use Rattle.model.specs.Image.{markOf, markAt};
+ghost use Rattle.model.specs.Image.{markAt};
 ghost use Rattle.types.specs.declared.code.Flow.{Flow};
 ghost use Rattle.model.specs.Decode.{operandOf};
 ghost use Rattle.model.specs.Rules as rules;
 ghost use Rattle.codepages.specs.Packing.{unpacked};
 ghost use Rattle.decoder.specs.Layout.{Fitting, instructionOf};
 
-// The mark of a start with these fields.
-fn mark_of(m: u8, x: u8, kind: u8, rm: u8, rx: u8) -> u8
-    requires { ⌜ (m ≤ 1) × (x ≤ 1) × (kind ≤ 3) × (rm ≤ 1) × (rx ≤ 1) ⌝ }
-    ensures { λ r. ⌜ r ≡ markOf m x kind rm rx ⌝ }
-{
-    1 + 2 * m + 4 * x + 8 * kind + 32 * rm + 64 * rx
-}
-
 // The mark with the widths after an instruction.
 fn mark_after(effect: WidthEffect, operand: u64, mark: u8) -> u8
     ensures { λ r. ⌜ r ≡ rules.markAfter effect operand mark ⌝ }
 {
-    let m = m_after(effect, mark / 2 % 2, operand);
-    let x = x_after(effect, mark / 4 % 2, operand);
-    mark_of(m, x, mark / 8 % 4, mark / 32 % 2, mark / 64 % 2)
+    let m = m_after(effect, mark_m(mark), operand);
+    let x = x_after(effect, mark_x(mark), operand);
+    mark_of(m, x, mark_kind(mark), return_m(mark), return_x(mark))
 }
 
 // The mark where the widths are kept.
@@ -90,32 +88,33 @@ pub(crate) fn mark_in(marks: &[u8], base: u32, address: u32) -> u8
     byte_at(marks, wrapping_sub_u32(address, base) as usize)
 }
 
+// The mark that must stand at an address.
 fn requirement(address: u32, mark: u8) -> Requirement
     ensures { λ r. ⌜ r ≡ rules.requirement address mark ⌝ }
 {
     Requirement { address, mark }
 }
 
-// The mark that a call wants at its target.
+// The mark that a call requires at its target.
 fn mark_of_routine(kind: Kind, mark: u8, there: u8) -> u8
     ensures { λ r. ⌜ r ≡ rules.markOfRoutine kind mark there ⌝ }
 {
     mark_of(
-        mark / 2 % 2,
-        mark / 4 % 2,
+        mark_m(mark),
+        mark_x(mark),
         kind_number(kind),
-        there / 32 % 2,
-        there / 64 % 2,
+        return_m(there),
+        return_x(there),
     )
 }
 
-// The mark that a call wants at the address after it.
+// The mark that a call requires at the address after it.
 fn mark_on_return(mark: u8, there: u8) -> u8
     ensures { λ r. ⌜ r ≡ rules.markOnReturn mark there ⌝ }
 {
-    let m = there / 32 % 2;
-    let x = there / 64 % 2;
-    mark_of(m, x, mark / 8 % 4, mark / 32 % 2, mark / 64 % 2)
+    let m = return_m(there);
+    let x = return_x(there);
+    mark_of(m, x, mark_kind(mark), return_m(mark), return_x(mark))
 }
 
 // What a call at an address with a mark owes, by its target and the address after it.

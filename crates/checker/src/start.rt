@@ -10,6 +10,11 @@ use fields::byte_at;
 use fields::low_bytes;
 use fields::six_bytes;
 use image::is_start;
+use image::marks::mark_kind;
+use image::marks::mark_m;
+use image::marks::mark_x;
+use image::marks::return_m;
+use image::marks::return_x;
 use successors::kind_number;
 use types::code::Flow;
 use types::code::Kind;
@@ -33,6 +38,7 @@ ghost use Rattle.decoder.specs.Layout.{Fitting, FittingIn, instructionOf, decod
 ghost use Rattle.checker.specs.Steps.{decodedStep, stepAt};
 ghost use Rattle.checker.specs.Owes.{returnTests, owedTests, MarksOfStarts};
 
+// Number 8: some start stands there.
 fn is_start_at(marks: &[u8], base: u32, w: Requirement) -> bool
     requires { ⌜ base + length (now marks) ≤ addressLimit ⌝ }
     ensures { λ r. ⌜ r ≡ verdict.isStartAt (now (marks .entry)) base w ⌝ }
@@ -40,6 +46,7 @@ fn is_start_at(marks: &[u8], base: u32, w: Requirement) -> bool
     is_start(mark_in(marks, base, w.address))
 }
 
+// Number 9: that mark stands there.
 fn has_mark_at(marks: &[u8], base: u32, w: Requirement) -> bool
     requires { ⌜ base + length (now marks) ≤ addressLimit ⌝ }
     ensures { λ r. ⌜ r ≡ verdict.hasMarkAt (now (marks .entry)) base w ⌝ }
@@ -47,7 +54,7 @@ fn has_mark_at(marks: &[u8], base: u32, w: Requirement) -> bool
     mark_in(marks, base, w.address) == w.mark
 }
 
-// Number 8: every want's address is a marked start.
+// Number 8: every required address is a marked start.
 fn all_starts(marks: &[u8], base: u32, owed: Requirements) -> bool
     requires { ⌜ base + length (now marks) ≤ addressLimit ⌝ }
     ensures { λ r. ⌜ r ≡ verdict.allStarts (now (marks .entry)) base owed ⌝ }
@@ -64,7 +71,7 @@ fn all_starts(marks: &[u8], base: u32, owed: Requirements) -> bool
     }
 }
 
-// Number 9: every want's mark stands there.
+// Number 9: every required mark stands there.
 fn all_marks(marks: &[u8], base: u32, owed: Requirements) -> bool
     requires { ⌜ base + length (now marks) ≤ addressLimit ⌝ }
     ensures { λ r. ⌜ r ≡ verdict.allMarks (now (marks .entry)) base owed ⌝ }
@@ -85,13 +92,13 @@ fn all_marks(marks: &[u8], base: u32, owed: Requirements) -> bool
 fn returns_by(kind: Kind, mark: u8) -> bool
     ensures { λ r. ⌜ r ≡ rules.returnsBy kind mark ⌝ }
 {
-    if mark / 8 % 4 != kind_number(kind) {
+    if mark_kind(mark) != kind_number(kind) {
         return false;
     }
-    if mark / 2 % 2 != mark / 32 % 2 {
+    if mark_m(mark) != return_m(mark) {
         return false;
     }
-    mark / 4 % 2 == mark / 64 % 2
+    mark_x(mark) == return_x(mark)
 }
 
 // Number 10: the rule of RTS and RTL.
@@ -255,6 +262,6 @@ pub(crate) fn step_at(
             bytes: 1,
         };
     }
-    let layout = layout_at(codes, image, at, mark / 2 % 2, mark / 4 % 2);
+    let layout = layout_at(codes, image, at, mark_m(mark), mark_x(mark));
     layout_result(image, marks, base, at, layout)
 }

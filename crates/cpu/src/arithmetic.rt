@@ -1,6 +1,6 @@
 // What operations do with data and a register of the file, over the width of the data. The place of the register is
-// asked to be one of the file's eight, as three bits of a task are, so that no step tests it. What `viewed` leaves open
-// of an effect is named in effects.rt.
+// asked to be one of the file's eight, as three bits of a task are, so that no step tests it. What `asEffect` leaves
+// open of an effect is named in effects.rt.
 use crate::effects::Effect;
 use crate::effects::bytes;
 use crate::effects::leaves;

@@ -22,9 +22,9 @@ ghost use Rattle.cpu.specs.File.{registersOf};
 ghost use Rattle.cpu.specs.CodeEffects.{codeEffect, Makes};
 
 // Two registers at most get a value, and then the status gets its own: a register that is not to change is named by the
-// status' place. Promises by `viewed` (specs/View.antt) settle what the registers then are, the stores and the branch.
-// Left open are which register is named first, the value for the status' place and the upper byte of DT's: who puts an
-// effect into the file (`machine::commit::put`) comes to the same registers.
+// status' place. Promises by `asEffect` (specs/CodeEffects.antt) settle what the registers then are, the stores and
+// the branch. Left open are which register is named first, the value for the status' place and the upper byte of
+// DT's: who puts an effect into the file (`machine::commit::put`) comes to the same registers.
 pub struct Effect {
     pub first: usize,
     pub value: u16,

@@ -73,7 +73,7 @@ module _ (page : ℕ) (bytes : List ℕ) (m x : ℕ) where
       by true false c carried inside = tt
       by false b c carried inside = tt
 
--- what is decoded is the frame's instruction
+-- what is decoded is the layout's instruction
 pub decoded-layout : (bytes : List ℕ) (m x : ℕ) → decode bytes m x ≡ decodedOf bytes (layoutRead bytes m x)
 unfolding decode layoutRead
 decoded-layout bytes m x = decoded-on (pageOf (getD bytes 0 0)) bytes m x

@@ -33,6 +33,7 @@ ghost use Rattle.codepages.specs.Packing.{
   unpacked,
 };
 
+// The mode of a number, in the order of the definition's list; any other number gives the first, here and below.
 fn mode_at(n: u32) -> Mode
     ensures { λ r. ⌜ r ≡ getD modes n Mode.Implied ⌝ }
 {
@@ -68,6 +69,7 @@ fn mode_at(n: u32) -> Mode
     }
 }
 
+// The accumulator of a number.
 fn accumulator_at(n: u32) -> Accumulator
     ensures { λ r. ⌜ r ≡ getD accumulators n Accumulator.Unnamed ⌝ }
 {
@@ -78,6 +80,7 @@ fn accumulator_at(n: u32) -> Accumulator
     }
 }
 
+// The flow of a number.
 fn flow_at(n: u32) -> Flow
     ensures { λ r. ⌜ r ≡ getD flows n Flow.Next ⌝ }
 {
@@ -93,6 +96,7 @@ fn flow_at(n: u32) -> Flow
     }
 }
 
+// The target's form of a number.
 fn target_at(n: u32) -> Target
     ensures { λ r. ⌜ r ≡ getD targets n Target.NoTarget ⌝ }
 {
@@ -105,6 +109,7 @@ fn target_at(n: u32) -> Target
     }
 }
 
+// The width effect of a number.
 fn effect_at(n: u32) -> WidthEffect
     ensures { λ r. ⌜ r ≡ getD effects n WidthEffect.KeepWidths ⌝ }
 {
@@ -117,6 +122,7 @@ fn effect_at(n: u32) -> WidthEffect
     }
 }
 
+// The length rule of a number.
 fn rule_at(n: u32) -> LengthRule
     ensures { λ r. ⌜ r ≡ getD rules n LengthRule.Fixed ⌝ }
 {
@@ -127,6 +133,7 @@ fn rule_at(n: u32) -> LengthRule
     }
 }
 
+// The data's width of a number.
 fn width_at(n: u32) -> DataWidth
     ensures { λ r. ⌜ r ≡ getD widths n DataWidth.NoData ⌝ }
 {
@@ -146,30 +153,35 @@ pub fn mode_of(n: u32) -> Mode
     mode_at(n / 128 % 32)
 }
 
+// The accumulator that the syntax names.
 pub fn accumulator_of(n: u32) -> Accumulator
     ensures { λ r. ⌜ r ≡ unpacked n .accumulator ⌝ }
 {
     accumulator_at(n / 4_096 % 4)
 }
 
+// Whether the code is carried.
 pub fn is_carried(n: u32) -> bool
     ensures { λ r. ⌜ r ≡ unpacked n .carried ⌝ }
 {
     n / 16_384 % 2 == 1
 }
 
+// Where control goes from the instruction.
 pub fn flow_of(n: u32) -> Flow
     ensures { λ r. ⌜ r ≡ unpacked n .flow ⌝ }
 {
     flow_at(n / 32_768 % 8)
 }
 
+// How the operand names the target.
 pub fn target_form_of(n: u32) -> Target
     ensures { λ r. ⌜ r ≡ unpacked n .target ⌝ }
 {
     target_at(n / 262_144 % 8)
 }
 
+// What the instruction does to m and x.
 pub fn effect_of(n: u32) -> WidthEffect
     ensures { λ r. ⌜ r ≡ unpacked n .effect ⌝ }
 {
@@ -183,18 +195,21 @@ pub fn keeps_widths(n: u32) -> bool
     n / 2_097_152 % 8 == 0
 }
 
+// The bytes at m=1 and x=1.
 pub fn bytes_of(n: u32) -> u8
     ensures { λ r. ⌜ (r ≡ unpacked n .bytes) × (r ≤ 7) ⌝ }
 {
     (n / 16_777_216 % 8) as u8
 }
 
+// Which width adds a byte.
 pub fn rule_of(n: u32) -> LengthRule
     ensures { λ r. ⌜ r ≡ unpacked n .rule ⌝ }
 {
     rule_at(n / 134_217_728 % 4)
 }
 
+// Which width the data has.
 pub fn width_of(n: u32) -> DataWidth
     ensures { λ r. ⌜ r ≡ unpacked n .width ⌝ }
 {

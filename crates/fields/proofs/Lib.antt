@@ -2,5 +2,6 @@
 -- written-out reads come to.
 pub mod Fields
 pub mod Reading
+pub mod FieldReading
 pub mod Words
 pub mod Writing

@@ -6,14 +6,14 @@ use mathlib.Core.Bool.{Bool, true, false}
 use Prim.Native.Nat.{ℕ, _/_, _%_, _<_}
 use lib.Dec.{T, eqb, eqb→eq, ltb}
 use Rattle.prelude.specs.Choice.{pick}
-use Rattle.model.specs.Image.{isFormed}
+use Rattle.model.specs.Image.{markKind, isFormed}
 use Rattle.prelude.proofs.Table.{upTo, below-all}
 
 abbrev chosen : ℕ → ℕ
 chosen mark =
     pick (eqb (mark % 2) 1)
     (pick (ltb mark 128)
-    (pick (eqb (mark / 8 % 4) 0) (pick (eqb (mark / 32) 0) 0 1) (pick (eqb (mark / 8 % 4) 3) 1 0))
+    (pick (eqb (markKind mark) 0) (pick (eqb (mark / 32) 0) 0 1) (pick (eqb (markKind mark) 3) 1 0))
     1)
     (pick (eqb mark 0) 0 1)
 

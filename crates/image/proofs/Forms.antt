@@ -58,7 +58,7 @@ module _ (test : ℕ → Bool) where
   pub all-told-at : (bad i n : ℕ) → Told bad i → i ≤ n → n ≤ i → eqb bad 0 ≡ eqb (firstFrom test 0 n) n
   all-told-at bad i n told most least = let here : i ≡ n = omega arith in all-told bad n (rw here at told)
 
--- a misfit is a mark without the form
+-- a malformed mark is one without the form
 pub malformed-unformed : (b : Bool) → _≡_ {A = ℕ} (pick b 0 1) (pick (not b) 1 0)
 malformed-unformed true = refl
 malformed-unformed false = refl

@@ -1,4 +1,7 @@
 // What the check, the machine and the lists all ask of an image and its marks.
+pub mod marks;
+
+use crate::marks::mark_kind;
 use fields::byte_at;
 use types::addresses::ADDRESS_LIMIT;
 use types::addresses::BANK_SIZE;
@@ -61,10 +64,11 @@ fn choose(test: bool, yes: u8, no: u8) -> u8
 fn malformed(mark: u8) -> u8
     ensures { λ r. ⌜ r ≡ pick (isFormed mark) 0 1 ⌝ }
 {
+    let kind = mark_kind(mark);
     let by_kind = choose(
-        mark / 8 % 4 == 0,
+        kind == 0,
         choose(mark / 32 == 0, 0, 1),
-        choose(mark / 8 % 4 == 3, 1, 0),
+        choose(kind == 3, 1, 0),
     );
     let by_bit_7 = choose(mark < 128, by_kind, 1);
     choose(mark % 2 == 1, by_bit_7, choose(mark == 0, 0, 1))

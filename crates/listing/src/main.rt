@@ -16,16 +16,19 @@ ghost use mathlib.Core.Path.{_≡_};
 ghost use Prim.Native.Nat.{_<_, _≤_};
 ghost use Rattle.codepages.specs.Packing.{packedPages};
 
+// Writes to standard output.
 fn say(text: &[u8]) {
     io::write_all(STDOUT_FILENO, text);
 }
 
+// A digit in capitals.
 fn say_digit(n: u8)
     requires { ⌜ n < 36 ⌝ }
 {
     say(&[digit(n)]);
 }
 
+// The prefix of a page, -- for none.
 fn say_page(page: usize) {
     if page == 0 {
         say(b"--");
@@ -36,6 +39,7 @@ fn say_page(page: usize) {
     }
 }
 
+// The accumulator that the syntax names, - for none.
 fn say_accumulator(accumulator: Accumulator) {
     match accumulator {
         Accumulator::Unnamed => say(b" -"),
@@ -78,6 +82,7 @@ fn say_mode(mode: Mode) {
     }
 }
 
+// The length at two widths.
 fn say_length(entry: Entry, m: u8, x: u8)
     requires { ⌜ entry .bytes ≤ 6 ⌝ }
 {
@@ -85,6 +90,7 @@ fn say_length(entry: Entry, m: u8, x: u8)
     say_digit(length_at(entry, m, x));
 }
 
+// All of a line behind the code, of an assigned one.
 fn say_entry(n: u32, entry: Entry)
     requires { ⌜ entry .bytes ≤ 6 ⌝ }
 {
@@ -106,6 +112,7 @@ fn say_entry(n: u32, entry: Entry)
     }
 }
 
+// Whether a code has an operation.
 fn is_assigned(operation: Operation) -> bool {
     if let Operation::Unassigned = operation {
         false
@@ -114,6 +121,7 @@ fn is_assigned(operation: Operation) -> bool {
     }
 }
 
+// The line of a code.
 fn say_line(codes: &CodePages, page: usize, code: u8)
     requires { ⌜ (now codes ≡ packedPages) × (page < 3) ⌝ }
 {
@@ -130,6 +138,7 @@ fn say_line(codes: &CodePages, page: usize, code: u8)
     }
 }
 
+// The 256 lines of a page.
 fn list_page(codes: &CodePages, page: usize)
     requires { ⌜ (now codes ≡ packedPages) × (page < 3) ⌝ }
 {
@@ -141,6 +150,7 @@ fn list_page(codes: &CodePages, page: usize)
     say_line(codes, page, 255);
 }
 
+// The three pages.
 fn main() {
     let codes = pages();
     list_page(&codes, 0);

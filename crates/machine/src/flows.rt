@@ -202,7 +202,7 @@ fn pushes_return(s: u16, next: u32, kind: Kind) -> Stores
     }
 }
 
-// The entry of an open call.
+// The record of an open call.
 fn entry_of(address: u32, kind: Kind) -> u64
     ensures { λ r. ⌜ r ≡ spec.callRecord address (kindNumber kind) ⌝ }
 {

@@ -31,6 +31,7 @@ ghost use Rattle.operations.specs.Table.{Tasked};
 ghost use Rattle.machine.specs.Fetches.{instruction, Bounded, isBranch};
 ghost use Rattle.machine.specs.StepResults.{state, coreAt, left};
 
+// Whether an operation may branch: its target is then worked out.
 fn is_branch(flow: Flow) -> bool
     ensures { λ r. ⌜ r ≡ isBranch flow ⌝ }
 {
@@ -44,7 +45,7 @@ fn is_branch(flow: Flow) -> bool
     }
 }
 
-// The entry of the call opened last.
+// The record of the call opened last.
 fn last_opened(calls: &[u64; CALL_LIMIT], depth: usize) -> u64
     requires { ⌜ depth ≤ spec.callLimit ⌝ }
     ensures { λ r. ⌜ r ≡ getD (now (calls .entry)) (depth - 1) 0 ⌝ }

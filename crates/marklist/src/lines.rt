@@ -2,6 +2,12 @@
 use fields::byte_at;
 use image::is_formed;
 use image::is_start;
+use image::marks::mark_kind;
+use image::marks::mark_m;
+use image::marks::mark_of;
+use image::marks::mark_x;
+use image::marks::return_m;
+use image::marks::return_x;
 use text::bytes::put_bytes;
 use text::bytes::starts_with;
 use text::digits::digit;
@@ -37,24 +43,12 @@ fn kind_letter(kind: u8) -> u8
 pub fn fields(mark: u8) -> [u8; 11]
     ensures { λ r. ⌜ r ≡ spec.fields mark ⌝ }
 {
-    let m = digit(mark / 2 % 2);
-    let x = digit(mark / 4 % 2);
-    let kind = kind_letter(mark / 8 % 4);
-    let return_m = digit(mark / 32 % 2);
-    let return_x = digit(mark / 64 % 2);
-    [
-        TAB,
-        m,
-        TAB,
-        x,
-        TAB,
-        kind,
-        TAB,
-        return_m,
-        TAB,
-        return_x,
-        LINE_END,
-    ]
+    let m = digit(mark_m(mark));
+    let x = digit(mark_x(mark));
+    let kind = kind_letter(mark_kind(mark));
+    let rm = digit(return_m(mark));
+    let rx = digit(return_x(mark));
+    [TAB, m, TAB, x, TAB, kind, TAB, rm, TAB, rx, LINE_END]
 }
 
 // How many bytes the line of a mark has.
@@ -103,9 +97,9 @@ fn fields_mark(text: &[u8]) -> u8
     let m = bit_shown(byte_at(text, 1));
     let x = bit_shown(byte_at(text, 3));
     let kind = kind_shown(byte_at(text, 5));
-    let return_m = bit_shown(byte_at(text, 7));
-    let return_x = bit_shown(byte_at(text, 9));
-    1 + 2 * m + 4 * x + 8 * kind + 32 * return_m + 64 * return_x
+    let rm = bit_shown(byte_at(text, 7));
+    let rx = bit_shown(byte_at(text, 9));
+    mark_of(m, x, kind, rm, rx)
 }
 
 // The mark that a text shows for an address: that of the line it begins with, 0 where that is no line of this address.

@@ -15,6 +15,7 @@ pub enum Stores {
     Three(Store, Store, Store),
 }
 
+// Whether a byte can be stored at an address: in RAM alone.
 fn served_at(ram: &[u8], image: &[u8], base: u32, address: u64) -> Served
     ensures { λ r. ⌜ r ≡ servedAt (memory (now (ram .entry)) (now (image .entry)) base) address ⌝ }
 {
@@ -32,6 +33,7 @@ fn served_at(ram: &[u8], image: &[u8], base: u32, address: u64) -> Served
     Served::Unserved(Stop::Unmapped)
 }
 
+// The first store that can't be served decides.
 fn and_then(first: Served, more: Served) -> Served
     ensures { λ r. ⌜ r ≡ andThen first more ⌝ }
 {

@@ -41,7 +41,7 @@ below-end j n h ne = ⊎-elim (λ (e : j ≡ n). absurd (ne e)) (λ (below : j <
 
 -- ---- 8 and 9
 
--- a want among those owed
+-- a requirement among those owed
 abbrev Failing : (Requirement → Type 0) → Requirements → Type 0
 Failing bad o = (w : Requirement) × Among w o × bad w
 

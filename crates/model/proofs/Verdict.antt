@@ -56,7 +56,7 @@ all-clear marks at n h =
       found = λ inside. absurd (omega arith);
     }))
 
--- ---- 8 and 9: the wants
+-- ---- 8 and 9: the requirements
 
 met-tests : (marks : List ℕ) (base : ℕ) (w : Requirement) → isStartAt marks base w ≡ true
     → hasMarkAt marks base w ≡ true

@@ -16,7 +16,7 @@ use Rattle.types.specs.declared.rules.Requirements.{Requirements}
 use Rattle.model.specs.Image.{isStart, isFormed, lengthFits, baseFits, markAt, resetFits}
 use Rattle.model.specs.Rules.{owedThere, returnFits, instructionAt, StartRules}
 
--- a want is among what is owed
+-- a requirement is among what is owed
 abbrev pub Among : Requirement → Requirements → Type 0
 Among w Requirements.Nothing = ⊥
 Among w (Requirements.One v) = w ≡ v
@@ -27,7 +27,7 @@ module _ (image marks : List ℕ) (base at : ℕ) where
   abbrev pub Clear : Instruction → Type 0
   Clear i = (k : ℕ) → at < k → k < at + i .length → isStart (getD marks k 0) ≡ false
 
-  -- every want's address is a marked start
+  -- every required address is a marked start
   abbrev pub AllStarts : Instruction → Type 0
   AllStarts i = (w : Requirement) → Among w (owedThere marks base at i)
       → isStart (markAt marks base (w .address)) ≡ true

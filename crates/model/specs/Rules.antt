@@ -132,7 +132,7 @@ returnFits (Flow.Call kind) mark = true
 returnFits (Flow.Return kind) mark = returnsBy kind mark
 returnFits Flow.Halt mark = true
 
--- a want is met by a marked start in the image with that mark
+-- a requirement is met by a marked start in the image with that mark
 pub record Met (marks : List ℕ) (base : ℕ) (w : Requirement) : Type 0 where
   pub is-start : isStart (markAt marks base (w .address)) ≡ true
   pub has-mark : markAt marks base (w .address) ≡ w .mark

@@ -45,7 +45,7 @@ allMarks marks base Requirements.Nothing = true
 allMarks marks base (Requirements.One w) = hasMarkAt marks base w
 allMarks marks base (Requirements.Two v w) = hasMarkAt marks base v && hasMarkAt marks base w
 
--- the rules of a whole instruction: '7, 10, 8, 9'. 8 on every want comes before 9 on any.
+-- the rules of a whole instruction: '7, 10, 8, 9'. 8 on every requirement comes before 9 on any.
 abbrev pub wholeTests : List ℕ → ℕ → ℕ → Instruction → Tests
 wholeTests marks base at i =
     (isClear marks at (i .length), Refusal.Overlap)

@@ -9,7 +9,7 @@ use types::machine::RECORD_UNIT;
 use types::machine::Registers;
 use types::machine::Status;
 ghost use mathlib.Core.Path.{_≡_};
-ghost use Prim.Native.Nat.{_≤_};
+ghost use Prim.Native.Nat.{_≤_, _<_};
 ghost use lib.ListN.{length};
 ghost use Rattle.model.specs.Run.{ramFits, callFits, callsFit, stateFits};
 ghost use Rattle.model.specs.Step.{callLimit};
@@ -29,6 +29,7 @@ const RAM_LIMIT: usize = 4_096;
 
 // A word of a state's bytes.
 fn word_at(bytes: &[u8], at: usize) -> u16
+    requires { ⌜ at < 65_536 ⌝ }
     ensures { λ r. ⌜ r ≡ fieldAt at 2 (now (bytes .entry)) ⌝ }
 {
     field_at(bytes, at, 2) as u16
@@ -36,6 +37,7 @@ fn word_at(bytes: &[u8], at: usize) -> u16
 
 // A single byte of them.
 fn single_at(bytes: &[u8], at: usize) -> u8
+    requires { ⌜ at < 65_536 ⌝ }
     ensures { λ r. ⌜ r ≡ fieldAt at 1 (now (bytes .entry)) ⌝ }
 {
     field_at(bytes, at, 1) as u8

@@ -23,6 +23,7 @@ fn clear_bit(width: u8, bit: u64) -> u8
     if bit == 1 { 0 } else { width }
 }
 
+// m after an instruction.
 pub fn m_after(effect: WidthEffect, m: u8, operand: u64) -> u8
     ensures { λ r. ⌜ r ≡ rules.mAfter effect m operand ⌝ }
 {
@@ -35,6 +36,7 @@ pub fn m_after(effect: WidthEffect, m: u8, operand: u64) -> u8
     }
 }
 
+// x after an instruction.
 pub fn x_after(effect: WidthEffect, x: u8, operand: u64) -> u8
     ensures { λ r. ⌜ r ≡ rules.xAfter effect x operand ⌝ }
 {

@@ -15,10 +15,12 @@ ghost use lib.ListN.{length};
 // The numbers of the papers end at 27.
 const NUMBERS: usize = 28;
 
+// Writes to standard output.
 fn say(text: &[u8]) {
     io::write_all(STDOUT_FILENO, text);
 }
 
+// A number in decimal digits.
 fn say_number(n: u64) {
     io::print_decimal(STDOUT_FILENO, n);
 }
@@ -30,6 +32,7 @@ fn count(numbers: &mut [u64; NUMBERS], number: usize) {
     }
 }
 
+// How many records of a kind agreed, and whether the files were whole.
 fn say_score(agreed: u64, records: u32, whole: bool) {
     say_number(agreed);
     say(b" of ");
@@ -105,6 +108,7 @@ fn try_files(kind: Kind, name: &mut [u8])
     say_counts(numbers);
 }
 
+// All kinds of records, a line each.
 fn main() {
     let mut check = *b"check-00.bin";
     try_files(Kind::Check, &mut check);

@@ -40,18 +40,22 @@ pub(crate) fn take<'a>(file: &'a [u8], at: &mut usize, size: usize) -> &'a [u8] 
     &file[first..end]
 }
 
+// A number of eight bytes.
 pub(crate) fn take_u64(file: &[u8], at: &mut usize) -> u64 {
     number(take(file, at, 8))
 }
 
+// Of four bytes.
 pub(crate) fn take_u32(file: &[u8], at: &mut usize) -> u32 {
     (number(take(file, at, 4)) % 4_294_967_296) as u32
 }
 
+// Of two bytes.
 pub(crate) fn take_u16(file: &[u8], at: &mut usize) -> u16 {
     (number(take(file, at, 2)) % 65_536) as u16
 }
 
+// Of one byte.
 fn take_u8(file: &[u8], at: &mut usize) -> u8 {
     (number(take(file, at, 1)) % 256) as u8
 }

@@ -47,6 +47,7 @@ pub(crate) fn trial_at(kind: Kind, file: &[u8], at: &mut usize) -> Trial {
     }
 }
 
+// A check and its answer.
 fn try_check(file: &[u8], at: &mut usize) -> Trial {
     let base = take_u32(file, at);
     let reset = take_u32(file, at);
@@ -103,6 +104,7 @@ fn run_number(answer: u64) -> usize {
     }
 }
 
+// A list read, and the marks that it leaves.
 fn try_read(file: &[u8], at: &mut usize) -> Trial {
     let text = take_bytes(file, at);
     let size = take_u32(file, at) as usize;
@@ -123,6 +125,7 @@ fn try_read(file: &[u8], at: &mut usize) -> Trial {
     }
 }
 
+// A list written, and the page that it leaves.
 fn try_write(file: &[u8], at: &mut usize) -> Trial {
     let base = take_u32(file, at);
     let reset = take_u32(file, at);

@@ -101,11 +101,11 @@ pub struct Core {
 // At most so many calls are open.
 pub const CALL_LIMIT: usize = 64;
 
-// The place of an open call's kind in its entry.
+// The place of an open call's kind in its record.
 pub const RECORD_UNIT: u64 = 4_294_967_296;
 
-// The state: the open calls stand in the first `depth` entries, the first opened first, each as one number
-// (model/specs/Step.antt, `entryOf`).
+// The state: the open calls stand in the first `depth` records, the first opened first, each as one number
+// (model/specs/Step.antt, `callRecord`).
 pub struct State {
     pub core: Core,
     pub calls: [u64; CALL_LIMIT],

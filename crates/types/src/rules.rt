@@ -7,7 +7,7 @@ pub struct Requirement {
     pub mark: u8,
 }
 
-// What a start owes: nothing, or one or two wants.
+// What a start owes: nothing, or one or two requirements.
 pub enum Requirements {
     Nothing,
     One(Requirement),

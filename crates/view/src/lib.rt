@@ -4,6 +4,8 @@ pub mod plain;
 use codepages::CodePages;
 use decoder::decode_at;
 use fields::byte_at;
+use image::marks::mark_m;
+use image::marks::mark_x;
 use types::code::Decoded;
 use types::rules::Verdict;
 ghost use mathlib.Core.Path.{_≡_};
@@ -18,7 +20,9 @@ fn decode_marked(image: &[u8], marks: &[u8], codes: &CodePages, at: usize) -> De
     ensures { λ r. ⌜ r ≡ instructionAt (now (image .entry)) (now (marks .entry)) at ⌝ }
 {
     let mark = byte_at(marks, at);
-    decode_at(codes, image, at, mark / 2 % 2, mark / 4 % 2)
+    let m = mark_m(mark);
+    let x = mark_x(mark);
+    decode_at(codes, image, at, m, x)
 }
 
 // An image, the marks beside it and its base address. Any lengths and any base: the check judges them.

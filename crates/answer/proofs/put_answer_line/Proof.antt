@@ -9,8 +9,11 @@ use Rattle.answer.proofs.put_answer_line.Tie as tie
 returns : tie.Need-returns
 unfolding spec.answerLine
 returns c =
-    let put = rw (c .before .before .before .answer-for .ensures) at (c .before .before .put-answer .ensures) in
-    ((put .size, put .same), put-inside put (c .before .before .before .before .before .before .before .before .pre))
+    let written = c .before .before in
+    let answered = written .before in
+    let start = answered .before .before .before .before .before in
+    let put = rw (answered .answer-for .ensures) at (written .put-answer .ensures) in
+    ((put .size, put .same), put-inside put (start .pre))
 
 pub put-answer-line-spec : {M : Type 1} → statement M
 put-answer-line-spec = tie.close (tie.spec (λ c κs. search needs) (λ c κs. search needs) (λ c. search needs) returns)

@@ -21,29 +21,36 @@ loop-holds c =
 
 put-field-requires : tie.Need-put-field-requires Inv-loop μ-loop
 put-field-requires c κs =
-    let start = c .before .before .before .before .before .before in
-    let loop = c .before .before .before .loop in
+    let test = c .before .before in
+    let head = test .before in
+    let start = head .before .before .before in
+    let loop = head .loop in
     field-room (start .args .bytes .now) (start .args .from) (start .args .size) (start .args .values .now)
-    (loop .bytes) (loop .at) (loop .i) (start .pre) (c .before .before .loop-test .taken) (loop .inv)
+    (loop .bytes) (loop .at) (loop .i) (start .pre) (test .loop-test .taken) (loop .inv)
 
 add-at : tie.Need-add-at Inv-loop μ-loop
 add-at c =
-    let start = c .before .before .before .before .before .before .before .before .before in
-    let loop = c .before .before .before .before .before .before .loop in
+    let put = c .before .before in
+    let test = put .before .before .before in
+    let head = test .before in
+    let start = head .before .before .before in
+    let loop = head .loop in
     omega (
       arith,
       field-room (start .args .bytes .now) (start .args .from) (start .args .size) (start .args .values .now)
-          (loop .bytes) (loop .at) (loop .i) (start .pre) (c .before .before .before .before .before .loop-test .taken)
-          (loop .inv),
+          (loop .bytes) (loop .at) (loop .i) (start .pre) (test .loop-test .taken) (loop .inv),
     )
 
 loop-again : tie.Need-loop-again Inv-loop μ-loop
 loop-again c =
-    let start = c .before .before .before .before .before .before .before .before .before in
-    let loop = c .before .before .before .before .before .before .loop in
+    let put = c .before .before in
+    let test = put .before .before .before in
+    let head = test .before in
+    let start = head .before .before .before in
+    let loop = head .loop in
     field-less (start .args .bytes .now) (start .args .from) (start .args .size) (start .args .values .now)
-    (loop .bytes) (loop .at) (loop .i) (start .pre) (c .before .before .before .before .before .loop-test .taken)
-    (loop .inv) (c .before .before .put-field .last .0) (c .before .before .put-field .ensures)
+    (loop .bytes) (loop .at) (loop .i) (start .pre) (test .loop-test .taken) (loop .inv)
+    (put .put-field .last .0) (put .put-field .ensures)
 
 same-length : tie.Need-same-length Inv-loop μ-loop
 same-length c = c .before .loop .inv .1

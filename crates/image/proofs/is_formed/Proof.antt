@@ -1,4 +1,4 @@
--- A mark is no misfit exactly when it has the form.
+-- A mark is not malformed exactly when it has the form.
 -- Assumes nothing.
 use Rattle.image.proofs.Form.{no-malformed}
 use Rattle.model.specs.Image.{isFormed}

@@ -1,4 +1,4 @@
--- Field by field.
+-- Each register is the field at its own place, and the rewriting takes them from the last to the first.
 -- Assumes nothing.
 use borrow.Author.Needs.{needs}
 use Rattle.model.specs.StateBytes.{coreOf, stateOf}

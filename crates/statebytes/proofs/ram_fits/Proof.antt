@@ -1,4 +1,4 @@
--- Each exit has passed the tests of the definition in its order.
+-- 11's three causes in their order: none, over the limit, more than the base's number.
 -- Assumes nothing.
 use mathlib.Core.Path.{refl}
 use native.Mathlib.Omega.{arith}

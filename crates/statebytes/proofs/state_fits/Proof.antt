@@ -1,4 +1,4 @@
--- Each exit has passed the tests of the definition in its order.
+-- 12's three causes in their order: PS, the number of open calls, then each of them.
 -- Assumes nothing.
 use borrow.Author.Needs.{needs}
 use borrow.Author.Tests.{lt-ltb, le-ltb, le-leb, lt-leb}

@@ -8,8 +8,10 @@ use Rattle.statebytes.proofs.words_of.Tie as tie
 
 returns : tie.Need-returns
 returns c =
-    let start = c .before .before .before .before .before .before .before .before .before .before .before in
-    words-head (start .args .core) (c .before .number .result) (c .word-of .result) (c .before .number .ensures)
+    let status = c .before in
+    let first = status .before .before .before .before .before .before .before in
+    let start = first .before .before .before in
+    words-head (start .args .core) (status .number .result) (c .word-of .result) (status .number .ensures)
     (c .word-of .ensures) (omega arith)
 
 pub words-of-spec : {M : Type 1} → statement M

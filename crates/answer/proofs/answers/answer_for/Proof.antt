@@ -1,4 +1,4 @@
--- Each exit has passed the tests of the definition in its order.
+-- Each length over its limit is L; else the list is read into as many marks as the image has bytes.
 -- Assumes nothing.
 use Rattle.answer.proofs.AnswerLaws.{long-list, long-image, both-short}
 use lib.Seq.{length-take-le}

@@ -7,9 +7,17 @@ use Rattle.checker.proofs.owed.mark_on_return.Tie as tie
 
 returns : tie.Need-returns
 unfolding markOnReturn
-returns c = c .mark-of .ensures
+returns c =
+    rw (
+      ← c .before .before .before .before .before .return-m .ensures .0,
+      ← c .before .before .before .before .return-x .ensures .0,
+      ← c .before .before .before .mark-kind .ensures .0,
+      ← c .before .before .return-m2 .ensures .0,
+      ← c .before .return-x2 .ensures .0,
+    ) (c .mark-of .ensures)
 
 pub mark-on-return-spec : {M : Type 1} → statement M
-mark-on-return-spec = tie.close
-    (tie.spec
-    (λ c κs. search needs) returns)
+mark-on-return-spec =
+    tie.close
+    (tie.spec (λ c κs. search needs) (λ c κs. search needs) (λ c κs. search needs) (λ c κs. search needs)
+    (λ c κs. search needs) (λ c κs. search needs) returns)

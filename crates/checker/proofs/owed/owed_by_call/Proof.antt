@@ -1,4 +1,4 @@
--- The wants are the definition's at the mark that stands at the target.
+-- The requirements are the definition's at the mark that stands at the target.
 -- Assumes nothing.
 use Rattle.model.specs.Rules.{owedBy}
 use borrow.Author.Needs.{needs}

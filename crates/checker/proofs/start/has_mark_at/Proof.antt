@@ -1,4 +1,4 @@
--- The mark at the want's address is compared with the want's.
+-- The mark at the required address is compared with the required one.
 -- Assumes nothing.
 use Rattle.model.specs.Verdict.{hasMarkAt}
 use borrow.Author.Needs.{needs}

@@ -1,4 +1,4 @@
--- `is_start` of the mark at the want's address.
+-- `is_start` of the mark at the required address.
 -- Assumes nothing.
 use Rattle.model.specs.Verdict.{isStartAt}
 use borrow.Author.Needs.{needs}

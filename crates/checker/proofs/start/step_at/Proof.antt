@@ -1,6 +1,5 @@
 -- What is layout at a start decides what is decoded there, and keeps the bounds that its rules ask for.
 -- Assumes nothing.
-use Prim.Native.Nat.{_/_, _%_}
 use lib.ListN.{drop}
 use borrow.Author.Tests.{not-true, not-false}
 use Rattle.decoder.proofs.Layouts.{fits-in, decoded-layout}
@@ -21,36 +20,32 @@ returns c =
     )
 
 layout-result-requires : tie.Need-layout-result-requires
-layout-result-requires c κs = (
-  fits-in (c .before .before .before .before .before .before .args .image .now)
-      (c .before .before .before .before .before .before .args .at)
-      (c .before .before .before .byte-at .result / 2 % 2) (c .before .before .before .byte-at .result / 4 % 2)
-      (c .layout-at .result) (c .layout-at .ensures),
-  c .before .before .before .before .before .before .pre .1,
-  c .before .before .before .before .before .before .pre .2,
-)
+layout-result-requires c κs =
+    let start = c .before .before .before .before .before .before .before .before in (
+      fits-in (start .args .image .now) (start .args .at) (c .before .before .mark-m .result)
+          (c .before .mark-x .result) (c .layout-at .result) (c .layout-at .ensures),
+      start .pre .1,
+      start .pre .2,
+    )
 
 returns-2 : tie.Need-returns-2
 unfolding startResult bytesAt
 returns-2 c =
+    let started = c .before .before .before .before in
+    let args = started .before .before .before .before .before .args in
     rw (
-      ← c .before .before .before .before .byte-at .ensures,
-      ← c .before .before .before .is-start .ensures,
-      not-false (c .before .before .before .is-start .result) (c .before .before .if1 .left),
-      decoded-layout (drop (c
-          .before .before .before .before .before .before .before .args .at) (c .before .before .before .before .before
-          .before .before .args .image .now)) (c .before .before .before .before .byte-at .result / 2 % 2) (c .before
-          .before .before .before .byte-at .result / 4 % 2),
+      ← started .before .before .byte-at .ensures,
+      ← started .before .is-start .ensures,
+      not-false (started .before .is-start .result) (started .if1 .left),
+      ← c .before .before .before .mark-m .ensures .0,
+      ← c .before .before .mark-x .ensures .0,
+      decoded-layout (drop (args .at) (args .image .now)) (c .before .before .before .mark-m .result)
+          (c .before .before .mark-x .result),
       ← c .before .layout-at .ensures,
     ) (c .layout-result .ensures)
 
 pub step-at-spec : {M : Type 1} → statement M
 step-at-spec =
     tie.close
-    (tie.spec
-    (λ c κs. search needs)
-    (λ c κs. search needs)
-    returns
-    (λ c κs. search needs)
-    layout-result-requires
-    returns-2)
+    (tie.spec (λ c κs. search needs) (λ c κs. search needs) returns (λ c κs. search needs) (λ c κs. search needs)
+    (λ c κs. search needs) layout-result-requires returns-2)

@@ -22,29 +22,39 @@ returns c =
 
 operand-at-requires : tie.Need-operand-at-requires
 operand-at-requires c κs =
-    let a = c .before .before .before .before .before .before .before .before .args in
-    let m = c .before .before .before .before .before .bit-at .result in
-    let x = c .before .before .before .before .bit-at2 .result in
-    let layout = c .before .before .before .layout-at in
-    fits-at (a .image .now) (a .place - a .base) m x (layout .result) (layout .ensures) _ (c .before .layout .given .1)
+    let matched = c .before in
+    let decoded = matched .before .before in
+    let x-at = decoded .before in
+    let m-at = x-at .before in
+    let from = m-at .before in
+    let start = from .before .before in
+    let a = start .args in
+    let m = m-at .bit-at .result in
+    let x = x-at .bit-at2 .result in
+    let layout = decoded .layout-at in
+    fits-at (a .image .now) (a .place - a .base) m x (layout .result) (layout .ensures) _ (matched .layout .given .1)
 
 returns-2 : tie.Need-returns-2
 returns-2 c =
-    let start = c .before .before .before .before .before .before .before .before .before in
+    let matched = c .before .before in
+    let decoded = matched .before .before in
+    let x-at = decoded .before in
+    let m-at = x-at .before in
+    let from = m-at .before in
+    let start = from .before .before in
     let a = start .args in
     let at = a .place - a .base in
-    let from = c .before .before .before .before .before .before .before .if1 .left in
-    let m = c .before .before .before .before .before .before .bit-at in
-    let x = c .before .before .before .before .before .bit-at2 in
-    let found = c .before .before .before .before .layout-at in
-    let layout = c .before .before .layout .given in
+    let m = m-at .bit-at in
+    let x = x-at .bit-at2 in
+    let found = decoded .layout-at in
+    let layout = matched .layout .given in
     let f = layout .0 .0 in
     let read = c .operand-at in
     let with-operand : ℕ → Fetched = λ n. record { number = f .number; length = f .length; operand = n } in
     let i = instruction (with-operand (read .result)) in
     let fits = fits-at (a .image .now) at (m .result) (x .result) (found .result) (found .ensures) f (layout .1) in (
       fetched-at (a .image .now) (a .base) (a .place) (a .status) (start .pre .1) (start .pre .2)
-          (omega (arith, from)) (m .result) (x .result) (m .ensures .0) (x .ensures .0) (Decoded.Whole i)
+          (omega (arith, from .if1 .left)) (m .result) (x .result) (m .ensures .0) (x .ensures .0) (Decoded.Whole i)
           (decoded-fits (a .image .now) at (m .result) (x .result) (found .result) (found .ensures) f i (layout .1)
           (ap (λ n. instruction (with-operand n)) (read .ensures .0))),
       (fits .2, read .ensures .1),
@@ -52,14 +62,17 @@ returns-2 c =
 
 returns-3 : tie.Need-returns-3
 returns-3 c =
-    let start = c .before .before .before .before .before .before .before in
+    let decoded = c .before .before in
+    let x-at = decoded .before in
+    let m-at = x-at .before in
+    let from = m-at .before in
+    let start = from .before .before in
     let a = start .args in
-    let from = c .before .before .before .before .before .if1 .left in
-    let m = c .before .before .before .before .bit-at in
-    let x = c .before .before .before .bit-at2 in
-    let layout = c .before .before .layout-at in (
+    let m = m-at .bit-at in
+    let x = x-at .bit-at2 in
+    let layout = decoded .layout-at in (
       fetched-at (a .image .now) (a .base) (a .place) (a .status) (start .pre .1) (start .pre .2)
-          (omega (arith, from)) (m .result) (x .result) (m .ensures .0) (x .ensures .0) Decoded.NotCarried
+          (omega (arith, from .if1 .left)) (m .result) (x .result) (m .ensures .0) (x .ensures .0) Decoded.NotCarried
           (decoded-uncarried (a .image .now) (a .place - a .base) (m .result) (x .result) (layout .result)
           (layout .ensures) (c .enum-told .given .1)),
       tt,
@@ -67,14 +80,17 @@ returns-3 c =
 
 returns-4 : tie.Need-returns-4
 returns-4 c =
-    let start = c .before .before .before .before .before .before .before in
+    let decoded = c .before .before in
+    let x-at = decoded .before in
+    let m-at = x-at .before in
+    let from = m-at .before in
+    let start = from .before .before in
     let a = start .args in
-    let from = c .before .before .before .before .before .if1 .left in
-    let m = c .before .before .before .before .bit-at in
-    let x = c .before .before .before .bit-at2 in
-    let layout = c .before .before .layout-at in (
+    let m = m-at .bit-at in
+    let x = x-at .bit-at2 in
+    let layout = decoded .layout-at in (
       fetched-at (a .image .now) (a .base) (a .place) (a .status) (start .pre .1) (start .pre .2)
-          (omega (arith, from)) (m .result) (x .result) (m .ensures .0) (x .ensures .0) Decoded.CutOff
+          (omega (arith, from .if1 .left)) (m .result) (x .result) (m .ensures .0) (x .ensures .0) Decoded.CutOff
           (decoded-short (a .image .now) (a .place - a .base) (m .result) (x .result) (layout .result)
           (layout .ensures) (c .enum-told2 .given .1)),
       tt,

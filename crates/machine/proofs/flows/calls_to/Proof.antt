@@ -39,10 +39,16 @@ returns-2 c =
 
 put-requires : tie.Need-put-requires
 put-requires c κs =
-    let told = c .before .before .before .before .before .before .before .before .before .before in
-    let start = told .before .before .before .before .before .before .before .before .before .before in (
+    let pushed-at = c .before in
+    let entered = pushed-at .before .before .before .before in
+    let written = entered .before .before .before in
+    let told = written .before .before in
+    let asked = told .before .before in
+    let pushed = asked .before .before in
+    let counted = pushed .before .before in
+    let start = counted .before .before .before .before in (
       start .pre .2,
-      placed (c .puts .result) (c .before .pushed-at .result) (getD (start .args .registers .now) 7 0)
+      placed (c .puts .result) (pushed-at .pushed-at .result) (getD (start .args .registers .now) 7 0)
           (c .puts .ensures),
     )
 

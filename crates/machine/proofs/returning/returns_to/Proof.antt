@@ -43,9 +43,12 @@ returns-3 c =
 
 put-requires : tie.Need-put-requires
 put-requires c κs =
-    let start = c .before .before .before .before .before .before .before .before .before .before in (
+    let pulled = c .before .before .before in
+    let tested = pulled .before .before .before in
+    let numbered = tested .before .before in
+    let start = numbered .before .before in (
       start .pre,
-      placed (c .puts .result) (c .before .before .before .pulled-at .result) (getD (start .args .registers .now) 7 0)
+      placed (c .puts .result) (pulled .pulled-at .result) (getD (start .args .registers .now) 7 0)
           (c .puts .ensures),
     )
 

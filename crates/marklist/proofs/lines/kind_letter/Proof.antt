@@ -1,4 +1,4 @@
--- By the tests in order.
+-- 0 and 1 have letters of their own, any other kind has L.
 -- Assumes nothing.
 use Rattle.model.specs.MarkList as spec
 use borrow.Author.Tests.{eq-eqb, ne-eqb}

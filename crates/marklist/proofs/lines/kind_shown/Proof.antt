@@ -1,4 +1,4 @@
--- By the tests in order.
+-- N and S are told by themselves, and any other letter counts as L.
 -- Assumes nothing.
 use Rattle.model.specs.MarkList as spec
 use borrow.Author.Tests.{eq-eqb, ne-eqb}

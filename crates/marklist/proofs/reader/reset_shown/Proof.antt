@@ -30,14 +30,18 @@ returns-3 c =
 
 lines-end-requires : tie.Need-lines-end-requires
 lines-end-requires c κs =
-    let start = c .before .before .before .before .before .before .before .before .before .before .before in
+    let low = c .before in
+    let inside = low .before in
+    let above = inside .before .before .before in
+    let bank = above .before .before in
+    let start = bank .before .before .before .before in
     let known = list-headed (start .args .h) (start .args .text .now) (start .pre) in (
       rw (c .header-size .ensures) (known .inside),
       omega (
         arith,
         known .few,
-        c .before .before .if3 .left,
-        c .before .low .ensures,
+        inside .if3 .left,
+        low .low .ensures,
         mod-lt (start .args .h .base) {m = bankSize} (omega arith),
       ),
     )

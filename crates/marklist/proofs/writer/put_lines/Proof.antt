@@ -29,32 +29,39 @@ part-put-line-start c = front-inside (c .before .loop .inv .1)
 
 put-line-requires : tie.Need-put-line-requires Inv-loop μ-loop
 put-line-requires c κs =
-    let start = c .before .before .before .before .before .before in
-    let loop = c .before .before .before .loop in
+    let test = c .before .before in
+    let head = test .before in
+    let start = head .before .before .before in
+    let loop = head .loop in
     part-room (spec.lineSize (getD (start .args .marks .now) (loop .i) 0)) (loop .inv .1) (line-fits
     (start .args .page .now) (start .args .address) (start .args .marks .now) (loop .page) (loop .at) (loop .i)
-    (start .pre .0) (c .before .before .loop-test .taken) (loop .inv))
+    (start .pre .0) (test .loop-test .taken) (loop .inv))
 
 add-at : tie.Need-add-at Inv-loop μ-loop
 add-at c =
-    let start = c .before .before .before .before .before .before .before .before .before in
-    let loop = c .before .before .before .before .before .before .loop in
+    let put = c .before .before in
+    let test = put .before .before .before in
+    let head = test .before in
+    let start = head .before .before .before in
+    let loop = head .loop in
     omega (
       arith,
-      c .before .before .put-line .ensures .0,
+      put .put-line .ensures .0,
       line-fits (start .args .page .now) (start .args .address)
           (start .args .marks .now) (loop .page) (loop .at) (loop .i) (start .pre .0)
-          (c .before .before .before .before .before .loop-test .taken) (loop .inv),
+          (test .loop-test .taken) (loop .inv),
     )
 
 loop-again : tie.Need-loop-again Inv-loop μ-loop
 loop-again c =
-    let start = c .before .before .before .before .before .before .before .before .before in
-    let loop = c .before .before .before .before .before .before .loop in
+    let put = c .before .before in
+    let test = put .before .before .before in
+    let head = test .before in
+    let start = head .before .before .before in
+    let loop = head .loop in
     one-more-put (start .args .page .now) (start .args .address) (start .args .marks .now) (loop .page) (loop .at)
-    (loop .i) (start .pre .0) (c .before .before .before .before .before .loop-test .taken) (loop .inv)
-    (c .before .before .put-line .result) (c .before .before .put-line .last .0)
-    (c .before .before .put-line .ensures .0) (c .before .before .put-line .ensures .1)
+    (loop .i) (start .pre .0) (test .loop-test .taken) (loop .inv) (put .put-line .result) (put .put-line .last .0)
+    (put .put-line .ensures .0) (put .put-line .ensures .1)
 
 same-length : tie.Need-same-length Inv-loop μ-loop
 same-length c = front-length (c .before .loop .inv .1)

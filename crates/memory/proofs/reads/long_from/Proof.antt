@@ -1,4 +1,4 @@
--- The bytes are read in the action's order; the first that is not mapped ends both.
+-- Three bytes in the action's order, of which the first that is not mapped ends both; each is below 256.
 -- Assumes nothing.
 use mathlib.Core.Path.{refl}
 use borrow.Author.Needs.{needs}

@@ -1,4 +1,4 @@
--- The bytes are read in the action's order; the first that is not mapped ends both.
+-- Two bytes in the action's order, of which the first that is not mapped ends both.
 -- Assumes nothing.
 use mathlib.Core.Path.{refl}
 use borrow.Author.Needs.{needs}
@@ -10,20 +10,27 @@ returns c = rw (← c .before .before .byte-at .ensures, c .enum-told .given .1)
 
 returns-2 : tie.Need-returns-2
 returns-2 c =
+    let second-read = c .before .before in
+    let low = second-read .before .before in
+    let first-read = low .before .before in
     rw (
-      ← c .before .before .before .before .before .before .byte-at .ensures,
-      c .before .before .before .before .first .given .1,
-      ← c .before .before .byte-at2 .ensures,
+      ← first-read .byte-at .ensures,
+      low .first .given .1,
+      ← second-read .byte-at2 .ensures,
       c .enum-told2 .given .1,
     ) refl
 
 returns-3 : tie.Need-returns-3
 returns-3 c =
+    let high = c .before .before in
+    let second-read = high .before .before in
+    let low = second-read .before .before in
+    let first-read = low .before .before in
     rw (
-      ← c .before .before .before .before .before .before .before .before .byte-at .ensures,
-      c .before .before .before .before .before .before .first .given .1,
-      ← c .before .before .before .before .byte-at2 .ensures,
-      c .before .before .second .given .1,
+      ← first-read .byte-at .ensures,
+      low .first .given .1,
+      ← second-read .byte-at2 .ensures,
+      high .second .given .1,
       c .word-of .ensures,
     ) refl
 

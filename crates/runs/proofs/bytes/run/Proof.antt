@@ -32,6 +32,19 @@ module _ (tested : tie.After-test-run) where
   abbrev bytes : List ℕ
   bytes = start .args .bytes .now
 
+-- where the tests hold, the pages and the tasks are made
+module _ (tasked : tie.After-tasks) where
+  abbrev paged : tie.After-pages
+  paged = tasked .before .before
+
+  abbrev passed : tie.After-enum-told
+  passed = paged .before
+
+-- and the run is made with them
+module _ (ran : tie.After-run-steps) where
+  abbrev admission : tie.After-enum-told
+  admission = passed (ran .before .before .before .before)
+
 bounds : (told : tie.After-enum-told)
     → Bounds (m (told .before .before)) (fits (told .before .before) .fits2 .result)
     (start (told .before .before) .args .asked)
@@ -52,32 +65,34 @@ returns c =
 
 run-steps-requires : tie.Need-run-steps-requires
 run-steps-requires c κs =
-    let pages = c .before .before .before .before .before in
-    let at = pages .before .before .before in
-    let b = bounds (pages .before) in
+    let tasked = c .before .before .before in
+    let at = passed tasked .before .before in
+    let b = bounds (passed tasked) in
     let deep =
     shallow (length (bytes at)) (core at .core-of .result) (calls at .calls-of .result)
     (sym (fits at .fits2 .ensures) ∙ b .taken) in
-    (pages .pages .ensures, c .before .before .before .tasks .ensures, b .whole, b .few, deep, b .steps)
+    (paged tasked .pages .ensures, tasked .tasks .ensures, b .whole, b .few, deep, b .steps)
 
 put-state-requires : tie.Need-put-state-requires
 put-state-requires c κs =
-    let told = c .before .before .before .before .before .before .before .before .before .before .before .before in
+    let ran = c .before .before .before .before .before in
+    let told = admission ran in
     let at = told .before .before in
     long (length (bytes at)) (core at .core-of .result) (calls at .calls-of .result)
     (sym (fits at .fits2 .ensures) ∙ bounds told .taken)
 
 returns-2 : tie.Need-returns-2
 returns-2 c =
-    let ran = c .before .before .before .before .before .before .before .before in
-    let told = ran .before .before .before .before .before .before .before in
+    let written = c .before .before in
+    let ran = written .before .before .before .before .before .before in
+    let told = admission ran in
     let at = told .before .before in
     let e =
     sym (run-taken (m at) (bytes at) (start at .args .asked) (core at .core-of .result)
     (calls at .calls-of .result) (core at .core-of .ensures) (calls at .calls-of .ensures)
     (fits at .fits2 .result) (fits at .fits2 .ensures) (at .test-run .result) (at .test-run .ensures)
     (told .enum-told .given .1) _ (ran .run-steps .ensures)) in
-    (ap (λ r. r .answer) e, (c .before .before .put-state .ensures ∙ ap (λ r. r .state) e, ap (λ r. r .ram) e))
+    (ap (λ r. r .answer) e, (written .put-state .ensures ∙ ap (λ r. r .state) e, ap (λ r. r .ram) e))
 
 pub run-spec : {M : Type 1} → statement M
 run-spec =

@@ -77,17 +77,26 @@ returns c =
 
 with-call-requires : tie.Need-with-call-requires Inv-loop μ-loop
 with-call-requires c κs =
-    let at = c .before .before .before .before .before .before .before .before .before in
+    let done = c .before in
+    let step = done .before .before .before in
+    let inside = step .before .before .before .before in
+    let at = inside .before in
     omega (arith, at .loop .inv .counted, at .loop .inv .within, start (at .before) .pre .5)
 
 add-steps : tie.Need-add-steps Inv-loop μ-loop
 add-steps c =
-    let at = c .before .before .before .before .before .before .before .before .before .before in
+    let done = c .before .before in
+    let step = done .before .before .before in
+    let inside = step .before .before .before .before in
+    let at = inside .before in
     omega (arith, at .loop .inv .within, start (at .before) .pre .5)
 
 loop-less : tie.Need-loop-less Inv-loop μ-loop
 loop-less c =
-    omega (arith, c .before .before .before .before .before .before .before .before .before .loop-test .taken)
+    let done = c .before .before in
+    let step = done .before .before .before in
+    let inside = step .before .before .before .before in
+    omega (arith, inside .loop-test .taken)
 
 loop-again : tie.Need-loop-again Inv-loop μ-loop
 loop-again c =
