@@ -13,15 +13,19 @@ use Rattle.checker.proofs.owed.owed_at.Tie as tie
 returns : tie.Need-returns
 unfolding owedAt owedBy
 returns c =
-    let args = c .before .before .before .before .before .before .before .before .before .before .args in
+    let widths = c .before .before .before in
+    let told = widths .before in
+    let flow = told .before .before in
+    let next = flow .before in
+    let args = next .before .before .before .args in
     let operand = operandOf (drop (args .at) (args .image .now)) (args .layout .prefix) (args .layout .length) in
     let kept = kept-mark (args .layout .number) operand (args .mark) (omega arith)
-    (sym (c .before .before .before .keeps-widths .ensures) ∙ c .before .before .if1 .taken) in
+    (sym (widths .keeps-widths .ensures) ∙ c .before .before .if1 .taken) in
     rw (
-      ← c .before .before .before .before .before .before .flow-of .ensures,
-      c .before .before .before .before .enum-told .given .1,
+      ← flow .flow-of .ensures,
+      told .enum-told .given .1,
       c .requirement .ensures,
-      c .before .before .before .before .before .before .before .next-address .ensures,
+      next .next-address .ensures,
       c .before .mark-kept .ensures,
       kept,
     )
@@ -29,23 +33,30 @@ returns c =
 returns-2 : tie.Need-returns-2
 unfolding owedAt owedBy
 returns-2 c =
+    let mark = c .before in
+    let told = mark .before .before .before in
+    let flow = told .before .before in
     rw (
-      ← c .before .before .before .before .before .before .flow-of .ensures,
-      c .before .before .before .before .enum-told .given .1,
+      ← flow .flow-of .ensures,
+      told .enum-told .given .1,
       c .requirement2 .ensures,
-      c .before .before .before .before .before .before .before .next-address .ensures,
-      c .before .mark-after-layout .ensures,
+      flow .before .next-address .ensures,
+      mark .mark-after-layout .ensures,
     )
 
 returns-3 : tie.Need-returns-3
 unfolding owedAt owedBy
 returns-3 c =
+    let target = c .before .before in
+    let mark = target .before in
+    let told = mark .before in
+    let flow = told .before .before in
     rw (
-      ← c .before .before .before .before .before .before .flow-of .ensures,
-      c .before .before .before .before .enum-told2 .given .1,
-      ← c .before .before .before .before .before .before .before .next-address .ensures,
-      ← c .before .before .before .mark-after-layout2 .ensures,
-      ← c .before .before .target-of-layout .ensures,
+      ← flow .flow-of .ensures,
+      told .enum-told2 .given .1,
+      ← flow .before .next-address .ensures,
+      ← mark .mark-after-layout2 .ensures,
+      ← target .target-of-layout .ensures,
       c .before .requirement3 .ensures,
       c .requirement4 .ensures,
     )
@@ -53,23 +64,29 @@ returns-3 c =
 returns-4 : tie.Need-returns-4
 unfolding owedAt owedBy
 returns-4 c =
+    let target = c .before in
+    let mark = target .before in
+    let told = mark .before in
     rw (
-      ← c .before .before .before .before .before .flow-of .ensures,
-      c .before .before .before .enum-told3 .given .1,
+      ← told .before .before .flow-of .ensures,
+      told .enum-told3 .given .1,
       c .requirement5 .ensures,
-      c .before .before .mark-after-layout3 .ensures,
-      c .before .target-of-layout2 .ensures,
+      mark .mark-after-layout3 .ensures,
+      target .target-of-layout2 .ensures,
     )
 
 returns-5 : tie.Need-returns-5
 unfolding owedAt owedBy
 returns-5 c =
+    let target = c .before in
+    let told = target .before .before in
+    let flow = told .before .before in
     rw (
-      ← c .before .before .before .before .before .flow-of .ensures,
-      c .before .before .before .kind .given .1,
+      ← flow .flow-of .ensures,
+      told .kind .given .1,
       c .owed-by-call .ensures,
-      c .before .before .before .before .before .before .next-address .ensures,
-      c .before .target-of-layout3 .ensures,
+      flow .before .next-address .ensures,
+      target .target-of-layout3 .ensures,
     )
 
 returns-6 : tie.Need-returns-6
