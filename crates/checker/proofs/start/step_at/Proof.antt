@@ -21,9 +21,12 @@ returns c =
 
 layout-result-requires : tie.Need-layout-result-requires
 layout-result-requires c κs =
-    let start = c .before .before .before .before .before .before .before .before in (
-      fits-in (start .args .image .now) (start .args .at) (c .before .before .mark-m .result)
-          (c .before .mark-x .result) (c .layout-at .result) (c .layout-at .ensures),
+    let read-x = c .before in
+    let read-m = read-x .before in
+    let tested = read-m .before .before in
+    let start = tested .before .before .before .before in (
+      fits-in (start .args .image .now) (start .args .at) (read-m .mark-m .result) (read-x .mark-x .result)
+          (c .layout-at .result) (c .layout-at .ensures),
       start .pre .1,
       start .pre .2,
     )
@@ -31,17 +34,21 @@ layout-result-requires c κs =
 returns-2 : tie.Need-returns-2
 unfolding startResult bytesAt
 returns-2 c =
-    let started = c .before .before .before .before in
-    let args = started .before .before .before .before .before .args in
+    let laid = c .before in
+    let read-x = laid .before in
+    let read-m = read-x .before in
+    let started = read-m .before in
+    let tested = started .before in
+    let marked = tested .before in
+    let args = marked .before .before .before .args in
     rw (
-      ← started .before .before .byte-at .ensures,
-      ← started .before .is-start .ensures,
-      not-false (started .before .is-start .result) (started .if1 .left),
-      ← c .before .before .before .mark-m .ensures .0,
-      ← c .before .before .mark-x .ensures .0,
-      decoded-layout (drop (args .at) (args .image .now)) (c .before .before .before .mark-m .result)
-          (c .before .before .mark-x .result),
-      ← c .before .layout-at .ensures,
+      ← marked .byte-at .ensures,
+      ← tested .is-start .ensures,
+      not-false (tested .is-start .result) (started .if1 .left),
+      ← read-m .mark-m .ensures .0,
+      ← read-x .mark-x .ensures .0,
+      decoded-layout (drop (args .at) (args .image .now)) (read-m .mark-m .result) (read-x .mark-x .result),
+      ← laid .layout-at .ensures,
     ) (c .layout-result .ensures)
 
 pub step-at-spec : {M : Type 1} → statement M
