@@ -16,51 +16,67 @@ returns c = fails _ _ (c .before .is-clear .ensures) (c .if1 .taken)
 
 test-owed-requires : tie.Need-test-owed-requires
 test-owed-requires c κs =
-    let args = c .before .before .before .before .before .before .before .before .args in (
-      c .before .before .before .before .before .before .before .before .pre .1,
-      rw (c .before .before .owed-at .ensures) (marks-of-starts (args .marks .now) (args .base)
+    let owing = c .before .before in
+    let marked = owing .before .before .before in
+    let start = marked .before .before .before in
+    let args = start .args in (
+      start .pre .1,
+      rw (owing .owed-at .ensures) (marks-of-starts (args .marks .now) (args .base)
           (instructionOf (drop (args .at) (args .image .now)) (args .layout)) (args .base + args .at)
-          (c .before .before .before .before .before .byte-at .result)),
+          (marked .byte-at .result)),
     )
 
 test-owed-requires-2 : tie.Need-test-owed-requires-2
 test-owed-requires-2 c κs =
-    let args = c .before .before .before .before .before .before .before .before .args in (
-      c .before .before .before .before .before .before .before .before .pre .1,
-      rw (c .before .before .owed-at .ensures) (marks-of-starts (args .marks .now) (args .base)
+    let owing = c .before .before in
+    let marked = owing .before .before .before in
+    let start = marked .before .before .before in
+    let args = start .args in (
+      start .pre .1,
+      rw (owing .owed-at .ensures) (marks-of-starts (args .marks .now) (args .base)
           (instructionOf (drop (args .at) (args .image .now)) (args .layout)) (args .base + args .at)
-          (c .before .before .before .before .before .byte-at .result)),
+          (marked .byte-at .result)),
     )
 
 returns-2 : tie.Need-returns-2
 returns-2 c =
-    let args = c .before .before .before .before .before .before .before .before .before .before .args in
-    let mark = c .before .before .before .before .before .before .before .byte-at .ensures in
-    holds _ _ (c .before .before .before .before .before .before .is-clear .ensures)
-    (c .before .before .before .before .before .if1 .left)
+    let told = c .before .before in
+    let owing = told .before .before in
+    let clear = owing .before in
+    let tested = clear .before in
+    let marked = tested .before in
+    let args = marked .before .before .before .args in
+    let mark = marked .byte-at .ensures in
+    holds _ _ (tested .is-clear .ensures) (clear .if1 .left)
     (nothing-owed (args .marks .now) (args .base) (instructionOf (drop (args .at) (args .image .now)) (args .layout))
     (args .base + args .at) (getD (args .marks .now) (args .at) 0)
-    (sym (rw mark at (c .before .before .before .before .owed-at .ensures)) ∙ c .before .before .enum-told .given .1)
+    (sym (rw mark at (owing .owed-at .ensures)) ∙ told .enum-told .given .1)
     (rw (c .before .flow-of .ensures, mark) at (c .test-return .ensures)))
 
 returns-3 : tie.Need-returns-3
 returns-3 c =
-    let args = c .before .before .before .before .before .before .before .before .before .args in
-    let mark = c .before .before .before .before .before .before .byte-at .ensures in
-    let owed = rw mark at (c .before .before .before .owed-at .ensures) in
-    holds _ _ (c .before .before .before .before .before .is-clear .ensures)
-    (c .before .before .before .before .if1 .left)
+    let owing = c .before .before .before in
+    let clear = owing .before in
+    let tested = clear .before in
+    let marked = tested .before in
+    let args = marked .before .before .before .args in
+    let mark = marked .byte-at .ensures in
+    let owed = rw mark at (owing .owed-at .ensures) in
+    holds _ _ (tested .is-clear .ensures) (clear .if1 .left)
     (something-owed (args .marks .now) (args .base) (instructionOf (drop (args .at) (args .image .now)) (args .layout))
     (args .base + args .at) (getD (args .marks .now) (args .at) 0)
     (rw (← owed, c .before .enum-told2 .given .1) refl) (rw owed at (c .test-owed .ensures)))
 
 returns-4 : tie.Need-returns-4
 returns-4 c =
-    let args = c .before .before .before .before .before .before .before .before .before .args in
-    let mark = c .before .before .before .before .before .before .byte-at .ensures in
-    let owed = rw mark at (c .before .before .before .owed-at .ensures) in
-    holds _ _ (c .before .before .before .before .before .is-clear .ensures)
-    (c .before .before .before .before .if1 .left)
+    let owing = c .before .before .before in
+    let clear = owing .before in
+    let tested = clear .before in
+    let marked = tested .before in
+    let args = marked .before .before .before .args in
+    let mark = marked .byte-at .ensures in
+    let owed = rw mark at (owing .owed-at .ensures) in
+    holds _ _ (tested .is-clear .ensures) (clear .if1 .left)
     (something-owed (args .marks .now) (args .base) (instructionOf (drop (args .at) (args .image .now)) (args .layout))
     (args .base + args .at) (getD (args .marks .now) (args .at) 0)
     (rw (← owed, c .before .enum-told3 .given .1) refl) (rw owed at (c .test-owed2 .ensures)))
