@@ -34,58 +34,56 @@ step-at-requires c κs = (
 )
 
 cast-offset : tie.Need-cast-offset Inv-loop μ-loop
-cast-offset c = omega (
-  arith,
-  c .before .before .before .before .before .before .before .before .pre .1,
-  c .before .before .before .before .loop-test .taken,
-)
+cast-offset c =
+    let inside = c .before .before .before .before in
+    let start = inside .before .before .before .before in
+    omega (arith, start .pre .1, inside .loop-test .taken)
 
 returns : tie.Need-returns Inv-loop μ-loop
 unfolding badStart
 returns c =
-    let args = c .before .before .before .before .before .before .before .before .args in
-    let i = c .before .before .before .before .before .loop .i in
-    let failed = step-result (args .image .now) (args .marks .now) (args .base) i
-    (c .before .before .before .step-at .result)
-    (c .before .before .before .step-at .ensures) (c .before .result .given .1) in
+    let stepped = c .before .before .before in
+    let inside = stepped .before in
+    let loop = inside .before in
+    let args = loop .before .before .before .args in
+    let i = loop .loop .i in
+    let failed = step-result (args .image .now) (args .marks .now) (args .base) i (stepped .step-at .result)
+    (stepped .step-at .ensures) (c .before .result .given .1) in
     let here = passed-to (spec.brokenAt (args .image .now) (args .marks .now) (args .base)) 0 i
-    (length (args .marks .now))
-    (c .before .before .before .before .before .loop .inv .0)
-    (omega (arith, c .before .before .before .before .loop-test .taken)) (rw failed refl) in
+    (length (args .marks .now)) (loop .loop .inv .0) (omega (arith, inside .loop-test .taken)) (rw failed refl) in
     stopped-at (args .image .now) (args .marks .now) (args .base) i _ here failed
 
 add-i : tie.Need-add-i Inv-loop μ-loop
 add-i c =
-    let args = c .before .before .before .before .before .before .before .before .args in
-    let few = few-bytes (args .image .now) (args .marks .now) (args .base)
-    (c .before .before .before .before .before .loop .i) (c .before .before .before .step-at .result)
-    (c .before .before .before .step-at .ensures) in
-    omega (
-      arith,
-      few .1,
-      c .before .before .before .before .before .loop .inv .1,
-      c .before .before .before .before .before .before .before .before .pre .1,
-    )
+    let stepped = c .before .before .before in
+    let loop = stepped .before .before in
+    let start = loop .before .before .before in
+    let args = start .args in
+    let few = few-bytes (args .image .now) (args .marks .now) (args .base) (loop .loop .i) (stepped .step-at .result)
+    (stepped .step-at .ensures) in
+    omega (arith, few .1, loop .loop .inv .1, start .pre .1)
 
 loop-less : tie.Need-loop-less Inv-loop μ-loop
 loop-less c =
-    let args = c .before .before .before .before .before .before .before .before .args in
-    let few = few-bytes (args .image .now) (args .marks .now) (args .base)
-    (c .before .before .before .before .before .loop .i) (c .before .before .before .step-at .result)
-    (c .before .before .before .step-at .ensures) in
-    omega (arith, few .0, c .before .before .before .before .loop-test .taken)
+    let stepped = c .before .before .before in
+    let inside = stepped .before in
+    let loop = inside .before in
+    let args = loop .before .before .before .args in
+    let few = few-bytes (args .image .now) (args .marks .now) (args .base) (loop .loop .i) (stepped .step-at .result)
+    (stepped .step-at .ensures) in
+    omega (arith, few .0, inside .loop-test .taken)
 
 loop-again : tie.Need-loop-again Inv-loop μ-loop
 loop-again c =
-    let args = c .before .before .before .before .before .before .before .before .args in
-    let few = few-bytes (args .image .now) (args .marks .now) (args .base)
-    (c .before .before .before .before .before .loop .i) (c .before .before .before .step-at .result)
-    (c .before .before .before .step-at .ensures) in (
-      goes-on (args .image .now) (args .marks .now) (args .base) (c .before .before .before .before .before .loop .i)
-          (c .before .before .before .step-at .result)
-          (c .before .before .before .step-at .ensures) (c .before .enum-told .given .1)
-          (c .before .before .before .before .before .loop .inv .0),
-      omega (arith, few .1, c .before .before .before .before .loop-test .taken),
+    let stepped = c .before .before .before in
+    let inside = stepped .before in
+    let loop = inside .before in
+    let args = loop .before .before .before .args in
+    let few = few-bytes (args .image .now) (args .marks .now) (args .base) (loop .loop .i) (stepped .step-at .result)
+    (stepped .step-at .ensures) in (
+      goes-on (args .image .now) (args .marks .now) (args .base) (loop .loop .i) (stepped .step-at .result)
+          (stepped .step-at .ensures) (c .before .enum-told .given .1) (loop .loop .inv .0),
+      omega (arith, few .1, inside .loop-test .taken),
     )
 
 returns-2 : tie.Need-returns-2 Inv-loop μ-loop
