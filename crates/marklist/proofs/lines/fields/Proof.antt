@@ -8,15 +8,19 @@ use Rattle.marklist.proofs.lines.fields.Tie as tie
 returns : tie.Need-returns
 unfolding spec.fields
 returns c =
+    let after-return-m = c .before .before in
+    let after-kind = after-return-m .before .before in
+    let after-x = after-kind .before .before in
+    let after-m = after-x .before .before in
     rw (
-      c .before .before .before .before .before .before .before .before .digit .ensures,
-      c .before .before .before .before .before .before .before .before .before .mark-m .ensures .0,
-      c .before .before .before .before .before .before .digit2 .ensures,
-      c .before .before .before .before .before .before .before .mark-x .ensures .0,
-      c .before .before .before .before .kind-letter .ensures,
-      c .before .before .before .before .before .mark-kind .ensures .0,
-      c .before .before .digit3 .ensures,
-      c .before .before .before .return-m .ensures .0,
+      after-m .digit .ensures,
+      after-m .before .mark-m .ensures .0,
+      after-x .digit2 .ensures,
+      after-x .before .mark-x .ensures .0,
+      after-kind .kind-letter .ensures,
+      after-kind .before .mark-kind .ensures .0,
+      after-return-m .digit3 .ensures,
+      after-return-m .before .return-m .ensures .0,
       c .digit4 .ensures,
       c .before .return-x .ensures .0,
     )
