@@ -4,7 +4,7 @@ use mathlib.Core.Path.{refl, _∙_}
 use Rattle.prelude.proofs.Match.{no-key}
 use Rattle.model.specs.Addressing.{bits}
 use Rattle.types.specs.Status.{statusOf}
-use Rattle.cpu.specs.FileEffects.{added, combinations}
+use Rattle.cpu.specs.FileEffects.{combinations}
 use borrow.Author.Needs.{needs}
 use Rattle.cpu.proofs.arithmetic.combined.Statement.{statement}
 use Rattle.cpu.proofs.arithmetic.combined.Tie as tie

@@ -1,7 +1,6 @@
 -- The invariant: the digits of the rest come to those that are counted.
 -- Assumes nothing.
 use Prim.Native.Nat.{_-_}
-use native.Mathlib.Omega.{arith}
 use Rattle.text.proofs.Turns.{Counted, none-counted, last-counted, more-counted, all-counted}
 use borrow.Author.Needs.{needs}
 use Rattle.text.proofs.digits.digit_count.Statement.{statement}
