@@ -2,27 +2,26 @@
 pub mod plain;
 
 use codepages::CodePages;
-use decoder::decode_at;
+use decoder::LayoutRead;
 use fields::byte_at;
 use image::marks::mark_m;
 use image::marks::mark_x;
-use types::code::Decoded;
 use types::rules::Verdict;
 ghost use mathlib.Core.Path.{_≡_};
 ghost use Rattle.codepages.specs.Packing.{packedPages};
 ghost use Rattle.model.specs.Image.{startCount};
-ghost use Rattle.model.specs.Rules.{instructionAt};
 ghost use Rattle.model.specs.Verdict.{verdict};
+ghost use Rattle.view.specs.Layout.{layoutAt};
 
-// What stands at an offset of an image, at the widths marked there.
-fn decode_marked(image: &[u8], marks: &[u8], codes: &CodePages, at: usize) -> Decoded
+// The layout of what stands at an offset of an image, at the widths marked there.
+fn layout_marked(image: &[u8], marks: &[u8], codes: &CodePages, at: usize) -> LayoutRead
     requires { ⌜ now codes ≡ packedPages ⌝ }
-    ensures { λ r. ⌜ r ≡ instructionAt (now (image .entry)) (now (marks .entry)) at ⌝ }
+    ensures { λ r. ⌜ r ≡ layoutAt (now (image .entry)) (now (marks .entry)) at ⌝ }
 {
     let mark = byte_at(marks, at);
     let m = mark_m(mark);
     let x = mark_x(mark);
-    decode_at(codes, image, at, m, x)
+    decoder::layout_at(codes, image, at, m, x)
 }
 
 // An image, the marks beside it and its base address. Any lengths and any base: the check judges them.
@@ -50,12 +49,12 @@ impl<'i, 'm> View<'i, 'm> {
         checker::count_starts(self.marks)
     }
 
-    // What stands at an offset, at the widths marked there. Asks for the code pages that `codepages::pages` makes,
-    // lent: a loop over the starts makes them once.
-    pub fn instruction_at(self, codes: &CodePages, at: usize) -> Decoded
+    // The layout of what stands at an offset, at the widths marked there. Asks for the code pages that
+    // `codepages::pages` makes, lent: a loop over the starts makes them once.
+    pub fn layout_at(self, codes: &CodePages, at: usize) -> LayoutRead
         requires { ⌜ now codes ≡ packedPages ⌝ }
-        ensures { λ r. ⌜ r ≡ instructionAt (now (self .entry .image)) (now (self .entry .marks)) at ⌝ }
+        ensures { λ r. ⌜ r ≡ layoutAt (now (self .entry .image)) (now (self .entry .marks)) at ⌝ }
     {
-        decode_marked(self.image, self.marks, codes, at)
+        layout_marked(self.image, self.marks, codes, at)
     }
 }

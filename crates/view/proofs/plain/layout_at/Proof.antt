@@ -1,5 +1,5 @@
--- `plain::instruction_at` meets its contract: a walk of its MIR, by hand; a view is made of its parts in a local, and
--- `View::instruction_at` is called on it. All that the proof knows of the callee is that it meets its contract.
+-- `plain::layout_at` meets its contract: a walk of its MIR, by hand; a view is made of its parts in a local, and
+-- `View::layout_at` is called on it. All that the proof knows of the callee is that it meets its contract.
 -- Assumes nothing.
 use mathlib.Core.Path.{_≡_, refl}
 use Prim.Native.Nat.{ℕ, _<_, _^_}
@@ -32,29 +32,29 @@ use denote.Triple.Bound.{Bound}
 use denote.Triple.Statement.{Contract, Triple}
 use denote.Triple.Table.{cited}
 use denote.Triple.Walked.{says, needs}
-use Rattle.types.specs.declared.code.Decoded.{Decoded}
-use Rattle.model.specs.Rules.{instructionAt}
-use Rattle.types.proofs.code.Decoded as R
-use Rattle.types.proofs.code.Decoded.Laws as R′
+use Rattle.decoder.specs.declared.LayoutRead.{LayoutRead}
+use Rattle.decoder.proofs.LayoutRead as R
+use Rattle.decoder.proofs.LayoutRead.Laws as R′
 use Rattle.codepages.specs.Packing.{packedPages}
 use Rattle.view.specs.declared.View.{View}
+use Rattle.view.specs.Layout.{layoutAt}
 use Rattle.walks.proofs.PlainFacts.{Begins, WalkAt, ends, Contracted, calls, Stated, walked-meets}
 use Rattle.walks.proofs.Locals.{local-at, gone}
 use Rattle.view.proofs.Parts.{Pages, imageVal, marksVal, parts-and, joined}
 use Rattle.view.proofs.View as T
 use Rattle.view.proofs.View.Laws as T′
-use Rattle.view.proofs.View.instruction_at as callee
-use Rattle.view.proofs.View.instruction_at.Symbol as callee-def
-use Rattle.view.proofs.View.instruction_at.Symbol.{name as #callee}
-use Rattle.view.proofs.View.instruction_at.Met as callee-thm
-use Rattle.view.proofs.plain.instruction_at.Key.{name as #here}
-use Rattle.view.proofs.plain.instruction_at as here
-use Rattle.view.proofs.plain.instruction_at.Statement as stated
-use Rattle.view.proofs.plain.instruction_at.Code as code
+use Rattle.view.proofs.View.layout_at as callee
+use Rattle.view.proofs.View.layout_at.Symbol as callee-def
+use Rattle.view.proofs.View.layout_at.Symbol.{name as #callee}
+use Rattle.view.proofs.View.layout_at.Met as callee-thm
+use Rattle.view.proofs.plain.layout_at.Key.{name as #here}
+use Rattle.view.proofs.plain.layout_at as here
+use Rattle.view.proofs.plain.layout_at.Statement as stated
+use Rattle.view.proofs.plain.layout_at.Code as code
 
 -- what the result is
-abbrev φ : View → ℕ → Decoded → Type 0
-φ d at r = r ≡ instructionAt (now (d .image)) (now (d .marks)) at
+abbrev φ : View → ℕ → LayoutRead → Type 0
+φ d at r = r ≡ layoutAt (now (d .image)) (now (d .marks)) at
 
 module _ {M : Type 1} (𝓤 : URA M) (H : Heap 𝓤) (A : Atoms 𝓤) (W : Given 𝓤 H A) (mem : Memory → SProp 𝓤)
     (run : Routine → Fun 𝓤) where
@@ -143,9 +143,9 @@ module _ {M : Type 1} (𝓤 : URA M) (H : Heap 𝓤) (A : Atoms 𝓤) (W : Given
     );
   }
 
-pub instruction-at-spec : {M : Type 1} → stated.statement M
+pub layout-at-spec : {M : Type 1} → stated.statement M
 unfolding code.routine
-instruction-at-spec 𝓤 H 𝓜 𝓖 𝓡 =
+layout-at-spec 𝓤 H 𝓜 𝓖 𝓡 =
     let W = givenOf 𝓤 H 𝓜 𝓖 in
     let 𝓣 = tables 𝓤 H 𝓜 𝓡 code.env in
     walked-meets 𝓤 H 𝓜 𝓖 𝓡 code.env #here code.function (code.unfolded 𝓤 H 𝓜 𝓡) here.ended
@@ -154,5 +154,5 @@ instruction-at-spec 𝓤 H 𝓜 𝓖 𝓡 =
     walk 𝓤 H (𝓖 .A) W (𝓜 .mem) (𝓡 .run) (κs .0) (κs .1 .0) (κs .1 .1 .0) (qs .0) (qs .1 .0) (qs .1 .1 .0)
     (record { image = a .0; marks = a .1 .0; base = a .1 .1 .0 }) (a .1 .1 .1 .0) (a .1 .1 .1 .1 .0) (𝓣 .C) (𝓣 .Λ) fm
     (cited 𝓤 H (Callee 𝓤 H (𝓖 .A) W (𝓜 .mem) (𝓡 .run)) 𝓜 𝓡 code.env #callee callee-def.routine
-    code.calls-view·View·instruction-at (callee-thm.met 𝓤 H 𝓜 𝓖 𝓡))
+    code.calls-view·View·layout-at (callee-thm.met 𝓤 H 𝓜 𝓖 𝓡))
     (are .0) (are .1 .0) (are .1 .1 .0 .1) (are .1 .1 .1 .1 .0 .1) right))
