@@ -4,8 +4,8 @@ use mathlib.Core.Path.{sym}
 use native.Mathlib.Omega.{arith}
 use lib.ListN.{length}
 use lib.Seq.{length-take-le}
-use Rattle.check_files.proofs.whole.Statement.{statement}
-use Rattle.check_files.proofs.whole.Tie as tie
+use Rattle.files.proofs.whole.Statement.{statement}
+use Rattle.files.proofs.whole.Tie as tie
 
 returns : tie.Need-returns
 returns c =
