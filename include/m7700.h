@@ -1,6 +1,6 @@
 /* NAME
  *
- * m7700 - check MELPS 7700 code against its width marks, and run it
+ * m7700 - check MELPS 7700 code against its width marks, print it and run it
  *
  * SYNOPSIS
  *
@@ -11,10 +11,10 @@
  * DESCRIPTION
  *
  * Before it releases an image, a loader in C reads the image's mark list,
- * checks the image against the marks, and may run it step by step. Each of
- * these functions gives a struct of its own type. Its member `refusal` is 0,
- * or the number that refuses the call; then the other members are 0, but for
- * the offset of a check, and every buffer is as given.
+ * checks the image against the marks, and may print it and run it step by
+ * step. Each of these functions gives a struct of its own type. Its member
+ * `refusal` is 0, or the number that refuses the call; then the other members
+ * are 0, but for the offset of the check, and every buffer is as given.
  *
  * Two conditions on pointers are left to the caller, since C can't express
  * them. Nothing else is asked:
@@ -22,7 +22,7 @@
  *   - A pointer is valid for its length: so many bytes may be read there, and
  *     written where the function writes. At length 0 any pointer will do.
  *   - A buffer that a function writes overlaps no other. Image and marks are
- *     only read, so for the check they may overlap.
+ *     only read by the check and for a page, and may overlap each other there.
  */
 #ifndef M7700_H
 #define M7700_H
@@ -34,7 +34,7 @@
 extern "C" {
 #endif
 
-#define M7700_VERSION "1.0.0"
+#define M7700_VERSION "1.1.0"
 
 /* SYSTEM
  *
@@ -43,17 +43,20 @@ extern "C" {
  * each with its own buffers; those that are only read may be shared.
  *
  * No call needs more stack than the bytes below. Measured, on a stack of
- * painted bytes and with the longest buffers: 5,752 for a run or a step,
- * 4,024 for a check, 192 for a list, and some 3,200 more for a call in which
- * memcpy or memset is first bound by the dynamic linker. */
+ * painted bytes and with the longest buffers: 8,568 for a page, 5,752 for a
+ * run or a step, 4,088 for a check, 208 for a list, and some 3,200 more for a
+ * call in which memcpy or memset is first bound by the dynamic linker. */
 #define M7700_STACK_BYTES 16384
 
 /* LIMITS
  *
  * The longest image; the longest list, 20 bytes of a first line and 15 for
- * each start; the most RAM, steps of a run, and open calls. */
+ * each start; a row of a page, and the longest page; the most RAM, steps of a
+ * run, and open calls. */
 #define M7700_IMAGE_BYTES 16384
 #define M7700_LIST_BYTES (20 + 15 * M7700_IMAGE_BYTES)
+#define M7700_ROW_BYTES 36
+#define M7700_PAGE_BYTES (M7700_ROW_BYTES * M7700_IMAGE_BYTES)
 #define M7700_RAM_BYTES 4096
 #define M7700_STEPS 1000000
 #define M7700_CALLS 64
@@ -112,7 +115,7 @@ extern "C" {
 #define M7700_REFUSED_STEPS 13  /* steps: over M7700_STEPS */
 #define M7700_REFUSED_LIST 14   /* list: text is not a mark list */
 #define M7700_REFUSED_PAGE 15   /* page: output buffer shorter than the
-                                   list */
+                                   list, or than the rows */
 
 /* Not carried are BRK, RTI, PLP, PSH, PUL, MVN, MVP, MPY, DIV, every JMP or JSR
  * through memory, and every unassigned code or prefix pair.
@@ -219,6 +222,48 @@ static inline m7700_list_written
 m7700_write_mark_list(const uint8_t *marks, size_t marks_len,
                       uint32_t base, uint32_t reset,
                       uint8_t *page, size_t page_len);
+
+/* PRINTING
+ *
+ * Prints an accepted image at the front of a page, a row for each start,
+ * ascending. A row has 35 columns and 0A, and in them
+ *
+ *     1 to 6    the address, six hexadecimal digits
+ *     8 to 24   all bytes of the instruction, two hexadecimal digits
+ *               each, parted by one blank
+ *     26 to 29  the first word of the manual's syntax for the form
+ *     31, 33    m and x, as marked there
+ *     35        kind: N, S or L for 0, 1, 2
+ *
+ * Each field begins in its first column, and every other column is a blank.
+ * Hexadecimal letters are capitals. The word adds an L to the instruction's
+ * name in ADCL A,(dd) and the other forms through a pointer of three bytes, in
+ * JMPL and JSRL to a long address, and in BRAL.
+ *
+ * The tests go in the order of the check's, and then
+ *
+ *     15  the page is shorter than the rows
+ *
+ * and the first that fails decides. The offset is the check's, and 0 for 15.
+ * If the image was printed, `length` is the length of its rows in bytes,
+ * M7700_ROW_BYTES for each start, and the bytes of the page behind them are as
+ * given. The bytes that the rows show, one row behind the other, are exactly
+ * those that instructions cover.
+ *
+ * Every length, base and reset and every byte of image and marks is answered.
+ * The function reads only image and marks, writes only the page, and keeps no
+ * pointer. */
+typedef struct {
+    uint32_t refusal;
+    uint32_t offset;
+    size_t length;
+} m7700_page_printed;
+
+static inline m7700_page_printed
+m7700_print_page(const uint8_t *image, size_t image_len,
+                 const uint8_t *marks, size_t marks_len,
+                 uint32_t base, uint32_t reset,
+                 uint8_t *page, size_t page_len);
 
 /* MACHINE
  *
@@ -331,7 +376,7 @@ m7700_step_image(const uint8_t *image, size_t image_len, uint32_t base,
 
 /* OTHER LANGUAGES
  *
- * These five functions are what the archive has. They take the arguments of
+ * These six functions are what the archive has. They take the arguments of
  * those above and return the members as one number, each in its own way, so
  * that one function's number says something else if it is read as another's.
  * From C, call those above.
@@ -350,6 +395,13 @@ uint64_t m7700_write_list(const uint8_t *marks, size_t marks_len,
                           uint32_t base, uint32_t reset,
                           uint8_t *page, size_t page_len);
 
+/* Bits 0 to 7 are the refusal, bits 8 to 63 length or, if the call is refused,
+ * the offset: */
+uint64_t m7700_print(const uint8_t *image, size_t image_len,
+                     const uint8_t *marks, size_t marks_len,
+                     uint32_t base, uint32_t reset,
+                     uint8_t *page, size_t page_len);
+
 /* Bits 0 to 7 are the refusal, bits 8 to 15 the end, bits 16 to 39 steps, bits
  * 40 to 63 calls: */
 uint64_t m7700_run(const uint8_t *image, size_t image_len,
@@ -364,7 +416,7 @@ uint64_t m7700_step(const uint8_t *image, size_t image_len,
 
 /* SEE ALSO
  *
- * check(1)
+ * check(1), print(1)
  */
 
 /* ---- The text above is m7700(3) too. Here is what its functions do. ----
@@ -450,6 +502,22 @@ m7700_write_mark_list(const uint8_t *marks, size_t marks_len,
     written.refusal = packed & 0xFF;
     written.length = packed >> 8;
     return written;
+}
+
+static inline m7700_page_printed
+m7700_print_page(const uint8_t *image, size_t image_len,
+                 const uint8_t *marks, size_t marks_len,
+                 uint32_t base, uint32_t reset,
+                 uint8_t *page, size_t page_len)
+{
+    const uint64_t packed = m7700_print(image, image_len, marks, marks_len,
+                                        base, reset, page, page_len);
+    m7700_page_printed printed;
+
+    printed.refusal = packed & 0xFF;
+    printed.offset = printed.refusal == 0 ? 0 : packed >> 8 & 0xFFFFFFFF;
+    printed.length = printed.refusal == 0 ? packed >> 8 : 0;
+    return printed;
 }
 
 /* What a run or a step returned: a type of its own, so that no other function's

@@ -2,19 +2,37 @@
 //! instruction code tables. Lengths are the "Bytes" column of the
 //! instructions' own pages (manual 4.2) with their notes on m and x.
 
-/// A mnemonic, without the L of a long form.
-#[derive(Clone, Copy, PartialEq, Eq, Debug)]
-#[rustfmt::skip]
-pub enum Word {
-    ADC, AND, ASL, BBC, BBS, BCC, BCS, BEQ, BMI, BNE, BPL, BRA, BRK, BVC, BVS,
-    CLB, CLC, CLI, CLM, CLP, CLV, CMP, CPX, CPY, DEC, DEX, DEY, DIV, EOR, INC,
-    INX, INY, JMP, JSR, LDA, LDM, LDT, LDX, LDY, LSR, MPY, MVN, MVP, NOP, ORA,
-    PEA, PEI, PER, PHA, PHB, PHD, PHG, PHP, PHT, PHX, PHY, PLA, PLB, PLD, PLP,
-    PLT, PLX, PLY, PSH, PUL, RLA, ROL, ROR, RTI, RTL, RTS, SBC, SEB, SEC, SEI,
-    SEM, SEP, STA, STP, STX, STY, TAD, TAS, TAX, TAY, TBD, TBS, TBX, TBY, TDA,
-    TDB, TSA, TSB, TSX, TXA, TXB, TXS, TXY, TYA, TYB, TYX, WIT, XAB,
-    /// No instruction: an unassigned code, or a prefix on the plain page.
-    Unassigned,
+/// Declares the words, each with its letters.
+macro_rules! words {
+    ($($word:ident)*) => {
+        /// A mnemonic, without the L of a long form.
+        #[derive(Clone, Copy, PartialEq, Eq, Debug)]
+        pub enum Word {
+            $($word,)*
+            /// No instruction: an unassigned code, or a prefix on the plain
+            /// page.
+            Unassigned,
+        }
+
+        impl Word {
+            pub fn mnemonic(self) -> &'static str {
+                match self {
+                    $(Word::$word => stringify!($word),)*
+                    Word::Unassigned => "-",
+                }
+            }
+        }
+    };
+}
+
+words! {
+    ADC AND ASL BBC BBS BCC BCS BEQ BMI BNE BPL BRA BRK BVC BVS
+    CLB CLC CLI CLM CLP CLV CMP CPX CPY DEC DEX DEY DIV EOR INC
+    INX INY JMP JSR LDA LDM LDT LDX LDY LSR MPY MVN MVP NOP ORA
+    PEA PEI PER PHA PHB PHD PHG PHP PHT PHX PHY PLA PLB PLD PLP
+    PLT PLX PLY PSH PUL RLA ROL ROR RTI RTL RTS SBC SEB SEC SEI
+    SEM SEP STA STP STX STY TAD TAS TAX TAY TBD TBS TBX TBY TDA
+    TDB TSA TSB TSX TXA TXB TXS TXY TYA TYB TYX WIT XAB
 }
 
 /// An addressing mode; the names follow Appendix B's symbols, `I` for a pair

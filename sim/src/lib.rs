@@ -1,8 +1,8 @@
 //! A MELPS 7700 simulator written apart: a second reading of the papers.
 //!
 //! The functions mirror the C interface (include/m7700.h) on slices, with the
-//! same packing of the result. "01" in a comment is 01-scope.md, "manual"
-//! the MELPS 7700 Software Manual.
+//! same packing of the result. "01" in a comment is 01-scope.md, "02"
+//! 02-change-requests.md, "manual" the MELPS 7700 Software Manual.
 
 pub mod alu;
 pub mod answer;
@@ -14,9 +14,11 @@ pub mod listing;
 mod machine;
 pub mod marks;
 pub mod numbers;
+mod print;
 pub mod state;
 pub mod vectors;
 
 pub use check::{check, verdict};
 pub use list::{read_list, write_list};
 pub use machine::{run, step};
+pub use print::{print, ROW_BYTES};

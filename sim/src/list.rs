@@ -1,6 +1,6 @@
 //! The mark list: its reader and its writer (01, "The mark list").
 
-use crate::marks::{self, forms_and_reset, is_start};
+use crate::marks::{self, digit, forms_and_reset, is_start, kind_letter};
 use crate::numbers::*;
 
 /// What the first line says.
@@ -202,24 +202,12 @@ fn write(marks: &[u8], base: u32, reset: u32, page: &mut [u8]) {
     line.put(b"\n");
     for (offset, &mark) in marks.iter().enumerate().filter(|(_, &m)| is_start(m)) {
         line.hex((base & 0xFFFF) + offset as u32, 4);
-        line.field(bit(mark & marks::M));
-        line.field(bit(mark & marks::X));
-        line.field(match mark & marks::KIND {
-            0 => b'N',
-            marks::KIND_RTS => b'S',
-            _ => b'L',
-        });
-        line.field(bit(mark & marks::RETURN_M));
-        line.field(bit(mark & marks::RETURN_X));
+        line.field(digit(mark & marks::M));
+        line.field(digit(mark & marks::X));
+        line.field(kind_letter(mark));
+        line.field(digit(mark & marks::RETURN_M));
+        line.field(digit(mark & marks::RETURN_X));
         line.put(b"\n");
-    }
-}
-
-fn bit(masked: u8) -> u8 {
-    if masked != 0 {
-        b'1'
-    } else {
-        b'0'
     }
 }
 

@@ -49,10 +49,10 @@ fn line(out: &mut String, page: &str, code: u8, e: &Entry) -> std::fmt::Result {
     };
     let [l00, l01, l10, l11] = e.lengths;
     let carried = if e.carried { "yes" } else { "no" };
-    let (word, mode) = (e.word, symbol(e.mode));
+    let (word, mode) = (e.word.mnemonic(), symbol(e.mode));
     writeln!(
         out,
-        "{page} {code:02X} {word:?} {register} {mode} {l00} {l01} {l10} {l11} {carried}"
+        "{page} {code:02X} {word} {register} {mode} {l00} {l01} {l10} {l11} {carried}"
     )
 }
 

@@ -1,20 +1,21 @@
-//! `sim7700 listing`, `sim7700 check IMAGE LIST`, `sim7700 vectors DIR [SEED]`.
+//! `sim7700 listing`, `sim7700 check IMAGE LIST`, `sim7700 print IMAGE LIST`,
+//! `sim7700 vectors DIR [SEED]`.
 
+use sim7700::answer::{answer, for_files, page};
 use std::io::Write;
 use std::path::Path;
 use std::process::ExitCode;
 
-const USAGE: &str = "usage: sim7700 listing | check IMAGE LIST | vectors DIR [SEED]";
+const USAGE: &str =
+    "usage: sim7700 listing | check IMAGE LIST | print IMAGE LIST | vectors DIR [SEED]";
 
 fn main() -> ExitCode {
     let arguments: Vec<String> = std::env::args().skip(1).collect();
     let words: Vec<&str> = arguments.iter().map(String::as_str).collect();
     let result = match words[..] {
-        ["listing"] => print(&sim7700::listing::listing()),
-        ["check", image, list] => {
-            let line = sim7700::answer::answer_for_files(Path::new(image), Path::new(list));
-            print(&line)
-        }
+        ["listing"] => say(&sim7700::listing::listing()),
+        ["check", image, list] => say(&for_files(Path::new(image), Path::new(list), answer)),
+        ["print", image, list] => say(&for_files(Path::new(image), Path::new(list), page)),
         ["vectors", dir] => vectors(dir, sim7700::vectors::DEFAULT_SEED),
         ["vectors", dir, seed] => match seed.parse() {
             Ok(seed) => vectors(dir, seed),
@@ -31,7 +32,7 @@ fn main() -> ExitCode {
     }
 }
 
-fn print(text: &str) -> Result<(), String> {
+fn say(text: &str) -> Result<(), String> {
     std::io::stdout()
         .write_all(text.as_bytes())
         .map_err(|e| e.to_string())

@@ -32,6 +32,24 @@ pub fn return_widths(mark: u8) -> u8 {
     m | x
 }
 
+/// A masked bit as it is written in lists and pages.
+pub fn digit(masked: u8) -> u8 {
+    if masked != 0 {
+        b'1'
+    } else {
+        b'0'
+    }
+}
+
+/// The letter of a mark's return kind.
+pub fn kind_letter(mark: u8) -> u8 {
+    match mark & KIND {
+        0 => b'N',
+        KIND_RTS => b'S',
+        _ => b'L',
+    }
+}
+
 /// The form of a mark byte.
 pub fn well_formed(mark: u8) -> bool {
     if !is_start(mark) {

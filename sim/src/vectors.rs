@@ -2,10 +2,10 @@
 //! buffers, in the binary format of README.md, "Vector files".
 
 use crate::alu;
-use crate::check;
 use crate::codes::{entry_of, Mode, Word};
 use crate::generate::*;
 use crate::state::STATE_BYTES;
+use crate::{check, ROW_BYTES};
 
 pub const DEFAULT_SEED: u64 = 7700;
 
@@ -15,11 +15,17 @@ pub const MAX_FILE: usize = 65_536;
 /// Cases aimed at each number that a kind can give: so many stand at least.
 pub const LEAST: usize = 100;
 
-/// The numbers that a step, a run, a read and a write can give, besides 0.
+/// The numbers that a step, a run, a read, a write and a page can give,
+/// besides 0.
 pub const STEP_NUMBERS: [u8; 12] = [1, 2, 11, 12, 20, 21, 22, 23, 24, 25, 26, 27];
 pub const RUN_NUMBERS: [u8; 13] = [1, 2, 11, 12, 13, 20, 21, 22, 23, 24, 25, 26, 27];
 pub const READ_NUMBERS: [u8; 4] = [14, 1, 2, 3];
 pub const WRITE_NUMBERS: [u8; 5] = [1, 2, 4, 3, 15];
+pub const PRINT_NUMBERS: [u8; 11] = [1, 2, 4, 3, 5, 6, 7, 10, 8, 9, 15];
+
+/// Turns the seed into the printed pages' own, so that they stay what they
+/// are when others are drawn before them.
+const PRINT_SEED: u64 = 0x5052_494E_5400_0000;
 
 /// All files of a seed, by name.
 pub fn files(seed: u64) -> Vec<(String, Vec<u8>)> {
@@ -36,10 +42,15 @@ pub fn files(seed: u64) -> Vec<(String, Vec<u8>)> {
         ("read", reads),
         ("write", writes),
     ];
-    kinds
-        .into_iter()
-        .flat_map(|(kind, records)| pack(kind, records))
-        .collect()
+    let files = kinds.into_iter();
+    let files = files.flat_map(|(kind, records)| pack(kind, records));
+    files.chain(print_files(seed)).collect()
+}
+
+/// The print files alone, which hang on no machine.
+pub fn print_files(seed: u64) -> Vec<(String, Vec<u8>)> {
+    let mut rng = Rng::new(seed ^ PRINT_SEED);
+    pack("print", print_records(&mut rng))
 }
 
 /// Puts records into numbered files: a count, then record after record.
@@ -156,6 +167,21 @@ fn write_record(case: &WriteCase) -> Vec<u8> {
     put_u32(&mut out, case.base);
     put_u32(&mut out, case.reset);
     put_bytes(&mut out, &case.marks);
+    put_u32(&mut out, case.page_len as u32);
+    put_u64(&mut out, answer);
+    if answer & 0xFF == 0 {
+        out.extend_from_slice(&page[..(answer >> 8) as usize]);
+    }
+    out
+}
+
+fn print_record(case: &PrintCase) -> Vec<u8> {
+    let (answer, page) = case.answer();
+    let mut out = Vec::new();
+    put_u32(&mut out, case.checked.base);
+    put_u32(&mut out, case.checked.reset);
+    put_bytes(&mut out, &case.checked.image);
+    put_bytes(&mut out, &case.checked.marks);
     put_u32(&mut out, case.page_len as u32);
     put_u64(&mut out, answer);
     if answer & 0xFF == 0 {
@@ -413,4 +439,59 @@ fn write_records(rng: &mut Rng) -> Vec<Vec<u8>> {
         records.push(one_page(marks, 100));
     }
     records
+}
+
+/// Every carried code at every width, cases aimed at each number, drawn ones,
+/// pages around their exact length, many rows, and images at and past the
+/// limit: first and last, as each takes half a file.
+fn print_records(rng: &mut Rng) -> Vec<Vec<u8>> {
+    let mut cases = vec![nops(16_385)];
+    cases.extend(every_code(rng).into_iter().map(PrintCase::exact));
+    for number in PRINT_NUMBERS {
+        cases.extend((0..LEAST).map(|_| print_by(rng, number)));
+    }
+    let drawn = (0..200).map(|_| print_case(rng));
+    cases.extend(drawn.filter(|case| case.checked.image.len() < 100));
+    cases.extend(around_exact());
+    cases.extend([nops(300), longest_print()]);
+    cases.iter().map(print_record).collect()
+}
+
+/// Three rows up to the end of a bank and of all addresses, with every length
+/// of page from none to room for a row more.
+fn around_exact() -> Vec<PrintCase> {
+    let checked = CheckCase {
+        image: vec![0x42, 0xA9, 0x34, 0x12, 0xF8, 0xDB],
+        marks: vec![1, 0, 0, 0, 1, 3],
+        base: 0x12_FFFA,
+        reset: 0xFFFA,
+    };
+    let mut last = PrintCase::exact(checked.clone());
+    last.checked.base = 0xFF_FFFA;
+    let mut cases = vec![last];
+    for page_len in 0..=4 * ROW_BYTES {
+        let checked = checked.clone();
+        cases.push(PrintCase { checked, page_len });
+    }
+    cases
+}
+
+/// One NOP a row.
+fn nops(length: usize) -> PrintCase {
+    let mut image = vec![0xEA; length];
+    image[length - 1] = 0xDB;
+    PrintCase::exact(CheckCase {
+        image,
+        marks: vec![1; length],
+        base: 0x12_0000,
+        reset: 0,
+    })
+}
+
+/// The longest image, with two rows: a jump to its last byte.
+fn longest_print() -> PrintCase {
+    let mut case = nops(16_384);
+    case.checked.image[..3].copy_from_slice(&[0x4C, 0xFF, 0x3F]);
+    case.checked.marks[1..16_383].fill(0);
+    PrintCase::exact(case.checked)
 }

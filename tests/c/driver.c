@@ -1,6 +1,7 @@
 /* driver IMAGE MARKS BASE RESET
  * driver write-list MARKS BASE RESET LENGTH LIST
  * driver read-list LIST LENGTH MARKS
+ * driver print IMAGE MARKS BASE RESET LENGTH PAGE
  * driver run IMAGE MARKS BASE RESET START S RAM STEPS [OPTION]..
  * driver trace IMAGE MARKS BASE RESET START S RAM STEPS [OPTION]..
  *
@@ -9,12 +10,13 @@
  * The first form reads an image and its mark bytes from two files, checks them,
  * and prints one line. The second writes the list of a file's marks into a page
  * of LENGTH bytes and the whole page into the file LIST; the third reads the file
- * LIST into LENGTH marks and writes them into the file MARKS.
+ * LIST into LENGTH marks and writes them into the file MARKS. The fourth prints an
+ * image into a page of LENGTH bytes and writes the whole page into the file PAGE.
  *
- * The fourth checks an image and, if it is accepted, runs it for STEPS steps in
+ * The fifth checks an image and, if it is accepted, runs it for STEPS steps in
  * RAM bytes of RAM, and prints one line. It begins with PG and PC at the 24-bit
  * address START and with S; all else of the state is 0, so m=0, x=0 and no call is
- * open. The fifth does the same one step after the other, a line each. Options:
+ * open. The sixth does the same one step after the other, a line each. Options:
  *
  *   --unchecked              runs the image without the check
  *   --poke OFFSET BYTE       puts a byte into the state before the run
@@ -24,8 +26,8 @@
  *
  * A page, marks that are read and RAM hold dots before. Every number given is
  * hexadecimal; counts and the check's offset are printed in decimal. The exit status
- * is 0 if accepted, written, read or run, 1 if refused, 2 if there was nothing to work
- * on. */
+ * is 0 if accepted, written, read, printed or run, 1 if refused, 2 if there was nothing
+ * to work on. */
 #include <errno.h>
 #include <stdio.h>
 #include <string.h>
@@ -34,16 +36,16 @@
 
 enum { ACCEPTED = 0, REFUSED = 1, UNREAD = 2 };
 
-/* A byte over the limit of an image and of a list: the library sees that a file
+/* A byte over the limit of an image, a list and a page: the library sees that a file
  * is too long. */
-enum { LIMIT = M7700_LIST_BYTES + 1 };
+enum { LIMIT = M7700_PAGE_BYTES + 1 };
 
 struct bytes {
     uint8_t at[LIMIT];
     size_t length;
 };
 
-static struct bytes image, marks, list, state, ram;
+static struct bytes image, marks, list, page, state, ram;
 
 /* What a run is asked for, beside the buffers. */
 struct plan {
@@ -165,6 +167,32 @@ static int read_list(char **arguments)
     return ACCEPTED;
 }
 
+/* A refusal by the check's own number, or with its offset 0. */
+static int refused_at(uint32_t number, uint32_t offset)
+{
+    printf("refused: %u %s, offset %u\n", (unsigned)number, m7700_refusal_word(number), (unsigned)offset);
+    return REFUSED;
+}
+
+static int print(char **arguments)
+{
+    uint32_t base, reset;
+    m7700_page_printed printed;
+
+    if (!read_file(arguments[0], &image) || !read_file(arguments[1], &marks) ||
+        !read_hex(arguments[2], &base) || !read_hex(arguments[3], &reset) ||
+        !lend(arguments[4], &page))
+        return UNREAD;
+    printed = m7700_print_page(image.at, image.length, marks.at, marks.length, base, reset, page.at,
+                               page.length);
+    if (!write_file(arguments[5], &page))
+        return UNREAD;
+    if (printed.refusal != 0)
+        return refused_at(printed.refusal, printed.offset);
+    printf("printed: %zu bytes\n", printed.length);
+    return ACCEPTED;
+}
+
 /* Checks the image against its marks; prints why it is refused. */
 static int is_accepted(uint32_t base, uint32_t reset)
 {
@@ -172,8 +200,7 @@ static int is_accepted(uint32_t base, uint32_t reset)
                                               reset);
 
     if (verdict.refusal != 0)
-        printf("refused: %u %s, offset %u\n", (unsigned)verdict.refusal,
-               m7700_refusal_word(verdict.refusal), (unsigned)verdict.offset);
+        refused_at(verdict.refusal, verdict.offset);
     return verdict.refusal == 0;
 }
 
@@ -357,6 +384,8 @@ int main(int argc, char **argv)
         return write_list(argv + 2);
     if (argc == 5 && strcmp(argv[1], "read-list") == 0)
         return read_list(argv + 2);
+    if (argc == 8 && strcmp(argv[1], "print") == 0)
+        return print(argv + 2);
     if (argc >= 10 && strcmp(argv[1], "run") == 0)
         return execute(argv + 2, run);
     if (argc >= 10 && strcmp(argv[1], "trace") == 0)
@@ -366,6 +395,7 @@ int main(int argc, char **argv)
     fprintf(stderr, "usage: driver IMAGE MARKS BASE RESET\n"
                     "       driver write-list MARKS BASE RESET LENGTH LIST\n"
                     "       driver read-list LIST LENGTH MARKS\n"
+                    "       driver print IMAGE MARKS BASE RESET LENGTH PAGE\n"
                     "       driver run IMAGE MARKS BASE RESET START S RAM STEPS [OPTION]..\n"
                     "       driver trace IMAGE MARKS BASE RESET START S RAM STEPS [OPTION]..\n");
     return UNREAD;

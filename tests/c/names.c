@@ -10,6 +10,7 @@
 #define RESET 0xC000
 
 static uint8_t image[M7700_IMAGE_BYTES + 1], marks[M7700_IMAGE_BYTES + 1], list[M7700_LIST_BYTES];
+static uint8_t page[M7700_PAGE_BYTES];
 static uint8_t state[M7700_STATE_BYTES + 1], ram[M7700_RAM_BYTES + 1];
 static unsigned cases, differing;
 
@@ -107,6 +108,34 @@ static void mark_bits(void)
     same("both bits of a kind", M7700_MARK_KIND, M7700_KIND_RTS << 3 | M7700_KIND_RTL << 3);
 }
 
+static m7700_page_printed print(size_t image_len, size_t page_len)
+{
+    return m7700_print_page(image, image_len, marks, image_len, BASE, RESET, page, page_len);
+}
+
+/* STP at a start, and behind it one at a mark of no form. */
+static void pages(void)
+{
+    m7700_page_printed printed;
+
+    memset(image, 0xDB, 2);
+    marks[0] = M7700_MARK_START;
+    marks[1] = M7700_MARK_M;
+    printed = print(1, M7700_ROW_BYTES);
+    same("the page's refusal", printed.refusal, 0);
+    same("the page's offset", printed.offset, 0);
+    same("the page's length", printed.length, M7700_ROW_BYTES);
+    same("the page", memcmp(page, "00C000 DB                STP  0 0 N\n", M7700_ROW_BYTES) == 0, 1);
+    printed = print(1, M7700_ROW_BYTES - 1);
+    same("a short page", printed.refusal, M7700_REFUSED_PAGE);
+    same("its offset", printed.offset, 0);
+    same("its length", printed.length, 0);
+    printed = print(2, sizeof page);
+    same("the page of a bad mark", printed.refusal, M7700_REFUSED_MARK);
+    same("the mark's offset", printed.offset, 1);
+    same("no length", printed.length, 0);
+}
+
 /* NOP and a last STP, each with a start. */
 static void limits(void)
 {
@@ -119,6 +148,7 @@ static void limits(void)
          M7700_REFUSED_LENGTH);
     same("the longest list",
          m7700_write_mark_list(marks, M7700_IMAGE_BYTES, BASE, RESET, list, sizeof list).length, M7700_LIST_BYTES);
+    same("the longest page", print(M7700_IMAGE_BYTES, sizeof page).length, M7700_PAGE_BYTES);
     begin(0);
     same("the most RAM", run(1, M7700_STATE_BYTES, M7700_RAM_BYTES, 0).refusal, 0);
     same("more RAM", run(1, M7700_STATE_BYTES, M7700_RAM_BYTES + 1, 0).refusal, M7700_REFUSED_RAM);
@@ -171,6 +201,7 @@ int main(void)
 {
     flags();
     mark_bits();
+    pages();
     limits();
     open_calls();
     words();

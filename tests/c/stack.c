@@ -17,7 +17,7 @@
 enum { STACK = 4 * M7700_STACK_BYTES, BASE = 0x00C000, RESET = 0xC000, PAINT = 0xA5 };
 
 static uint8_t stack[STACK], image[M7700_IMAGE_BYTES], marks[M7700_IMAGE_BYTES];
-static uint8_t list[M7700_LIST_BYTES], state[M7700_STATE_BYTES], ram[M7700_RAM_BYTES];
+static uint8_t list[M7700_LIST_BYTES], page[M7700_PAGE_BYTES], state[M7700_STATE_BYTES], ram[M7700_RAM_BYTES];
 
 /* A call of a routine that fills the image: JSR C004; STP; NOP ..; RTS. All but the operand are starts. */
 static void make_program(void)
@@ -57,6 +57,11 @@ static void call_read(void)
     refusal = m7700_read_mark_list(list, length, marks, sizeof marks).refusal;
 }
 
+static void call_print(void)
+{
+    refusal = m7700_print_page(image, sizeof image, marks, sizeof marks, BASE, RESET, page, sizeof page).refusal;
+}
+
 static void call_step(void)
 {
     refusal = m7700_step_image(image, sizeof image, BASE, state, sizeof state, ram, sizeof ram).refusal;
@@ -91,7 +96,8 @@ int main(void)
         const char *name;
         void (*call)(void);
     } calls[] = {
-        {"check", call_check}, {"write", call_write}, {"read", call_read}, {"step", call_step}, {"run", call_run},
+        {"check", call_check}, {"write", call_write}, {"read", call_read},
+        {"print", call_print}, {"step", call_step},   {"run", call_run},
     };
     size_t without = touched(call_nothing), most = 0, i;
 

@@ -7,6 +7,8 @@ pub mod guard;
 pub mod library;
 pub mod lists;
 pub mod machine;
+mod packed;
+pub mod print;
 pub mod runs;
 pub mod steps;
 pub mod tally;

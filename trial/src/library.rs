@@ -26,6 +26,17 @@ extern "C" {
         page_len: usize,
     ) -> u64;
 
+    pub fn m7700_print(
+        image: *const u8,
+        image_len: usize,
+        marks: *const u8,
+        marks_len: usize,
+        base: u32,
+        reset: u32,
+        page: *mut u8,
+        page_len: usize,
+    ) -> u64;
+
     pub fn m7700_step(
         image: *const u8,
         image_len: usize,

@@ -2,7 +2,9 @@
 
 use sim7700::state::STATE_BYTES;
 use std::ptr::{null_mut, without_provenance_mut};
-use trial7700::library::{m7700_check, m7700_read_list, m7700_run, m7700_step, m7700_write_list};
+use trial7700::library::{
+    m7700_check, m7700_print, m7700_read_list, m7700_run, m7700_step, m7700_write_list,
+};
 
 #[test]
 fn at_length_0_any_pointer_will_do() {
@@ -31,6 +33,16 @@ fn at_length_0_any_pointer_will_do() {
             ]
         };
         assert_eq!(answers, [14, 1, 1, 15]);
+        // SAFETY: likewise.
+        let answers = unsafe {
+            let (stp, start) = ([0xDB], byte.as_ptr());
+            [
+                m7700_print(nowhere, 0, nowhere, 0, 0, 0, nowhere, 0),
+                m7700_print(stp.as_ptr(), 1, nowhere, 0, 0, 0, nowhere, 0),
+                m7700_print(stp.as_ptr(), 1, start, 1, 0, 0, nowhere, 0),
+            ]
+        };
+        assert_eq!(answers, [1, 1, 15]);
     }
 }
 

@@ -1,9 +1,8 @@
 -- The cases of an answer: a list that is refused, a list that is read, a file over its limit. The marks of an image
--- that is
--- accepted are few, and their starts no more.
+-- that is accepted are few, and their starts no more.
 -- Assumes nothing.
 use mathlib.Core.Path.{_≡_}
-use mathlib.Core.List.{List, [], _∷_}
+use mathlib.Core.List.{List}
 use Prim.Native.Nat.{ℕ, _≤_, _<_}
 use native.Mathlib.Omega.{arith}
 use borrow.Author.Tests.{le-leb, lt-leb}
@@ -12,19 +11,13 @@ use Rattle.types.specs.declared.lists.Header.{Header}
 use Rattle.types.specs.declared.refusals.Refusal.{Refusal}
 use Rattle.types.specs.declared.lists.ListRead.{ListRead}
 use Rattle.types.specs.declared.rules.Verdict.{Verdict}
-use Rattle.model.specs.Image.{imageLimit, isStart, startCount}
+use Rattle.model.specs.Image.{imageLimit, startCount}
 use Rattle.model.specs.Verdict.{verdict}
 use Rattle.model.specs.MarkList.{readList, marksRead, marksBy}
-use Rattle.prelude.proofs.Choice.{one-or-none}
-use Rattle.model.proofs.Image.{right-length}
+use Rattle.model.proofs.Image.{right-length, starts-most}
 use Rattle.model.proofs.Verdict.{accepted-rules}
 use Rattle.answer.specs.declared.answers.FileAnswer.{FileAnswer}
 use Rattle.answer.specs.AnswerLine.{listLimit, verdictAnswer, answerOf, listAnswer, answerFor}
-
-starts-most : (marks : List ℕ) → startCount marks ≤ length marks
-unfolding startCount
-starts-most [] = omega arith
-starts-most (mark ∷ marks) = omega (arith, one-or-none (isStart mark), starts-most marks)
 
 pub accepted-few : (image marks : List ℕ) (base reset : ℕ) → verdict image marks base reset ≡ Verdict.Accepted
     → startCount marks < 4_294_967_296

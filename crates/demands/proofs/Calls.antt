@@ -3,18 +3,22 @@
 -- Assumes nothing.
 use mathlib.Core.Path.{_≡_, ap, _∙_}
 use Rattle.packing.specs.Packed.{verdictNumbers, checkNumbers, listReadNumbers, readNumbers, listWrittenNumbers}
-use Rattle.packing.specs.Packed.{writtenNumbers, packedRun, answerNumbers, runNumbers}
+use Rattle.packing.specs.Packed.{writtenNumbers, pagePrintedNumbers, printedNumbers, packedRun, answerNumbers}
+use Rattle.packing.specs.Packed.{runNumbers}
 use Rattle.packing.proofs.Answers.{verdict-fits, read-fits}
 use Rattle.packing.proofs.Counts.{run-fits}
-use Rattle.packing.proofs.Unpacked.{verdict-unpacked, read-unpacked, written-unpacked, run-unpacked}
+use Rattle.packing.proofs.Unpacked.{verdict-unpacked, read-unpacked, written-unpacked, printed-unpacked}
+use Rattle.packing.proofs.Unpacked.{run-unpacked}
 use Rattle.types.specs.declared.rules.Verdict.{Verdict}
 use Rattle.types.specs.declared.lists.ListRead.{ListRead}
 use Rattle.types.specs.declared.lists.ListWritten.{ListWritten}
+use Rattle.types.specs.declared.pages.Printed.{Printed}
 use Rattle.model.specs.Verdict.{verdict}
 use Rattle.model.specs.MarkList.{readList, writeList}
+use Rattle.model.specs.PrintedPage.{printed}
 use Rattle.model.specs.RunBytes.{RanBytes, ranBytes}
-use Rattle.demands.specs.Calls.{holds, CheckCall, ReadCall, WriteCall, MachineContract, run, step, RunCall}
-use Rattle.demands.specs.Calls.{numbers, memoryOf}
+use Rattle.demands.specs.Calls.{holds, CheckCall, ReadCall, WriteCall, PrintCall, MachineContract, run, step}
+use Rattle.demands.specs.Calls.{RunCall, numbers, memoryOf}
 
 -- the answer of each function to what a call is given
 abbrev pub verdictOf : CheckCall → Verdict
@@ -25,6 +29,9 @@ readOf c = readList (holds (c .text)) (holds (c .marks))
 
 abbrev pub writtenOf : WriteCall → ListWritten
 writtenOf c = writeList (holds (c .marks)) (c .base) (c .reset) (holds (c .page))
+
+abbrev pub printedOf : PrintCall → Printed
+printedOf c = printed (holds (c .image)) (holds (c .marks)) (c .base) (c .reset) (holds (c .page))
 
 abbrev pub ranOf : RunCall → RanBytes
 ranOf c = ranBytes (memoryOf c) (holds (c .state)) (c .steps)
@@ -54,6 +61,9 @@ read-numbers c = ap readNumbers (c .kept .0) ∙ read-unpacked (readOf c) (read-
 
 pub written-numbers : (c : WriteCall) → writtenNumbers (c .result) ≡ listWrittenNumbers (writtenOf c)
 written-numbers c = ap writtenNumbers (c .kept .0) ∙ written-unpacked (writtenOf c)
+
+pub print-numbers : (c : PrintCall) → printedNumbers (c .result) ≡ pagePrintedNumbers (printedOf c)
+print-numbers c = ap printedNumbers (c .kept .0) ∙ printed-unpacked (printedOf c)
 
 pub run-numbers : (c : RunCall) → numbers c ≡ answerNumbers (ranOf c .answer)
 run-numbers c =

@@ -12,10 +12,12 @@ use lib.ListN.{length, take, drop}
 use Rattle.loader.proofs.m7700_check.Met as CheckMet
 use Rattle.loader.proofs.m7700_read_list.Met as ReadMet
 use Rattle.loader.proofs.m7700_write_list.Met as WriteMet
+use Rattle.loader.proofs.m7700_print.Met as PrintMet
 use Rattle.loader.proofs.m7700_run.Met as RunMet
 use Rattle.loader.proofs.m7700_step.Met as StepMet
 use Rattle.packing.specs.Packed.{packedVerdict, verdictNumbers, checkNumbers, listReadNumbers, readNumbers}
 use Rattle.packing.specs.Packed.{listWrittenNumbers, writtenNumbers, answerNumbers}
+use Rattle.packing.proofs.Unpacked.{accepted-zero}
 use Rattle.types.specs.declared.rules.Verdict.{Verdict}
 use Rattle.types.specs.declared.lists.Header.{Header}
 use Rattle.types.specs.declared.lists.ListRead.{ListRead}
@@ -118,6 +120,7 @@ demand-1 = record {
         check = λ κs given. tt;
         read = λ κs given. tt;
         write = λ κs given. tt;
+        print = λ κs given. tt;
         run = λ κs given. tt;
         step = λ κs given. tt;
       };
@@ -126,6 +129,7 @@ demand-1 = record {
         check = λ κs given last. refl;
         read = λ κs given last. refl;
         write = λ κs given last. refl;
+        print = λ κs given last. (refl, refl);
         run = λ κs given last. refl;
         step = λ κs given last. refl;
       };
@@ -143,6 +147,7 @@ demand-1 = record {
         check = CheckMet.met;
         read = ReadMet.met;
         write = WriteMet.met;
+        print = PrintMet.met;
         run = RunMet.met;
         step = StepMet.met;
       };
@@ -151,11 +156,7 @@ demand-1 = record {
 -- ---- 2
 
 zero-accepted : (c : CheckCall) → c .result ≡ 0 → verdictOf c ≡ Verdict.Accepted
-zero-accepted c zero = by (verdictOf c) refl (check-numbers c)
-  where
-    by : (v : Verdict) → verdictOf c ≡ v → checkNumbers (c .result) ≡ verdictNumbers v → verdictOf c ≡ Verdict.Accepted
-    by Verdict.Accepted e told = e
-    by (Verdict.Refused why at) e told = absurd (omega (arith, zero, ap (λ n. n .number) told, refusal-range why .0))
+zero-accepted c zero = accepted-zero (verdictOf c) (sym (c .kept) ∙ zero)
 
 refuses : (c : CheckCall) → 0 < c .result → RefusedCheck c
 refuses c some = by (verdictOf c) refl (check-numbers c)

@@ -1,3 +1,4 @@
--- That the three conditions hold.
+-- That the three conditions hold, and what the requests claim.
 pub mod Calls
 pub mod Demands
+pub mod Requests

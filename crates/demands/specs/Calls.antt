@@ -1,4 +1,4 @@
--- The five exported functions (loader/src/lib.rt) and their calls: what a call is given, its result, what it leaves,
+-- The six exported functions (loader/src/lib.rt) and their calls: what a call is given, its result, what it leaves,
 -- and that it keeps its function's contract. Each contract is the function's own: `Learnt` is what a caller learns by
 -- the `ensures` that stand there, `Asked` what its `requires` ask, and `statement` the theorem that its code keeps
 -- it, all made by the toolchain from the text there. So whoever weakens a promise weakens what is known of a call
@@ -21,6 +21,9 @@ use Rattle.loader.proofs.m7700_read_list.Statement as ReadStatement
 use Rattle.loader.proofs.m7700_write_list as Write
 use Rattle.loader.proofs.m7700_write_list.Reads as WriteReads
 use Rattle.loader.proofs.m7700_write_list.Statement as WriteStatement
+use Rattle.loader.proofs.m7700_print as Print
+use Rattle.loader.proofs.m7700_print.Reads as PrintReads
+use Rattle.loader.proofs.m7700_print.Statement as PrintStatement
 use Rattle.loader.proofs.m7700_run as Run
 use Rattle.loader.proofs.m7700_run.Reads as RunReads
 use Rattle.loader.proofs.m7700_run.Statement as RunStatement
@@ -42,6 +45,7 @@ pub record AllReturn : Type 2 where
   pub check : {M : Type 1} → CheckStatement.statement M
   pub read : {M : Type 1} → ReadStatement.statement M
   pub write : {M : Type 1} → WriteStatement.statement M
+  pub print : {M : Type 1} → PrintStatement.statement M
   pub run : {M : Type 1} → RunStatement.statement M
   pub step : {M : Type 1} → StepStatement.statement M
 
@@ -50,11 +54,13 @@ pub record NothingAsked : Type 0 where
   pub check : (κs : Lfts 2) (given : Args Check.signature κs) → CheckReads.Asked κs given
   pub read : (κs : Lfts 2) (given : Args Read.signature κs) → ReadReads.Asked κs given
   pub write : (κs : Lfts 2) (given : Args Write.signature κs) → WriteReads.Asked κs given
+  pub print : (κs : Lfts 3) (given : Args Print.signature κs) → PrintReads.Asked κs given
   pub run : (κs : Lfts 3) (given : Args Run.signature κs) → RunReads.Asked κs given
   pub step : (κs : Lfts 3) (given : Args Step.signature κs) → StepReads.Asked κs given
 
 -- What is lent by `&` is after a call as it was given: all that the check is lent, the text of a list that is read, the
--- marks of one that is written, the image of the machine. `last` is what the buffers lent by `&mut` hold then.
+-- marks of one that is written, image and marks of a page that is printed, the image of the machine. `last` is what the
+-- buffers lent by `&mut` hold then.
 pub record SharedStays : Type 0 where
   pub check : (κs : Lfts 2) (given : Args Check.signature κs) (last : Lasts Check.ended κs given)
       → atExit Check.ended κs given last ≡ given
@@ -62,6 +68,8 @@ pub record SharedStays : Type 0 where
       → atExit Read.ended κs given last .0 ≡ given .0
   pub write : (κs : Lfts 2) (given : Args Write.signature κs) (last : Lasts Write.ended κs given)
       → atExit Write.ended κs given last .0 ≡ given .0
+  pub print : (κs : Lfts 3) (given : Args Print.signature κs) (last : Lasts Print.ended κs given)
+      → (atExit Print.ended κs given last .0 ≡ given .0) × (atExit Print.ended κs given last .1 .0 ≡ given .1 .0)
   pub run : (κs : Lfts 3) (given : Args Run.signature κs) (last : Lasts Run.ended κs given)
       → atExit Run.ended κs given last .0 ≡ given .0
   pub step : (κs : Lfts 3) (given : Args Step.signature κs) (last : Lasts Step.ended κs given)
@@ -95,6 +103,12 @@ WriteContract marks base reset page result page-left =
     let κs : Lfts 2 = (marks .lifetime, (page .lifetime, tt)) in
     let given : Args Write.signature κs = (marks .lent, (base, (reset, (page .lent, tt)))) in
     WriteReads.Learnt κs given result (atExit Write.ended κs given (tt, (tt, (tt, (page-left, tt)))))
+
+abbrev pub PrintContract : Buffer → Buffer → ℕ → ℕ → Buffer → ℕ → List ℕ → Type 0
+PrintContract image marks base reset page result page-left =
+    let κs : Lfts 3 = (image .lifetime, (marks .lifetime, (page .lifetime, tt))) in
+    let given : Args Print.signature κs = (image .lent, (marks .lent, (base, (reset, (page .lent, tt))))) in
+    PrintReads.Learnt κs given result (atExit Print.ended κs given (tt, (tt, (tt, (tt, (page-left, tt))))))
 
 abbrev pub RunContract : Buffer → ℕ → Buffer → Buffer → ℕ → ℕ → List ℕ → List ℕ → Type 0
 RunContract image base state ram steps result state-left ram-left =
@@ -136,6 +150,17 @@ pub record WriteCall : Type 0 where
   pub result : ℕ
   pub page-left : List ℕ
   pub kept : WriteContract marks base reset page result page-left
+
+-- of `m7700_print`
+pub record PrintCall : Type 0 where
+  pub image : Buffer
+  pub marks : Buffer
+  pub base : ℕ
+  pub reset : ℕ
+  pub page : Buffer
+  pub result : ℕ
+  pub page-left : List ℕ
+  pub kept : PrintContract image marks base reset page result page-left
 
 -- of `m7700_run`; or of `m7700_step`, which asks for one step
 pub data MachineContract (image : Buffer) (base : ℕ) (state ram : Buffer) (steps result : ℕ)

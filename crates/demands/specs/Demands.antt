@@ -1,5 +1,5 @@
 -- The customer's three conditions of acceptance (papers/00-acceptance.md), in their order and words: three propositions
--- about the calls of the five functions that a loader links (include/m7700.h). Their proofs are `demand-1`, `demand-2`
+-- about the calls of the functions that a loader links (include/m7700.h). Their proofs are `demand-1`, `demand-2`
 -- and `demand-3` of proofs/Demands.antt.
 --
 -- A call is what it is given, its result and what it leaves, with its function's contract (Calls.antt): `holds` is

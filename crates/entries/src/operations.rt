@@ -1,8 +1,10 @@
-// The operation of an entry, and its mnemonic for whoever prints instructions.
+// The operation of an entry, and its words for whoever prints instructions.
 use types::code::Operation;
 ghost use mathlib.Core.Path.{_≡_};
+ghost use Rattle.prelude.specs.Choice.{pick};
 ghost use Rattle.codepages.specs.Packing.{unpacked};
-ghost use Rattle.model.specs.Words.{wordOf};
+ghost use Rattle.model.specs.PrintedPage.{blank, flushLeft};
+ghost use Rattle.model.specs.Words.{wordOf, isLong, syntaxWord};
 
 // The manual's operations, and the one of an unassigned code.
 const COUNT: usize = 104;
@@ -139,7 +141,7 @@ pub fn operation_of(n: u32) -> Operation
     }
 }
 
-// Its word.
+// Its mnemonic.
 pub fn word_of(n: u32) -> [u8; 3]
     ensures { λ r. ⌜ r ≡ wordOf (unpacked n .operation) ⌝ }
 {
@@ -147,4 +149,33 @@ pub fn word_of(n: u32) -> [u8; 3]
     let row = WORDS[k / 16];
     let at = k % 16 * 4;
     [row[at], row[at + 1], row[at + 2]]
+}
+
+// A bit for the number of each mode through a pointer of three bytes, 10, 11 and 19, and of each long target, 2 and 4.
+const LONG_MODES: u32 = 0x80C00;
+
+const LONG_TARGETS: u32 = 0x14;
+
+// The form is a long one.
+fn is_long(n: u32) -> bool
+    ensures { λ r. ⌜ r ≡ isLong (unpacked n) ⌝ }
+{
+    let mode = n / 128 % 32;
+    let target = n / 262_144 % 8;
+    0 < (LONG_MODES >> mode) % 2 + (LONG_TARGETS >> target) % 2
+}
+
+// The letter behind the mnemonic, a blank for none.
+fn last_letter(n: u32) -> u8
+    ensures { λ r. ⌜ r ≡ pick (isLong (unpacked n)) 0x4C blank ⌝ }
+{
+    if is_long(n) { b'L' } else { b' ' }
+}
+
+// The first word of the form's syntax, in four columns.
+pub fn syntax_word(n: u32) -> [u8; 4]
+    ensures { λ r. ⌜ r ≡ flushLeft 4 (syntaxWord (unpacked n)) ⌝ }
+{
+    let word = word_of(n);
+    [word[0], word[1], word[2], last_letter(n)]
 }

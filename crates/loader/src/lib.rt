@@ -3,16 +3,20 @@ use checker::check;
 use marklist::reader::read_list;
 use marklist::writer::write_list;
 use packing::pack;
+use packing::pack_printed;
 use packing::pack_read;
 use packing::pack_run;
 use packing::pack_written;
+use packing::pass_on;
+use printer::print_accepted;
 use runs::bytes::run;
 ghost use mathlib.Core.Path.{_≡_};
 ghost use Rattle.model.specs.Memory.{memory};
 ghost use Rattle.model.specs.RunBytes.{ranBytes};
 ghost use Rattle.model.specs.Verdict.{verdict};
 ghost use Rattle.model.specs.MarkList.{readList, marksRead, writeList, pageWritten};
-ghost use Rattle.packing.specs.Packed.{packedVerdict, packedRead, packedWritten, packedRun};
+ghost use Rattle.model.specs.PrintedPage.{printed, pagePrinted};
+ghost use Rattle.packing.specs.Packed.{packedVerdict, packedRead, packedWritten, packedPrinted, packedRun};
 
 // The check: 0 where the image is accepted, else the number of the first broken rule and its offset.
 #[no_mangle]
@@ -38,6 +42,30 @@ pub extern "C" fn m7700_write_list(marks: &[u8], base: u32, reset: u32, page: &m
     ensures page { λ _. ⌜ now (page .exit) ≡ pageWritten (now (marks .entry)) base reset (now (page .entry)) ⌝ }
 {
     pack_written(write_list(marks, base, reset, page))
+}
+
+// The printed page: 0 in the low byte and the length of the rows above it; or the number that refuses it, with the
+// check's offset above it. It calls the exported check, which so keeps the one call of the check that LLVM inlines.
+#[no_mangle]
+pub extern "C" fn m7700_print(
+    image: &[u8],
+    marks: &[u8],
+    base: u32,
+    reset: u32,
+    page: &mut [u8],
+) -> u64
+    ensures answer { λ r. ⌜
+        r ≡ packedPrinted (printed (now (image .entry)) (now (marks .entry)) base reset (now (page .entry)))
+        ⌝ }
+    ensures page { λ _. ⌜
+        now (page .exit) ≡ pagePrinted (now (image .entry)) (now (marks .entry)) base reset (now (page .entry))
+        ⌝ }
+{
+    let refusal = m7700_check(image, marks, base, reset);
+    if refusal != 0 {
+        return pass_on(refusal);
+    }
+    pack_printed(print_accepted(image, marks, base, page))
 }
 
 // A run of the machine: 0 in the low byte and the end, the steps and the calls above it, or the number that refuses it.

@@ -30,7 +30,7 @@ const ADDRESS_DIGITS: usize = 4;
 const LINE_SIZE: usize = 15;
 
 // N, S or L for the kinds 0, 1, 2.
-fn kind_letter(kind: u8) -> u8
+pub fn kind_letter(kind: u8) -> u8
     ensures { λ r. ⌜ r ≡ spec.kindLetter kind ⌝ }
 {
     if kind == 0 {

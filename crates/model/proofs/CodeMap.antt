@@ -8,7 +8,7 @@ use mathlib.Core.List.{List, [], _∷_}
 use Prim.Native.Nat.{ℕ, zero, suc, _≤_, _<_, _/_, _%_}
 use native.Mathlib.Omega.{arith}
 use lib.Dec.{T, leb, leb→le, ltb, eqb, eqb·suc-zero}
-use lib.ListN.{getD}
+use lib.ListN.{length, getD}
 use Rattle.types.specs.declared.code.Operation.{Operation}
 use Rattle.types.specs.declared.code.Entry.{Entry}
 use Rattle.types.specs.declared.code.Kind.{Kind}
@@ -17,6 +17,7 @@ use Rattle.types.specs.declared.code.WidthEffect.{WidthEffect}
 use Rattle.types.specs.declared.code.LengthRule.{LengthRule}
 use Rattle.types.specs.declared.machine.OperandPlace.{OperandPlace}
 use Rattle.model.specs.Operations.{isIn}
+use Rattle.model.specs.Words.{syntaxWord}
 use Rattle.model.specs.Addressing.{operandPlaceOf}
 use Rattle.model.specs.CodePages.{Form, none, plain, behind42, behind89, pages}
 use Rattle.model.specs.CodeMap.{prefixBytes, entryOf, entryAt, moreBytes, lengthAt}
@@ -70,6 +71,18 @@ all-short = tt
 
 pub bytes-at-most : (page code : ℕ) → entryAt page code .bytes ≤ 6
 bytes-at-most page code = leb→le (entryAt page code .bytes) 6 (tested-at short (λ p. tt) all-short page code)
+
+-- the word of every entry, carried or not, has at most four letters
+abbrev worded : ℕ → Entry → Bool
+worded prefix e = leb (length (syntaxWord e)) 4
+
+all-worded : T (every (page-test worded) 0 pages)
+unfolding pages plain behind42 behind89
+all-worded = tt
+
+pub word-at-most : (page code : ℕ) → length (syntaxWord (entryAt page code)) ≤ 4
+word-at-most page code =
+    leb→le (length (syntaxWord (entryAt page code))) 4 (tested-at worded (λ p. tt) all-worded page code)
 
 -- 'Only SEM, CLM, SEP and CLP change them': no call and no return does
 abbrev keepsWidths : WidthEffect → Bool

@@ -45,6 +45,12 @@ base-whole base n h =
     let fits = leb-true (base % bankSize + n) bankSize (both .1) in
     omega arith
 
+-- no more starts than marks
+pub starts-most : (marks : List ℕ) → startCount marks ≤ length marks
+unfolding startCount
+starts-most [] = omega arith
+starts-most (mark ∷ marks) = omega (arith, one-or-none (isStart mark), starts-most marks)
+
 -- what is counted of the marks from i on
 abbrev pub Counted : List ℕ → ℕ → ℕ → Type 0
 Counted marks n i = (i ≤ length marks) × (n ≡ startCount (drop i marks)) × (n + i ≤ length marks)

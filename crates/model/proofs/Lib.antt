@@ -10,6 +10,9 @@ pub mod MarkList
 pub mod ListAnswers
 pub mod RoundTrips
 pub mod ListForm
+pub mod PrintedPage
+pub mod PageReading
+pub mod PrintedAnswers
 pub mod Memory
 pub mod Status
 pub mod Step

@@ -17,13 +17,13 @@ use Rattle.prelude.specs.Choice.{pick}
 use Rattle.text.specs.Digits.{digit, digits, value}
 use Rattle.text.specs.Text.{startsWith}
 use Rattle.types.specs.Addresses.{bankSize}
-use Rattle.model.specs.Image.{isStart, markKind, returnM, returnX, isFormed}
+use Rattle.model.specs.Image.{isStart, markM, markX, markKind, returnM, returnX, isFormed}
 use Rattle.prelude.specs.First.{firstFrom}
 use Rattle.model.specs.MarkList.{tab, lineEnd, lengthDigits, lengthLimit, decimalDigits, headerText, kindLetter}
 use Rattle.model.specs.MarkList.{fields, line, lineOf, lines, tabAt, lengthDigitsShown, headerShown, bitShown}
 use Rattle.model.specs.MarkList.{kindShown, fieldsMark, isLine, markShown, lineSize, marksShown, linesLeft}
 use Rattle.prelude.proofs.Table.{upTo, below-all}
-use Rattle.prelude.proofs.Choice.{both-true}
+use Rattle.prelude.proofs.Choice.{one-of, both-true}
 use Rattle.prelude.proofs.First.{first-is, first-only}
 use Rattle.text.proofs.DigitLaws.{length-digits, digits-high, behind-digits, value-digits, count-most, count-enough}
 use Rattle.text.proofs.Text.{starts-split, starts-append}
@@ -175,6 +175,34 @@ fields-again mark rest started formed =
     small : (mark ≡ 0) ⊎ ((isStart mark ≡ true) × (mark < 128)) → mark < 128
     small (inl e) = omega arith
     small (inr s) = s .1
+
+-- each of a mark's fields is what its digit or letter shows: these make up the mark, and are in their ranges
+bit-most : (byte : ℕ) → bitShown byte ≤ 1
+unfolding bitShown
+bit-most byte = one-of (eqb byte 0x30) 0 1 (omega arith) (omega arith)
+
+kind-most : (byte : ℕ) → kindShown byte ≤ 2
+unfolding kindShown
+kind-most byte = by (eqb byte 0x4E) (eqb byte 0x53)
+  where
+    by : (n s : Bool) → pick n 0 (pick s 1 2) ≤ 2
+    by true s = omega arith
+    by false true = omega arith
+    by false false = omega arith
+
+pub record FieldsAgain (mark : ℕ) : Type 0 where
+  pub m : bitShown (digit (markM mark)) ≡ markM mark
+  pub x : bitShown (digit (markX mark)) ≡ markX mark
+  pub kind : kindShown (kindLetter (markKind mark)) ≡ markKind mark
+
+pub each-again : (mark : ℕ) → isStart mark ≡ true → isFormed mark ≡ true → FieldsAgain mark
+unfolding fieldsMark fields
+each-again mark started formed =
+    let whole = fields-again mark [] started formed in
+    let m = bit-most (digit (markM mark)) in
+    let x = bit-most (digit (markX mark)) in
+    let kind = kind-most (kindLetter (markKind mark)) in
+    record { m = omega arith; x = omega arith; kind = omega arith }
 
 -- an address that a text begins with is the number of its first four digits
 pub line-address : (address : ℕ) (text : List ℕ) → isLine address text ≡ true → value 16 4 text ≡ address

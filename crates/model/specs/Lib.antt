@@ -1,4 +1,4 @@
--- Everything that a reader has to believe, a file for each topic of document 01.
+-- What a reader has to believe beside the types and the small crates below, a file for each topic of document 01.
 pub mod Operations
 pub mod Words
 pub mod CodePages
@@ -10,6 +10,8 @@ pub mod Meaning
 pub mod Verdict
 pub mod MarkList
 pub mod ListForm
+pub mod PrintedPage
+pub mod PageReading
 pub mod Memory
 pub mod Addressing
 pub mod Arithmetic

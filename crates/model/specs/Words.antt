@@ -1,7 +1,13 @@
--- The mnemonic of each operation (manual 4.2), three letters in ASCII.
+-- The words of an instruction in ASCII: the mnemonic of its operation (manual 4.2), three letters, and the first word
+-- of its syntax.
 -- Assumes nothing.
 use Prim.Native.Nat.{ℕ}
-use mathlib.Core.List.{List, [], _∷_}
+use mathlib.Core.Bool.{Bool, true, false, _||_}
+use mathlib.Core.List.{List, [], _∷_, _++_}
+use Rattle.prelude.specs.Choice.{pick}
+use Rattle.types.specs.declared.code.Mode.{Mode}
+use Rattle.types.specs.declared.code.Target.{Target}
+use Rattle.types.specs.declared.code.Entry.{Entry}
 use Rattle.types.specs.declared.code.Operation.{Operation}
 use Rattle.types.specs.declared.code.Operation.the-variants as ops
 use ops.{Unassigned, ADC, AND, ASL, BBC, BBS, BCC, BCS, BEQ, BMI, BNE, BPL, BRA, BRK, BVC, BVS, CLB, CLC, CLI, CLM}
@@ -194,3 +200,50 @@ wordOf TYB = word 'T' 'Y' 'B'
 wordOf TYX = word 'T' 'Y' 'X'
 wordOf WIT = word 'W' 'I' 'T'
 wordOf XAB = word 'X' 'A' 'B'
+
+-- the modes through a pointer of three bytes, whose symbols begin with L: L(DIR), L(DIR),Y and L(ABS)
+abbrev pub isLongMode : Mode → Bool
+isLongMode Mode.Implied = false
+isLongMode Mode.Immediate = false
+isLongMode Mode.Accumulator = false
+isLongMode Mode.Direct = false
+isLongMode Mode.DirectBit = false
+isLongMode Mode.DirectIndexedX = false
+isLongMode Mode.DirectIndexedY = false
+isLongMode Mode.DirectIndirect = false
+isLongMode Mode.DirectIndexedXIndirect = false
+isLongMode Mode.DirectIndirectIndexedY = false
+isLongMode Mode.DirectIndirectLong = true
+isLongMode Mode.DirectIndirectLongIndexedY = true
+isLongMode Mode.Absolute = false
+isLongMode Mode.AbsoluteBit = false
+isLongMode Mode.AbsoluteIndexedX = false
+isLongMode Mode.AbsoluteIndexedY = false
+isLongMode Mode.AbsoluteLong = false
+isLongMode Mode.AbsoluteLongIndexedX = false
+isLongMode Mode.AbsoluteIndirect = false
+isLongMode Mode.AbsoluteIndirectLong = true
+isLongMode Mode.AbsoluteIndexedXIndirect = false
+isLongMode Mode.Stack = false
+isLongMode Mode.Relative = false
+isLongMode Mode.DirectBitRelative = false
+isLongMode Mode.AbsoluteBitRelative = false
+isLongMode Mode.StackPointerRelative = false
+isLongMode Mode.StackPointerRelativeIndirectIndexedY = false
+isLongMode Mode.BlockTransfer = false
+
+-- the targets that make a form long: BRA's offset of 16 bits, the 24-bit address of JMP and JSR
+abbrev pub isLongTarget : Target → Bool
+isLongTarget Target.NoTarget = false
+isLongTarget Target.Offset8 = false
+isLongTarget Target.Offset16 = true
+isLongTarget Target.Address16 = false
+isLongTarget Target.Address24 = true
+
+abbrev pub isLong : Entry → Bool
+isLong e = isLongMode (e .mode) || isLongTarget (e .target)
+
+-- 02, R-1: 'the first word of the manual's syntax for the form'. A long form has an L behind the mnemonic: ADCL A,
+-- (dd); JMPL hhmmll; BRAL rr1rr2. Data at an absolute long address makes none: ADC A, hhmmll.
+abbrev pub syntaxWord : Entry → List ℕ
+syntaxWord e = wordOf (e .operation) ++ pick (isLong e) ('L' ∷ []) []

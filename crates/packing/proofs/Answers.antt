@@ -1,4 +1,4 @@
--- Every answer of the check, the reader and the writer fits its packing.
+-- Every answer of the check, the reader, the writer and the printer fits its packing.
 -- Assumes nothing.
 use mathlib.Core.Path.{_≡_, refl}
 use mathlib.Core.List.{List}
@@ -7,11 +7,14 @@ use native.Mathlib.Omega.{arith}
 use Rattle.types.specs.declared.rules.Verdict.{Verdict}
 use Rattle.types.specs.declared.lists.ListRead.{ListRead}
 use Rattle.types.specs.declared.lists.ListWritten.{ListWritten}
+use Rattle.types.specs.declared.pages.Printed.{Printed}
 use Rattle.model.specs.Verdict.{verdict}
 use Rattle.model.specs.MarkList.{readList, writeList}
+use Rattle.model.specs.PrintedPage.{printed}
 use Rattle.model.proofs.Meaning.{refused-small}
+use Rattle.model.proofs.PrintedAnswers.{refused-offset, printed-small}
 use Rattle.model.proofs.ListAnswers.{read-small, written-small}
-use Rattle.packing.specs.Packed.{Fits, ReadFits, WrittenFits}
+use Rattle.packing.specs.Packed.{Fits, ReadFits, WrittenFits, PrintedFits}
 
 pub verdict-fits : (image marks : List ℕ) (base reset : ℕ) → Fits (verdict image marks base reset)
 verdict-fits image marks base reset = by (verdict image marks base reset) refl
@@ -33,3 +36,11 @@ written-fits marks base reset page = by (writeList marks base reset page) refl
     by : (a : ListWritten) → writeList marks base reset page ≡ a → WrittenFits a
     by (ListWritten.NotWritten why) e = tt
     by (ListWritten.Written n) e = omega (arith, written-small marks base reset n page e)
+
+pub printed-fits : (image marks : List ℕ) (base reset : ℕ) (page : List ℕ)
+    → PrintedFits (printed image marks base reset page)
+printed-fits image marks base reset page = by (printed image marks base reset page) refl
+  where
+    by : (a : Printed) → printed image marks base reset page ≡ a → PrintedFits a
+    by (Printed.NotPrinted why at) e = refused-offset image marks base reset page why at e
+    by (Printed.Rows n) e = omega (arith, printed-small image marks base reset page n e)

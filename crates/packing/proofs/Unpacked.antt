@@ -1,12 +1,17 @@
 -- The numbers that the functions of include/m7700.h take out of a result are those of the answer that was packed: each
 -- number is below the bound of its bits.
 -- Assumes nothing.
-use mathlib.Core.Path.{_≡_, refl}
-use Prim.Native.Nat.{_+_, _*_, _/_, _^_, _<_}
+use mathlib.Core.Path.{_≡_, refl, ap}
+use mathlib.Core.Bool.{false}
+use Prim.Native.Nat.{ℕ, _+_, _*_, _/_, _%_, _^_, _<_}
 use native.Mathlib.Omega.{arith}
+use borrow.Author.Tests.{ne-eqb}
+use lib.Dec.{eqb}
 use Rattle.types.specs.declared.rules.Verdict.{Verdict}
 use Rattle.types.specs.declared.lists.ListRead.{ListRead}
 use Rattle.types.specs.declared.lists.ListWritten.{ListWritten}
+use Rattle.types.specs.declared.pages.Printed.{Printed}
+use Rattle.types.specs.declared.refusals.Refusal.{Refusal}
 use Rattle.types.specs.declared.runs.End.{End}
 use Rattle.types.specs.declared.runs.RunAnswer.{RunAnswer}
 use Rattle.types.specs.Refusals.{refusalNumber}
@@ -16,6 +21,7 @@ use Rattle.model.proofs.Step.{stop-range}
 use Rattle.packing.specs.Packed.{packedVerdict, Fits, verdictNumbers, checkNumbers}
 use Rattle.packing.specs.Packed.{packedRead, ReadFits, listReadNumbers, readNumbers}
 use Rattle.packing.specs.Packed.{packedWritten, listWrittenNumbers, writtenNumbers}
+use Rattle.packing.specs.Packed.{passedOn, packedPrinted, pagePrintedNumbers, printedNumbers}
 use Rattle.packing.specs.Packed.{packedRun, RunFits, answerNumbers, runNumbers}
 
 pub verdict-unpacked : (v : Verdict) → Fits v → checkNumbers (packedVerdict v) ≡ verdictNumbers v
@@ -54,6 +60,41 @@ written-unpacked (ListWritten.Written n) =
     let number : writtenNumbers (n * 256) .number ≡ 0 = omega arith in
     let length : writtenNumbers (n * 256) .length ≡ n = omega arith in
     λ j. record { number = number j; length = length j }
+
+-- a refusal that is passed on is that of the check; what is 0 is accepted
+pub passed-on : (why : Refusal) (at : ℕ) → Fits (Verdict.Refused why at)
+    → passedOn (packedVerdict (Verdict.Refused why at)) ≡ refusalNumber why + at * 256
+passed-on why at f =
+    let same = verdict-unpacked (Verdict.Refused why at) f in
+    rw (ap (λ n. n .number) same, ap (λ n. n .offset) same)
+
+pub accepted-zero : (v : Verdict) → packedVerdict v ≡ 0 → v ≡ Verdict.Accepted
+accepted-zero Verdict.Accepted e = refl
+accepted-zero (Verdict.Refused why at) e = absurd (omega (arith, refusal-range why .0))
+
+-- a number with another above it: which one it is, is told by the low byte
+module _ (why : Refusal) (at : ℕ) where
+  abbrev refused : ℕ
+  refused = refusalNumber why + at * 256
+
+  refused-low : refused % 2 ^ 8 ≡ refusalNumber why
+  refused-low = omega (arith, refusal-range why .1)
+
+  refused-above : refused / 2 ^ 8 ≡ at
+  refused-above = omega (arith, refusal-range why .1)
+
+  refused-so : eqb (refusalNumber why) 0 ≡ false
+  refused-so = ne-eqb (refusalNumber why) 0 (λ e. omega (arith, refusal-range why .0, e))
+
+count-low : (n : ℕ) → n * 256 % 2 ^ 8 ≡ 0
+count-low n = omega arith
+
+count-above : (n : ℕ) → n * 256 / 2 ^ 8 ≡ n
+count-above n = omega arith
+
+pub printed-unpacked : (a : Printed) → printedNumbers (packedPrinted a) ≡ pagePrintedNumbers a
+printed-unpacked (Printed.NotPrinted why at) = rw (refused-low why at, refused-above why at, refused-so why at)
+printed-unpacked (Printed.Rows n) = rw (count-low n, count-above n)
 
 end-below : (end : End) → endNumber end < 256
 end-below End.Done = omega arith

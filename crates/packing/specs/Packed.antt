@@ -2,9 +2,12 @@
 -- functions of include/m7700.h take out of a result. That these are the numbers of the answer: proofs/Unpacked.antt.
 -- Assumes nothing.
 use Prim.Native.Nat.{ℕ, _+_, _*_, _/_, _%_, _^_, _≤_, _<_}
+use lib.Dec.{eqb}
+use Rattle.prelude.specs.Choice.{pick}
 use Rattle.types.specs.declared.rules.Verdict.{Verdict}
 use Rattle.types.specs.declared.lists.ListRead.{ListRead}
 use Rattle.types.specs.declared.lists.ListWritten.{ListWritten}
+use Rattle.types.specs.declared.pages.Printed.{Printed}
 use Rattle.types.specs.declared.runs.RunAnswer.{RunAnswer}
 use Rattle.types.specs.Addresses.{addressLimit, bankSize}
 use Rattle.types.specs.Refusals.{refusalNumber}
@@ -82,6 +85,37 @@ listWrittenNumbers (ListWritten.Written n) = record { number = 0; length = n }
 -- as `m7700_write_mark_list` takes them
 abbrev pub writtenNumbers : ℕ → WrittenNumbers
 writtenNumbers result = record { number = result % 2 ^ 8; length = result / 2 ^ 8 }
+
+-- ---- the printed page: the number in bits 0 to 7; above it the length of the rows where that is 0, else the offset
+
+abbrev pub packedPrinted : Printed → ℕ
+packedPrinted (Printed.NotPrinted why offset) = refusalNumber why + offset * 256
+packedPrinted (Printed.Rows n) = n * 256
+
+abbrev pub PrintedFits : Printed → Type 0
+PrintedFits (Printed.NotPrinted why offset) = offset < 65_536
+PrintedFits (Printed.Rows n) = n < 72_057_594_037_927_936
+
+pub record PrintedNumbers : Type 0 where
+  pub number : ℕ
+  pub offset : ℕ
+  pub length : ℕ
+
+abbrev pub pagePrintedNumbers : Printed → PrintedNumbers
+pagePrintedNumbers (Printed.NotPrinted why offset) = record { number = refusalNumber why; offset = offset; length = 0 }
+pagePrintedNumbers (Printed.Rows n) = record { number = 0; offset = 0; length = n }
+
+-- the check's refusal as the printer gives it, of the numbers in the check's result
+abbrev pub passedOn : ℕ → ℕ
+passedOn result = checkNumbers result .number + checkNumbers result .offset * 256
+
+-- as `m7700_print_page` takes them
+abbrev pub printedNumbers : ℕ → PrintedNumbers
+printedNumbers result = record {
+  number = result % 2 ^ 8;
+  offset = pick (eqb (result % 2 ^ 8) 0) 0 (result / 2 ^ 8);
+  length = pick (eqb (result % 2 ^ 8) 0) (result / 2 ^ 8) 0;
+}
 
 -- ---- a run: the refusal in bits 0 to 7; where that is 0, the end in bits 8 to 15, the steps in bits 16 to 39 and the
 -- calls in bits 40 to 63

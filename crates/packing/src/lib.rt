@@ -3,6 +3,7 @@
 use types::lists::ListRead;
 use types::lists::ListWritten;
 use types::machine::Stop;
+use types::pages::Printed;
 use types::refusals::refusal_number;
 use types::rules::Verdict;
 use types::runs::End;
@@ -11,6 +12,7 @@ ghost use mathlib.Core.Path.{_≡_};
 ghost use Rattle.model.specs.Run.{endNumber};
 ghost use Rattle.model.specs.Step.{stopNumber};
 ghost use Rattle.packing.specs.Packed.{packedVerdict, Fits, packedRead, ReadFits, packedWritten, WrittenFits};
+ghost use Rattle.packing.specs.Packed.{passedOn, packedPrinted, PrintedFits};
 ghost use Rattle.packing.specs.Packed.{packedRun, RunFits};
 
 // The check's answer: the number above the offset, 0 where the image is accepted.
@@ -43,6 +45,25 @@ pub fn pack_written(answer: ListWritten) -> u64
     match answer {
         ListWritten::NotWritten(why) => refusal_number(why) as u64,
         ListWritten::Written(length) => length as u64 * 256,
+    }
+}
+
+// The check's refusal, as the check packs it, in the form of the printer's answer: the number, and above it the
+// offset.
+pub fn pass_on(refusal: u32) -> u64
+    ensures { λ r. ⌜ r ≡ passedOn refusal ⌝ }
+{
+    (refusal / 65_536) as u64 + (refusal % 65_536) as u64 * 256
+}
+
+// The printer's answer: the refusal's number with the offset above it, or the length above a byte that is 0.
+pub fn pack_printed(answer: Printed) -> u64
+    requires { ⌜ PrintedFits answer ⌝ }
+    ensures { λ r. ⌜ r ≡ packedPrinted answer ⌝ }
+{
+    match answer {
+        Printed::NotPrinted { why, offset } => refusal_number(why) as u64 + offset as u64 * 256,
+        Printed::Rows(length) => length as u64 * 256,
     }
 }
 

@@ -1,2 +1,2 @@
-// Choices, searches, tables and lists of bytes: general definitions with their laws, in specs/ and proofs/.
+// Choices, searches, joined lists, tables and lists of bytes: general definitions in specs/, their laws in proofs/.
 // This crate has no code.

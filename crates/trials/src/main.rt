@@ -120,4 +120,6 @@ fn main() {
     try_files(Kind::Read, &mut read);
     let mut write = *b"write-00.bin";
     try_files(Kind::Write, &mut write);
+    let mut print = *b"print-00.bin";
+    try_files(Kind::Print, &mut print);
 }

@@ -17,6 +17,16 @@ pub(crate) fn space() -> [u8; SPACE]
     [0; SPACE]
 }
 
+// A row for each byte of an image that is too long by one.
+const PAGE_SPACE: usize = 589_860;
+
+// A space that pages are lent from.
+pub(crate) fn page_space() -> [u8; PAGE_SPACE]
+    ensures { λ r. ⌜ 589860 ≡ length r ⌝ }
+{
+    [0; PAGE_SPACE]
+}
+
 // The front of a space, to lend: so many bytes, or all that there are.
 pub(crate) fn front(space: &mut [u8], size: usize) -> &mut [u8] {
     if space.len() < size {
@@ -64,6 +74,14 @@ fn take_u8(file: &[u8], at: &mut usize) -> u8 {
 pub(crate) fn take_bytes<'a>(file: &'a [u8], at: &mut usize) -> &'a [u8] {
     let size = take_u32(file, at);
     take(file, at, size as usize)
+}
+
+// The same where they are there, else none.
+pub(crate) fn take_bytes_if<'a>(there: bool, file: &'a [u8], at: &mut usize) -> &'a [u8] {
+    if there {
+        return take_bytes(file, at);
+    }
+    &file[..0]
 }
 
 // Fills a buffer with bytes that grow by the same number, modulo 256.

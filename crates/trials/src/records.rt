@@ -2,9 +2,11 @@
 // makes the call, and compares the answer and every byte of each lent buffer with what the record says.
 use crate::parts::fill;
 use crate::parts::front;
+use crate::parts::page_space;
 use crate::parts::space;
 use crate::parts::take_buffer;
 use crate::parts::take_bytes;
+use crate::parts::take_bytes_if;
 use crate::parts::take_over;
 use crate::parts::take_pieces;
 use crate::parts::take_u16;
@@ -12,12 +14,13 @@ use crate::parts::take_u32;
 use crate::parts::take_u64;
 use check::same;
 use loader::m7700_check;
+use loader::m7700_print;
 use loader::m7700_read_list;
 use loader::m7700_run;
 use loader::m7700_step;
 use loader::m7700_write_list;
 
-// The value of every mark before a read, and of every byte of the page before a write.
+// The value of every mark before a read, and of every byte of the page before a list is written or an image printed.
 const UNREAD: u8 = 0x5A;
 
 const UNWRITTEN: u8 = 0xA5;
@@ -28,6 +31,7 @@ pub(crate) enum Kind {
     Run,
     Read,
     Write,
+    Print,
 }
 
 // What a record shows: the number of its answer, and whether the call did what it says.
@@ -43,7 +47,8 @@ pub(crate) fn trial_at(kind: Kind, file: &[u8], at: &mut usize) -> Trial {
         Kind::Step => try_machine(file, at, true),
         Kind::Run => try_machine(file, at, false),
         Kind::Read => try_read(file, at),
-        Kind::Write => try_write(file, at),
+        Kind::Write => try_page(file, at, false),
+        Kind::Print => try_page(file, at, true),
     }
 }
 
@@ -125,23 +130,28 @@ fn try_read(file: &[u8], at: &mut usize) -> Trial {
     }
 }
 
-// A list written, and the page that it leaves.
-fn try_write(file: &[u8], at: &mut usize) -> Trial {
+// A list written or an image printed, and the page that it leaves. A record of a list has no image.
+fn try_page(file: &[u8], at: &mut usize, printed: bool) -> Trial {
     let base = take_u32(file, at);
     let reset = take_u32(file, at);
+    let image = take_bytes_if(printed, file, at);
     let marks = take_bytes(file, at);
     let size = take_u32(file, at) as usize;
     let answer = take_u64(file, at);
-    let mut page_space = space();
-    let mut after_space = space();
-    let page = front(&mut page_space, size);
+    let mut lent_space = page_space();
+    let mut after_space = page_space();
+    let page = front(&mut lent_space, size);
     let after = front(&mut after_space, size);
     fill(page, UNWRITTEN, 0);
     fill(after, UNWRITTEN, 0);
     if answer % 256 == 0 {
         take_over(file, at, after, 0, (answer / 256) as usize);
     }
-    let given = m7700_write_list(marks, base, reset, page);
+    let given = if printed {
+        m7700_print(image, marks, base, reset, page)
+    } else {
+        m7700_write_list(marks, base, reset, page)
+    };
     Trial {
         number: (answer % 256) as usize,
         agrees: page.len() == size && given == answer && same(page, after),

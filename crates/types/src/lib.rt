@@ -4,6 +4,7 @@ pub mod addresses;
 pub mod code;
 pub mod lists;
 pub mod machine;
+pub mod pages;
 pub mod refusals;
 pub mod rules;
 pub mod runs;

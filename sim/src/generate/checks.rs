@@ -59,7 +59,7 @@ pub fn damaged(rng: &mut Rng) -> CheckCase {
 }
 
 /// Another return instruction, or other widths where one stands.
-fn damage_return(rng: &mut Rng, case: &mut CheckCase) {
+pub(super) fn damage_return(rng: &mut Rng, case: &mut CheckCase) {
     let returns = |k: &usize| case.marks[*k] != 0 && matches!(case.image[*k], 0x60 | 0x6B);
     let places: Vec<usize> = (0..case.image.len()).filter(returns).collect();
     if places.is_empty() {

@@ -429,7 +429,7 @@ fn aimed_marks(rng: &mut Rng, number: u8) -> WriteCase {
 }
 
 /// Above FFFFFF, or past a bank's end by one byte or more.
-fn broken_base(rng: &mut Rng, length: usize) -> u32 {
+pub(super) fn broken_base(rng: &mut Rng, length: usize) -> u32 {
     let past = 0x1_0001 - length as u32 + rng.below(length as u64) as u32;
     match rng.below(3) {
         0 => *rng.pick(&[0x100_0000, 0x100_C000, 0x8000_0000, u32::MAX]),

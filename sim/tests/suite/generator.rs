@@ -16,6 +16,7 @@ fn the_seed_alone_decides() {
         assert_eq!(run_case(&mut a), run_case(&mut b));
         assert_eq!(read_case(&mut a), read_case(&mut b));
         assert_eq!(write_case(&mut a), write_case(&mut b));
+        assert_eq!(print_case(&mut a), print_case(&mut b));
         let mut other = Rng::new(seed + 1000);
         assert_ne!(Rng::new(seed).next_u64(), other.next_u64());
     }
@@ -154,6 +155,21 @@ fn lists_reach_every_number() {
     assert_eq!(written, BTreeSet::from([0, 1, 2, 3, 4, 15]));
 }
 
+/// Of every answer, pages that are long enough and such that are not.
+#[test]
+fn prints_reach_every_number() {
+    let mut rng = Rng::new(6);
+    let mut seen = BTreeSet::new();
+    for _ in 0..40_000 {
+        let case = print_case(&mut rng);
+        let starts = case.checked.marks.iter().filter(|m| **m & 1 == 1).count();
+        seen.insert((case.answer().0 as u8, case.page_len < 36 * starts));
+    }
+    let refused = (1..=10).flat_map(|number| [(number, false), (number, true)]);
+    let all: BTreeSet<(u8, bool)> = refused.chain([(0, false), (15, true)]).collect();
+    assert_eq!(seen, all);
+}
+
 /// Aimed cases have their number, whatever the seed.
 #[test]
 fn aimed_cases_have_their_number() {
@@ -172,6 +188,9 @@ fn aimed_cases_have_their_number() {
             }
             for number in [0, 1, 2, 3, 4, 15] {
                 assert_eq!(write_by(&mut rng, number).answer().0 as u8, number);
+            }
+            for number in (0..=10).chain([15]) {
+                assert_eq!(print_by(&mut rng, number).answer().0 as u8, number);
             }
         }
     }

@@ -1,6 +1,7 @@
-//! The answer line of the program `check`, by library and by the binary.
+//! The answer line of the program `check` and the page of `print`, by library
+//! and by the binary.
 
-use sim7700::answer::answer;
+use sim7700::answer::{answer, page};
 use std::path::PathBuf;
 use std::process::Command;
 
@@ -25,6 +26,38 @@ fn accepted_and_refused() {
     assert_eq!(answer(&IMAGE_1, base.as_bytes()), "A\t4\n");
 }
 
+const PAGE_1: &str = "00C000 49 34 12          EOR  0 0 N\n\
+00C003 F8                SEM  0 0 N\n\
+00C004 49 56             EOR  1 0 N\n\
+00C006 DB                STP  1 0 N\n";
+
+#[test]
+fn printed_and_refused() {
+    assert_eq!(page(&IMAGE_1, LIST_1.as_bytes()), PAGE_1);
+    let base = LIST_1.replace("00C000", "12C000");
+    let other_bank = PAGE_1.replace("00C00", "12C00");
+    assert_eq!(page(&IMAGE_1, base.as_bytes()), other_bank);
+    let widths = LIST_1.replace("C004\t1", "C004\t0");
+    assert_eq!(page(&IMAGE_1, widths.as_bytes()), "R\t9\t3\n");
+    assert_eq!(page(&IMAGE_1[..6], LIST_1.as_bytes()), "R\t1\t0\n");
+    assert_eq!(page(&IMAGE_1, b"I\n"), "R\t14\t0\n");
+}
+
+#[test]
+fn pages_of_files() {
+    let image = file("printed-image", &IMAGE_1);
+    let list = file("printed-list", LIST_1.as_bytes());
+    let none = std::env::temp_dir().join("sim7700-no-such-file");
+    assert_eq!(said("print", &image, &list), PAGE_1);
+    assert_eq!(said("print", &list, &list), "R\t1\t0\n");
+    assert_eq!(said("print", &image, &image), "R\t14\t0\n");
+    assert_eq!(said("print", &none, &list), "L\n");
+    assert_eq!(said("print", &image, &none), "L\n");
+    for path in [image, list] {
+        std::fs::remove_file(path).unwrap();
+    }
+}
+
 fn file(name: &str, bytes: &[u8]) -> PathBuf {
     let path = std::env::temp_dir().join(format!("sim7700-{}-{name}", std::process::id()));
     std::fs::write(&path, bytes).unwrap();
@@ -32,8 +65,12 @@ fn file(name: &str, bytes: &[u8]) -> PathBuf {
 }
 
 fn program(image: &PathBuf, list: &PathBuf) -> String {
+    said("check", image, list)
+}
+
+fn said(command: &str, image: &PathBuf, list: &PathBuf) -> String {
     let output = Command::new(env!("CARGO_BIN_EXE_sim7700"))
-        .arg("check")
+        .arg(command)
         .args([image, list])
         .output()
         .unwrap();

@@ -4,7 +4,7 @@ use sim7700::codes::{entry_of, page_of, Register, Word};
 use sim7700::generate::VALUES;
 use sim7700::state::Registers;
 use sim7700::vectors::*;
-use sim7700::{check, read_list, run, write_list};
+use sim7700::{check, print, read_list, run, write_list};
 use std::collections::{BTreeMap, BTreeSet};
 
 #[test]
@@ -17,19 +17,23 @@ fn the_same_seed_gives_the_same_bytes() {
     }
 }
 
-/// The check files are kept elsewhere too: their bytes stay (FNV-1a, 64 bits,
-/// over names and bytes).
+/// The check and print files hang on no machine and are kept elsewhere too: their
+/// bytes stay (FNV-1a, 64 bits, over names and bytes).
 #[test]
-fn check_files_stay() {
-    let mut hash = 0xCBF2_9CE4_8422_2325u64;
-    for (name, bytes) in files(DEFAULT_SEED) {
-        if name.starts_with("check") {
-            for &byte in name.as_bytes().iter().chain(&bytes) {
+fn kept_files_stay() {
+    let files = files(DEFAULT_SEED);
+    for (kind, kept) in [
+        ("check", 0x609C_1CB5_EDEC_D7E0u64),
+        ("print", 0xBFD2_0B57_B7A6_4DA3),
+    ] {
+        let mut hash = 0xCBF2_9CE4_8422_2325u64;
+        for (name, bytes) in files.iter().filter(|(name, _)| name.starts_with(kind)) {
+            for &byte in name.as_bytes().iter().chain(bytes) {
                 hash = (hash ^ byte as u64).wrapping_mul(0x100_0000_01B3);
             }
         }
+        assert_eq!(hash, kept, "{kind} {hash:016X}");
     }
-    assert_eq!(hash, 0x609C_1CB5_EDEC_D7E0, "{hash:016X}");
 }
 
 /// A reader of the format, as README.md tells it.
@@ -107,8 +111,24 @@ fn try_record(kind: &str, r: &mut Reader) -> u64 {
             assert_eq!(page, expected);
             answer & 0xFF
         }
+        "print" => try_print(r),
         _ => try_run(r),
     }
+}
+
+fn try_print(r: &mut Reader) -> u64 {
+    let (base, reset) = (r.number(4) as u32, r.number(4) as u32);
+    let (image, marks) = (r.bytes(), r.bytes());
+    let mut page = vec![0xA5; r.number(4) as usize];
+    let answer = r.number(8);
+    let mut expected = page.clone();
+    if answer & 0xFF == 0 {
+        let rows = r.take((answer >> 8) as usize);
+        expected[..rows.len()].copy_from_slice(rows);
+    }
+    assert_eq!(print(image, marks, base, reset, &mut page), answer);
+    assert!(page == expected, "{image:02X?} {marks:02X?}");
+    answer & 0xFF
 }
 
 fn try_run(r: &mut Reader) -> u64 {
@@ -162,6 +182,38 @@ fn records_agree_and_every_number_stands() {
     least("run", &all(&RUN_NUMBERS), 100);
     least("read", &all(&READ_NUMBERS), 100);
     least("write", &all(&WRITE_NUMBERS), 100);
+    least("print", &all(&PRINT_NUMBERS), 100);
+}
+
+/// Every carried code is printed at each pair of widths.
+#[test]
+fn carried_codes_are_printed() {
+    let mut printed = BTreeSet::new();
+    for (_, bytes) in print_files(DEFAULT_SEED) {
+        let mut r = Reader(&bytes);
+        for _ in 0..r.number(4) {
+            printed.extend(codes_on_a_page(&mut r));
+        }
+    }
+    assert_eq!(printed.len(), 4 * 380);
+}
+
+/// Page, code and widths of each row in a record of a print file.
+fn codes_on_a_page(r: &mut Reader) -> Vec<(usize, u8, u8)> {
+    r.take(8);
+    let (image, marks) = (r.bytes(), r.bytes());
+    r.take(4);
+    let answer = r.number(8);
+    if answer & 0xFF != 0 {
+        return Vec::new();
+    }
+    r.take((answer >> 8) as usize);
+    let code_at = |(at, mark): (usize, &u8)| {
+        let page = page_of(image[at]);
+        (page, image[at + (page > 0) as usize], mark & 6)
+    };
+    let starts = marks.iter().enumerate().filter(|(_, m)| **m != 0);
+    starts.map(code_at).collect()
 }
 
 /// A run's or step's record without its RAM: image, base, state before,

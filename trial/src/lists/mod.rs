@@ -9,7 +9,6 @@ use crate::tally::Tally;
 use reader::Reader;
 use sim7700::generate::Rng;
 use sim7700::numbers::MAX_IMAGE;
-use std::fmt::{self, Display, Formatter};
 use writer::Writer;
 
 /// Marks somewhat over 01's limit are lent too.
@@ -36,22 +35,4 @@ pub fn trial(count: u64, seed: u64) -> [Tally; 2] {
         }
     }
     tallies
-}
-
-/// A packed answer: its number, and what stands above it.
-struct Answer(u64);
-
-impl Display for Answer {
-    fn fmt(&self, f: &mut Formatter) -> fmt::Result {
-        write!(f, "{} with {:X}", self.0 & 0xFF, self.0 >> 8)
-    }
-}
-
-/// What two answers differ in; empty if nothing.
-fn answers(library: u64, simulator: u64) -> String {
-    if library == simulator {
-        return String::new();
-    }
-    let (library, simulator) = (Answer(library), Answer(simulator));
-    format!("library {library}, simulator {simulator}\n")
 }

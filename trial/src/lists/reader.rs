@@ -1,8 +1,9 @@
 //! The reader under trial.
 
-use super::{answers, MARKS_CAPACITY, TEXT_CAPACITY};
+use super::{MARKS_CAPACITY, TEXT_CAPACITY};
 use crate::faults;
 use crate::guard::Guarded;
+use crate::packed::answers;
 use crate::tally::Named;
 use sim7700::generate::ReadCase;
 use std::fmt::{self, Display, Formatter};

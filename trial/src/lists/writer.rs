@@ -1,9 +1,10 @@
 //! The writer under trial.
 
-use super::{answers, MARKS_CAPACITY, TEXT_CAPACITY};
+use super::{MARKS_CAPACITY, TEXT_CAPACITY};
 use crate::faults;
 use crate::guard::Guarded;
 use crate::hex;
+use crate::packed::answers;
 use crate::tally::Named;
 use sim7700::generate::WriteCase;
 use std::fmt::{self, Display, Formatter};

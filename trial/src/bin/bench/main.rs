@@ -1,7 +1,8 @@
-//! bench check|lists|runs: times the library beside the simulator on the same
+//! bench check|lists|print|runs: times the library beside the simulator on the same
 //! inputs. Every ratio is library time over simulator time.
 
 mod clock;
+mod pages;
 mod runs;
 
 use clock::{row, Input};
@@ -15,7 +16,7 @@ use trial7700::lists::cases::{every_start, Marked};
 /// Calls in a batch, long beside the clock's own cost.
 const CALLS: usize = 20;
 const SEED: u64 = 7700;
-/// Bytes of code that the benchmark of the check goes through in a call.
+/// Bytes of code that the benchmarks of check and page go through in a call.
 const BYTES: usize = 131_072;
 
 fn main() -> ExitCode {
@@ -23,9 +24,10 @@ fn main() -> ExitCode {
     match args.iter().map(String::as_str).collect::<Vec<_>>()[..] {
         ["check"] => check(),
         ["lists"] => lists(),
+        ["print"] => print(),
         ["runs"] => runs::timed(),
         _ => {
-            eprintln!("usage: bench check|lists|runs");
+            eprintln!("usage: bench check|lists|print|runs");
             return ExitCode::from(2);
         }
     }
@@ -56,6 +58,13 @@ fn lists() {
     let halves = [written(&half), read(&half)];
     linear("written", times[0], halves[0]);
     linear("read", times[1], halves[1]);
+}
+
+fn print() {
+    println!("printed images, ns per byte         library  simulator  ratio");
+    let whole = pages::printed("mixed, 16,384", CALLS, &drawn(mixed_code, 16_384));
+    let half = pages::printed("mixed, 8,192", CALLS, &drawn(mixed_code, 8_192));
+    linear("printed", whole, half);
 }
 
 /// Near 2 is linear.

@@ -1,0 +1,2 @@
+-- What printing rows asks of an image.
+pub mod Printable
