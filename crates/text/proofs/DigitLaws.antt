@@ -1,7 +1,7 @@
 -- Digits and their value, both ways, for any radix and any count: one more digit at the end is one more step of the
--- value.
+-- value. Worked from the last digit, the value is the same.
 -- Assumes nothing.
-use mathlib.Core.Path.{_≡_, refl, ap, _∙_}
+use mathlib.Core.Path.{_≡_, refl, sym, ap, _∙_}
 use mathlib.Core.Bool.{Bool, true, false}
 use mathlib.Core.List.{List, [], _∷_, _++_, append-assoc}
 use mathlib.Core.Logic.{_⊎_, inl, inr}
@@ -13,10 +13,13 @@ use native.Mathlib.Omega.{arith}
 use borrow.Author.Tests.{ltb-true, ltb-false, lt-ltb, le-ltb}
 use lib.Arith.{mod-mul}
 use lib.Dec.{ltb}
-use lib.ListN.{length, getD, take, drop, length-append, List·getD-append}
+use lib.ListN.{length, getD, take, drop, length-append, take-append-drop, List·getD-append}
 use lib.Seq.{getD-at, take-suc, drop-append-add}
 use Rattle.prelude.specs.Choice.{pick}
-use Rattle.text.specs.Digits.{digit, digits, digitValue, value, digitCount}
+use Rattle.text.specs.Digits.{digit, digits, digitValue, value, weighed, digitCount}
+use Rattle.text.specs.Digits.{SameValue, IsDigit, ShowsValue, ComparedExactly}
+use Rattle.text.specs.Text.{startsWith}
+use Rattle.text.proofs.Text.{starts-split, starts-append}
 
 pub digit-value : (n : ℕ) → digitValue (digit n) ≡ n
 unfolding digit digitValue
@@ -57,23 +60,27 @@ pub behind-digits : (radix count n k : ℕ) (rest : List ℕ)
 behind-digits radix count n k rest =
     rw (length-digits radix count n) at (drop-append-add (digits radix count n) rest k)
 
-pub digits-high : (radix count n i : ℕ) → i < count → 0x30 ≤ getD (digits radix count n) i 0
+-- each of the digits is that of a remainder by the radix
+digits-each : (P : ℕ → Type 0) (radix : ℕ) → ((k : ℕ) → P (digit (k % radix)))
+    → (count n i : ℕ) → i < count → P (getD (digits radix count n) i 0)
 unfolding digits
-digits-high radix zero n i inside = absurd (omega arith)
-digits-high radix (suc count) n i inside = by (eq-or-lt-of-le (le-of-suc-le-suc inside))
-    (λ below. digits-high radix count (n / radix) i below)
+digits-each P radix all zero n i inside = absurd (omega arith)
+digits-each P radix all (suc count) n i inside = by (eq-or-lt-of-le (le-of-suc-le-suc inside))
+    (λ below. digits-each P radix all count (n / radix) i below)
   where
     front : List ℕ
     front = digits radix count (n / radix)
 
-    by : (i ≡ count) ⊎ (i < count) → (i < count → 0x30 ≤ getD front i 0)
-        → 0x30 ≤ getD (front ++ (digit (n % radix) ∷ [])) i 0
+    by : (i ≡ count) ⊎ (i < count) → (i < count → P (getD front i 0))
+        → P (getD (front ++ (digit (n % radix) ∷ [])) i 0)
     by (inl e) earlier =
-        rw (e, getD-at front (digit (n % radix)) [] 0 count (length-digits radix count (n / radix))) (digit-high (n %
-        radix))
+        rw (e, getD-at front (digit (n % radix)) [] 0 count (length-digits radix count (n / radix))) (all n)
     by (inr below) earlier =
         rw (List·getD-append front (digit (n % radix) ∷ []) 0 i (omega (arith, length-digits radix count (n / radix))))
         (earlier below)
+
+pub digits-high : (radix count n i : ℕ) → i < count → 0x30 ≤ getD (digits radix count n) i 0
+digits-high radix = digits-each (0x30 ≤_) radix (λ k. digit-high (k % radix))
 
 -- a number with one more digit behind it
 one-more : (radix v d : ℕ) → d < radix → ((v * radix + d) / radix ≡ v) × ((v * radix + d) % radix ≡ d)
@@ -107,11 +114,6 @@ value-digits radix (suc count) n rest some small =
       digit-value (n % radix),
     ) (div-add-mod' n radix)
 
--- a byte that is a digit of a radix: the digit of its value
-pub record IsDigit (radix byte : ℕ) : Type 0 where
-  pub small : digitValue byte < radix
-  pub same : digit (digitValue byte) ≡ byte
-
 -- the digits of what digits show are those digits
 pub digits-value : (radix count : ℕ) (text : List ℕ) → count ≤ length text
     → ((i : ℕ) → i < count → IsDigit radix (getD text i 0)) → digits radix count (value radix count text) ≡ take count
@@ -128,6 +130,53 @@ digits-value radix (suc count) text long all =
       take-suc text count 0 long,
       digits-value radix count text (omega arith) (λ i h. all i (omega arith)),
     )
+
+-- ---- digits worked from the last
+
+-- a weight is a factor of the whole: the digits before the last one have it times the radix, and their value takes the
+-- radix there
+weighed-value : (radix weight count : ℕ) (text : List ℕ)
+    → weighed radix weight count text ≡ weight * value radix count text
+unfolding weighed value
+weighed-value radix weight zero text = omega arith
+weighed-value radix weight (suc count) text =
+    omega (arith, weighed-value radix (weight * radix) count text)
+
+pub same-value : SameValue
+same-value radix count text = weighed-value radix 1 count text ∙ omega arith
+
+-- a digit that is below the radix is one of it
+small-digit : (radix n : ℕ) → n < radix → IsDigit radix (digit n)
+small-digit radix n small = record { small = rw (digit-value n) small; same = ap digit (digit-value n) }
+
+-- a text that begins with digits shows their value
+begun-shows : (radix count n : ℕ) (rest : List ℕ) → 0 < radix
+    → ShowsValue radix count (n % radix ^ count) (digits radix count n ++ rest)
+begun-shows radix count n rest some = record {
+  long = rw (length-append (digits radix count n) rest, length-digits radix count n) (omega arith);
+  all = λ i inside. rw
+      (List·getD-append (digits radix count n) rest 0 i (omega (arith, length-digits radix count n)))
+      (digits-each (IsDigit radix) radix (λ k. small-digit radix (k % radix) (mod-lt k some)) count n i inside);
+  worked = same-value radix count (digits radix count n ++ rest) ∙ rw (← digits-low radix count n some)
+      (value-digits radix count (n % radix ^ count) rest some (mod-lt n (one-le-pow count radix some)));
+}
+
+-- the number's last digits are those of the value, which are the field's bytes
+pub compared-exactly : ComparedExactly
+compared-exactly radix count n text some = (shown, compared)
+  where
+    shown : startsWith (digits radix count n) text ≡ true → ShowsValue radix count (n % radix ^ count) text
+    shown h =
+        rw (← starts-split (digits radix count n) text h) at
+        (begun-shows radix count n (drop (length (digits radix count n)) text) some)
+
+    compared : ShowsValue radix count (n % radix ^ count) text → startsWith (digits radix count n) text ≡ true
+    compared s =
+        let field : digits radix count n ≡ take count text =
+        sym (digits-low radix count n some)
+        ∙ ap (digits radix count) (sym (s .worked) ∙ same-value radix count text)
+        ∙ digits-value radix count text (s .long) (s .all) in
+        rw field (rw (take-append-drop count text) at (starts-append (take count text) (drop count text)))
 
 -- ---- how many digits a number has
 

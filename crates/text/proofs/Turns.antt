@@ -4,7 +4,7 @@ use mathlib.Core.Path.{_≡_, refl, sym, _∙_}
 use mathlib.Core.Bool.{Bool, true, false, _&&_}
 use mathlib.Core.List.{List, [], _∷_, _++_}
 use Prim.Native.Nat.{ℕ, zero, suc, _+_, _-_, _*_, _/_, _%_, _^_, _≤_, _<_}
-use native.Mathlib.Nat.{add-zero, pow-suc, pow-zero, pow-le-pow-right, mul-le-mul-right}
+use native.Mathlib.Nat.{add-zero, pow-suc, pow-zero, pow-le-pow-right, mul-le-mul-left, mul-le-mul-right}
 use native.Mathlib.Numerals.{add-one, unary-clauses}
 use native.Mathlib.Omega.{arith}
 use borrow.Author.Tests.{ne-eqb, eq-eqb, lt-ltb, le-ltb}
@@ -13,7 +13,7 @@ use lib.ListN.{length, getD, take, drop, set, length-set}
 use lib.Seq.{drop-cons, take-suc, take-length, drop-length, drop-set-lt, getD-set-same, getD-drop, set-at}
 use lib.Seq.{length-take-le, append-snoc}
 use Rattle.prelude.specs.Choice.{pick}
-use Rattle.text.specs.Digits.{digit, digits, digitValue, value, digitCount}
+use Rattle.text.specs.Digits.{digit, digits, digitValue, weighed, valueFromLast, digitCount}
 use Rattle.text.specs.Text.{startsWith}
 use Rattle.text.proofs.DigitLaws.{digit-high, length-digits, last-digit}
 use Rattle.text.proofs.Text.{starts-long, starts-join}
@@ -142,35 +142,59 @@ unfolding digits
 none-left radix zero n page whole none h = h
 none-left radix (suc i) n page whole none h = absurd (omega arith)
 
--- ---- digits read from the first on
+-- ---- digits worked from the last on
 
--- what i digits show leaves room for the next ones
-abbrev pub Shown : ℕ → List ℕ → ℕ → ℕ → Type 0
-Shown radix text i v = (v ≡ value radix i text) × (v + 255 ≤ 255 * radix ^ i)
+-- with i digits left: what is worked and what is left are the whole value, the weight is that of the next digit, and
+-- what is worked is small enough for it
+pub record Worked (radix count : ℕ) (text : List ℕ) (v w i : ℕ) : Type 0 where
+  pub few : i ≤ count
+  pub whole : v + weighed radix w i text ≡ valueFromLast radix count text
+  pub weight : w * radix ^ i ≡ radix ^ count
+  pub small : v + 255 ≤ 255 * w
 
-pub none-shown : (radix : ℕ) (text : List ℕ) → Shown radix text 0 0
-unfolding value
-none-shown radix text = (refl, omega (arith, pow-zero radix))
+pub none-worked : (radix count : ℕ) (text : List ℕ) → Worked radix count text 0 1 count
+none-worked radix count text =
+    record { few = omega arith; whole = omega arith; weight = omega arith; small = omega arith }
 
-module _ (radix i count v : ℕ) (text : List ℕ) (two : 2 ≤ radix) (inside : i < count)
-    (fits : 255 * radix ^ count ≤ 4_294_967_295) (s : Shown radix text i v) where
-  pub room-for-one : v * radix + 255 * radix ≤ 4_294_967_295
-  room-for-one =
-      let up : radix ^ suc i ≤ radix ^ count = pow-le-pow-right (omega arith) inside in
-      let scaled : (v + 255) * radix ≤ 255 * radix ^ i * radix = mul-le-mul-right radix (s .1) in
-      omega (arith, pow-suc radix i)
+-- the value of the byte before the digits that are worked, in the text from a place on
+pub next-digit : {d byte i : ℕ} (at : ℕ) (text : List ℕ) → 0 < i → byte ≡ getD text (at + i - 1) 0
+    → d ≡ digitValue byte → d ≡ digitValue (getD (drop at text) (i - 1) 0)
+next-digit {i = i} at text some read e =
+    let place : at + i - 1 ≡ at + (i - 1) = omega arith in
+    rw (getD-drop at text (i - 1) 0, ← place, ← read) e
 
-  pub one-more-shown : (d : ℕ) → d ≡ digitValue (getD text i 0) → d ≤ 255 → Shown radix text (i + 1) (v * radix + d)
-  unfolding value
-  one-more-shown d e small =
-      let scaled : (v + 255) * radix ≤ 255 * radix ^ i * radix = mul-le-mul-right radix (s .1) in
-      rw (add-one i) (rw (← s .0, ← e) refl, omega (arith, pow-suc radix i))
+-- there is room for the next digit and the next weight
+pub room-for-one : {radix count v w i : ℕ} {text : List ℕ} (d : ℕ) → 2 ≤ radix
+    → 255 * radix ^ count ≤ 4_294_967_295 → 0 < i → Worked radix count text v w i → d ≤ 255
+    → (v + d * w + 255 ≤ 255 * (w * radix)) × (255 * (w * radix) ≤ 4_294_967_295)
+room-for-one {radix} {count} {v} {w} {i} d two fits some s byte =
+    let most : d * w ≤ 255 * w = mul-le-mul-right w byte in
+    let doubled : w * 2 ≤ w * radix = mul-le-mul-left w two in
+    let up : radix ^ 1 ≤ radix ^ i = pow-le-pow-right (omega arith) some in
+    let scaled : w * radix ^ 1 ≤ w * radix ^ i = mul-le-mul-left w up in
+    (omega (arith, s .small), omega (arith, rw (pow-suc radix 0, pow-zero radix) at scaled, s .weight))
 
-pub all-shown : (radix i count v : ℕ) (text : List ℕ) → i ≤ count → count ≤ i → Shown radix text i v
-    → v ≡ value radix count text
-all-shown radix i count v text most least s =
-    let end : i ≡ count = omega arith in
-    rw end at (s .0)
+pub one-more-worked : {radix count v w i : ℕ} {text : List ℕ} (d : ℕ) → 2 ≤ radix
+    → 255 * radix ^ count ≤ 4_294_967_295 → 0 < i → Worked radix count text v w i → d ≤ 255
+    → d ≡ digitValue (getD text (i - 1) 0) → Worked radix count text (v + d * w) (w * radix) (i - 1)
+unfolding weighed
+one-more-worked {i = zero} d two fits some s byte e = absurd (omega arith)
+one-more-worked {radix} {count} {v} {w} {i = suc j} {text = text} d two fits some s byte e =
+    let before : suc j - 1 ≡ j = omega arith in
+    let whole : v + (digitValue (getD text j 0) * w + weighed radix (w * radix) j text) ≡ valueFromLast radix count text
+    = s .whole in
+    rw before (record {
+      few = omega (arith, s .few);
+      whole = rw (rw before at e) (omega (arith, whole));
+      weight = omega (arith, rw pow-suc at (s .weight));
+      small = room-for-one d two fits some s byte .0;
+    })
+
+pub all-worked : {radix count v w i : ℕ} {text : List ℕ} → i ≤ 0 → Worked radix count text v w i
+    → v ≡ valueFromLast radix count text
+unfolding weighed
+all-worked {i = zero} none s = omega (arith, s .whole)
+all-worked {i = suc i} none s = absurd (omega arith)
 
 -- ---- digits counted from the last on
 

@@ -29,17 +29,19 @@ fn digit_value(byte: u8) -> u8
     byte - (b'A' - 10)
 }
 
-// The number that the bytes of a text from a place on, so many, show. It asks that the number fits whatever the bytes
-// are, the value of each at most 255.
+// The number that the bytes of a text from a place on, so many, show, worked from the last digit to the first. It asks
+// that the number fits whatever the bytes are, the value of each at most 255.
 pub fn number(text: &[u8], at: usize, radix: u32, count: usize) -> u32
     requires { ⌜ (at + count < 18_446_744_073_709_551_616) × (2 ≤ radix) × (255 * radix ^ count ≤ 4_294_967_295) ⌝ }
     ensures { λ r. ⌜ r ≡ spec.value radix count (drop at (now (text .entry))) ⌝ }
 {
     let mut value: u32 = 0;
-    let mut i = 0;
-    while i < count {
-        value = value * radix + digit_value(byte_at(text, at + i)) as u32;
-        i += 1;
+    let mut weight: u32 = 1;
+    let mut i = count;
+    while 0 < i {
+        value += digit_value(byte_at(text, at + i - 1)) as u32 * weight;
+        weight *= radix;
+        i -= 1;
     }
     value
 }

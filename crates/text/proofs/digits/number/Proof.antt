@@ -1,65 +1,77 @@
--- The invariant: the value is what the first i bytes show, and small enough for the bytes that are left.
+-- The invariant: what is worked and the digits that are left, weighed, are the value worked from the last. At the end
+-- the theorem turns that into the value worked from the first.
 -- Assumes nothing.
-use Prim.Native.Nat.{_-_, _≤_}
+use mathlib.Core.Path.{_∙_}
 use native.Mathlib.Omega.{arith}
 use lib.ListN.{drop}
-use lib.Seq.{getD-drop}
-use Rattle.text.proofs.Turns.{Shown, none-shown, room-for-one, one-more-shown, all-shown}
+use Rattle.text.proofs.DigitLaws.{same-value}
+use Rattle.text.proofs.Turns.{Worked, none-worked, next-digit, room-for-one, one-more-worked, all-worked}
 use borrow.Author.Needs.{needs}
 use Rattle.text.proofs.digits.number.Statement.{statement}
 use Rattle.text.proofs.digits.number.Tie as tie
 
 abbrev Inv-loop : tie.InvT-loop
-Inv-loop text at radix count value₀ i₀ value i = (i ≤ count) × Shown radix (drop at text) i value
+Inv-loop text at radix count value₀ weight₀ i₀ value weight i = Worked radix count (drop at text) value weight i
 
 abbrev μ-loop : tie.MeasureT-loop
-μ-loop text at radix count value₀ i₀ value i = count - i
+μ-loop text at radix count value₀ weight₀ i₀ value weight i = i
 
 loop-holds : tie.Need-loop-holds Inv-loop μ-loop
 loop-holds c =
-    let start = c .before in
-    (search needs, none-shown (start .args .radix) (drop (start .args .at) (start .args .text .now)))
+    let args = c .before .args in
+    none-worked (args .radix) (args .count) (drop (args .at) (args .text .now))
+
+add-byte-at : tie.Need-add-byte-at Inv-loop μ-loop
+add-byte-at c = omega (arith, c .before .loop .inv .few)
 
 mul-value : tie.Need-mul-value Inv-loop μ-loop
 mul-value c =
-    let start = c .before .before .before in
-    let loop = c .before .loop in
-    let fits =
-    room-for-one (start .args .radix) (loop .i) (start .args .count) (loop .value)
-    (drop (start .args .at) (start .args .text .now)) (start .pre .1) (c .loop-test .taken) (start .pre .2)
-    (loop .inv .1) in
-    omega (arith, fits)
+    let turn = c .before .before in
+    let start = turn .before .before .before in
+    omega (
+      arith,
+      room-for-one (c .digit-value .result) (start .pre .1) (start .pre .2) (turn .loop-test .taken)
+          (turn .before .loop .inv) (omega arith),
+    )
 
 add-value : tie.Need-add-value Inv-loop μ-loop
 add-value c =
-    let start = c .before .before .before .before .before in
-    let loop = c .before .before .before .loop in
-    let fits =
-    room-for-one (start .args .radix) (loop .i) (start .args .count) (loop .value)
-    (drop (start .args .at) (start .args .text .now)) (start .pre .1) (c .before .before .loop-test .taken)
-    (start .pre .2) (loop .inv .1) in
-    omega (arith, fits)
+    let turn = c .before .before in
+    let start = turn .before .before .before in
+    omega (
+      arith,
+      room-for-one (c .digit-value .result) (start .pre .1) (start .pre .2) (turn .loop-test .taken)
+          (turn .before .loop .inv) (omega arith),
+    )
+
+mul-weight : tie.Need-mul-weight Inv-loop μ-loop
+mul-weight c =
+    let turn = c .before .before in
+    let start = turn .before .before .before in
+    omega (
+      arith,
+      room-for-one (c .digit-value .result) (start .pre .1) (start .pre .2) (turn .loop-test .taken)
+          (turn .before .loop .inv) (omega arith),
+    )
 
 loop-again : tie.Need-loop-again Inv-loop μ-loop
 loop-again c =
-    let start = c .before .before .before .before .before in
-    let loop = c .before .before .before .loop in (
-      omega arith,
-      one-more-shown (start .args .radix) (loop .i) (start .args .count) (loop .value)
-          (drop (start .args .at) (start .args .text .now)) (start .pre .1) (c .before .before .loop-test .taken)
-          (start .pre .2) (loop .inv .1) (c .digit-value .result)
-          (rw (getD-drop (start .args .at) (start .args .text .now) (loop .i) 0, ← c .before .byte-at .ensures)
-          (c .digit-value .ensures)) (omega arith),
-    )
+    let turn = c .before .before in
+    let start = turn .before .before .before in
+    let digit =
+    next-digit (start .args .at) (start .args .text .now) (turn .loop-test .taken) (c .before .byte-at .ensures)
+    (c .digit-value .ensures) in
+    one-more-worked (c .digit-value .result) (start .pre .1) (start .pre .2) (turn .loop-test .taken)
+    (turn .before .loop .inv) (omega arith) digit
 
 returns : tie.Need-returns Inv-loop μ-loop
 returns c =
-    let start = c .before .before .before in
-    let loop = c .before .loop in
-    all-shown (start .args .radix) (loop .i) (start .args .count) (loop .value)
-    (drop (start .args .at) (start .args .text .now)) (loop .inv .0) (c .loop-test .left) (loop .inv .1)
+    let args = c .before .before .before .args in
+    all-worked (c .loop-test .left) (c .before .loop .inv)
+    ∙ same-value (args .radix) (args .count) (drop (args .at) (args .text .now))
 
 pub number-spec : {M : Type 1} → statement M
 number-spec =
-    tie.close (tie.spec Inv-loop μ-loop loop-holds mul-value (λ c. search needs) (λ c κs. search needs)
-    (λ c κs. search needs) (λ c. search needs) add-value (λ c. search needs) (λ c. search needs) loop-again returns)
+    tie.close (tie.spec Inv-loop μ-loop loop-holds add-byte-at (λ c. search needs) (λ c κs. search needs)
+    (λ c κs. search needs) (λ c. search needs) mul-value add-value mul-weight (λ c. search needs) (λ c. search needs)
+    loop-again returns)
