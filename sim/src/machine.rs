@@ -387,6 +387,18 @@ impl<'a> Step<'a> {
         self.sign_zero(width, value);
     }
 
+    /// A transfer into X: under x=1 its upper byte becomes 00 (02, R-3).
+    fn transfer_x(&mut self, value: u16) {
+        self.load_x(value);
+        self.registers.x &= self.registers.index().mask();
+    }
+
+    /// A transfer into Y, alike.
+    fn transfer_y(&mut self, value: u16) {
+        self.load_y(value);
+        self.registers.y &= self.registers.index().mask();
+    }
+
     /// An operation of the accumulator with a datum that leaves a result.
     fn combine(&mut self, i: &Instruction, with: fn(u16, u16) -> u16) -> Result<(), u8> {
         let datum = self.datum(i, self.registers.data())?;
@@ -613,24 +625,24 @@ impl<'a> Step<'a> {
             Word::STY => self.store_register(i, index, r.y)?,
             Word::TAD => self.registers.dpr = r.a,
             Word::TAS => self.registers.s = r.a,
-            Word::TAX => self.load_x(r.a),
-            Word::TAY => self.load_y(r.a),
+            Word::TAX => self.transfer_x(r.a),
+            Word::TAY => self.transfer_y(r.a),
             Word::TBD => self.registers.dpr = r.b,
             Word::TBS => self.registers.s = r.b,
-            Word::TBX => self.load_x(r.b),
-            Word::TBY => self.load_y(r.b),
+            Word::TBX => self.transfer_x(r.b),
+            Word::TBY => self.transfer_y(r.b),
             Word::TDA => self.load_a(r.dpr),
             Word::TDB => self.load_b(r.dpr),
             Word::TSA => self.load_a(r.s),
             Word::TSB => self.load_b(r.s),
-            Word::TSX => self.load_x(r.s),
+            Word::TSX => self.transfer_x(r.s),
             Word::TXA => self.load_a(r.x),
             Word::TXB => self.load_b(r.x),
             Word::TXS => self.registers.s = r.x,
-            Word::TXY => self.load_y(r.x),
+            Word::TXY => self.transfer_y(r.x),
             Word::TYA => self.load_a(r.y),
             Word::TYB => self.load_b(r.y),
-            Word::TYX => self.load_x(r.y),
+            Word::TYX => self.transfer_x(r.y),
             Word::XAB => {
                 self.registers.b = data.replace(r.b, r.a);
                 self.load_a(r.b);

@@ -26,15 +26,20 @@ pub const PRINT_NUMBERS: [u8; 11] = [1, 2, 4, 3, 5, 6, 7, 10, 8, 9, 15];
 /// Turns the seed into the printed pages' own, so that they stay what they
 /// are when others are drawn before them.
 const PRINT_SEED: u64 = 0x5052_494E_5400_0000;
+/// Likewise for the transfers into X and Y, which came later.
+const TRANSFER_SEED: u64 = 0x5452_414E_5300_0000;
 
 /// All files of a seed, by name.
 pub fn files(seed: u64) -> Vec<(String, Vec<u8>)> {
     let mut rng = Rng::new(seed);
     let checks = check_records(&mut rng);
-    let steps = step_records(&mut rng);
-    let runs = run_records(&mut rng);
+    let mut steps = step_records(&mut rng);
+    let mut runs = run_records(&mut rng);
     let reads = read_records(&mut rng);
     let writes = write_records(&mut rng);
+    let mut own = Rng::new(seed ^ TRANSFER_SEED);
+    steps.extend(transfer_steps(&mut own).iter().map(run_record));
+    runs.extend(transfer_runs(&mut own).iter().map(run_record));
     let kinds = [
         ("check", checks),
         ("step", steps),

@@ -19,7 +19,7 @@ use Rattle.types.specs.Addresses.{bankSize}
 use Rattle.types.specs.Status.{numberOf, isSet}
 use Rattle.cpu.specs.File.{registersOf}
 use Rattle.cpu.specs.FileEffects.{status, putting, leaving, loading, combining, comparing, rotating, modified}
-use Rattle.cpu.specs.FileEffects.{modifying}
+use Rattle.cpu.specs.FileEffects.{modifying, transferring}
 use Rattle.cpu.specs.FileEffects.{pulling, swapping, storing, branching}
 use Rattle.actions.specs.declared.tasks.Action.{Action}
 use Rattle.actions.specs.Tasks.{Task}
@@ -98,6 +98,7 @@ module _ (mode : Mode) (short : Bool) (operand next : ℕ) (d : Data) (file : Li
   byAction Action.ChangeFlags choice to = leaving file (withFlags (eqb to 1) (maskOf v choice) (status file))
   byAction Action.Branch choice to = branching file (isWanted (eqb to 1) (isSet (2 ^ (choice % 8)) (getD file 7 0)))
   byAction Action.BranchBits choice to = branching file (eqb (otherBits (eqb to 1) n behind v) 0)
+  byAction Action.Transfer choice to = transferring file to short (getD file (choice % 8) 0) (status file)
 
   abbrev pub effectBy : Task → Effect
   effectBy task = byAction (task .action) (task .choice) (task .destination)

@@ -21,7 +21,7 @@ actions =
     Action.Leave ∷ Action.Load ∷ Action.Move ∷ Action.Store ∷ Action.Push ∷ Action.Pull ∷ Action.PullWhole ∷
     Action.Add ∷ Action.Subtract ∷ Action.And ∷ Action.Or ∷ Action.ExclusiveOr ∷ Action.Compare ∷ Action.Count ∷
     Action.Modify ∷ Action.Rotate ∷ Action.Swap ∷ Action.ChangeBits ∷ Action.ChangeFlags ∷ Action.Branch ∷
-    Action.BranchBits ∷ []
+    Action.BranchBits ∷ Action.Transfer ∷ []
 
 abbrev pub accesses : List OperandUse
 accesses = OperandUse.Operand ∷ OperandUse.Addend ∷ OperandUse.Address ∷ OperandUse.Pull ∷ OperandUse.DirectWord ∷ []

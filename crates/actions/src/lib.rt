@@ -33,11 +33,12 @@ use cpu::file::FILE_SIZE;
 use cpu::file::PS;
 use cpu::flags::flag_at;
 use cpu::flags::with_result;
+use datawidth::low;
 use datawidth::merged;
 use datawidth::wide;
 use types::code::Mode;
 use types::machine::Data;
-ghost use Prim.Native.Nat.{_<_};
+ghost use Prim.Native.Nat.{_%_, _<_};
 ghost use lib.ListN.{getD};
 ghost use Rattle.model.specs.Addressing.{bits};
 ghost use Rattle.anywidth.specs.AnyWidth as width;
@@ -97,6 +98,18 @@ fn counts(down: bool, to: usize, short: bool, registers: &[u16; FILE_SIZE]) -> E
 {
     let value = counted(down, registers[to]);
     loads(to, short, value, registers[PS], registers)
+}
+
+// A register into an index, with N and Z: at 8 bits 00 goes above the data.
+fn transfers(choice: usize, to: usize, short: bool, registers: &[u16; FILE_SIZE]) -> Effect
+    requires { ⌜ to < fileSize ⌝ }
+    ensures { λ r. ⌜
+        Makes r (now (registers .entry)) (rows.transferring (now (registers .entry)) to short
+        (getD (now (registers .entry)) (choice % 8) 0) (rows.status (now (registers .entry))))
+        ⌝ }
+{
+    let v = wide(registers[choice % FILE_SIZE]);
+    puts(to, low(short, v), with_result(short, v, registers[PS]))
 }
 
 // What an action does with its data, by its choice and to its register.
@@ -163,6 +176,7 @@ fn by_action(
             let mask = behind_address(mode, short, operand);
             branches_if(other_bits(to == 1, short, mask, v) == 0, status)
         }
+        Action::Transfer => transfers(choice, to, short, registers),
     }
 }
 

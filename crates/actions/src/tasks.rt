@@ -30,6 +30,7 @@ pub enum Action {
     Store,
     Subtract,
     Swap,
+    Transfer,
 }
 
 // Actions by number.
@@ -75,6 +76,8 @@ pub const BRANCH: u32 = 19;
 
 pub const BRANCH_BITS: u32 = 20;
 
+pub const TRANSFER: u32 = 21;
+
 // One step of each field but the action.
 pub const CHOICE: u32 = 32;
 
@@ -107,6 +110,7 @@ pub(crate) fn action_of(task: u32) -> Action
         CHANGE_FLAGS => Action::ChangeFlags,
         BRANCH => Action::Branch,
         BRANCH_BITS => Action::BranchBits,
+        TRANSFER => Action::Transfer,
         _ => Action::Leave,
     }
 }

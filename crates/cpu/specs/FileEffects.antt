@@ -78,6 +78,10 @@ module _ (file : List ℕ) where
     abbrev pub loading : ℕ → Status → Effect
     loading v s = putting to (merged n old v) (withResult n v s)
 
+    -- data with N and Z, and nothing kept above it: a transfer into an index
+    abbrev pub transferring : ℕ → Status → Effect
+    transferring v s = putting to (low n v) (withResult n v s)
+
     -- what was worked out, with N and Z
     abbrev pub loadingWork : Worked → Effect
     loadingWork w = loading (w .value) (w .status)

@@ -29,8 +29,8 @@ use Rattle.model.specs.Memory.{onByte, evaluate, dataFrom}
 use Rattle.anywidth.specs.AnyWidth.{low, merged}
 use Rattle.model.specs.Addressing.{bits, direct, addressOf, operandPlaceOf, accumulatorOf, dataAt, pulledAt}
 use Rattle.model.specs.Addressing.{operandBy, dataOf}
-use Rattle.model.specs.Arithmetic.{withA, withB, withS, withDpr, withDt, withStatus}
-use Rattle.model.specs.Arithmetic.{loads, loadsA, loadsB, loadsX, loadsY}
+use Rattle.model.specs.Arithmetic.{withA, withB, withX, withY, withS, withDpr, withDt, withStatus}
+use Rattle.model.specs.Arithmetic.{loads, loadsA, loadsB, loadsX, loadsY, transfersInto}
 use Rattle.model.specs.Effects.{Effect, storesOf, pushOf, pushes, popped, modifiesBy, effectOf}
 use Rattle.model.specs.Step.{next, short}
 use Rattle.model.specs.StateBytes.{InWidth}
@@ -149,6 +149,12 @@ module _ (r : Registers) (h : InWidth r) where
 
     loads-y : InWidth (loadsY (bits short) n r)
     loads-y = omega (arith, merged-small short (r .y) n (h .y))
+
+    into-x : InWidth (transfersInto withX (bits short) n r)
+    into-x = omega (arith, low-small short n)
+
+    into-y : InWidth (transfersInto withY (bits short) n r)
+    into-y = omega (arith, low-small short n)
 
     loads-in : (named : Accumulator) → InWidth (loads named (bits short) n r)
     loads-in Accumulator.Unnamed = loads-a
@@ -271,23 +277,23 @@ module _ (mode : Mode) (named : Accumulator) (short : Bool) (operand next : ℕ)
   effect-fine STY = stored-to _
   effect-fine TAD = (in-dpr r h _ (h .a), tt)
   effect-fine TAS = (in-s r h _ (h .a), tt)
-  effect-fine TAX = (loads-x r h short _, tt)
-  effect-fine TAY = (loads-y r h short _, tt)
+  effect-fine TAX = (into-x r h short _, tt)
+  effect-fine TAY = (into-y r h short _, tt)
   effect-fine TBD = (in-dpr r h _ (h .b), tt)
   effect-fine TBS = (in-s r h _ (h .b), tt)
-  effect-fine TBX = (loads-x r h short _, tt)
-  effect-fine TBY = (loads-y r h short _, tt)
+  effect-fine TBX = (into-x r h short _, tt)
+  effect-fine TBY = (into-y r h short _, tt)
   effect-fine TDA = (loads-a r h short _, tt)
   effect-fine TDB = (loads-b r h short _, tt)
   effect-fine TSA = (loads-a r h short _, tt)
   effect-fine TSB = (loads-b r h short _, tt)
-  effect-fine TSX = (loads-x r h short _, tt)
+  effect-fine TSX = (into-x r h short _, tt)
   effect-fine TXA = (loads-a r h short _, tt)
   effect-fine TXB = (loads-b r h short _, tt)
   effect-fine TXS = (in-s r h _ (h .x), tt)
-  effect-fine TXY = (loads-y r h short _, tt)
+  effect-fine TXY = (into-y r h short _, tt)
   effect-fine TYA = (loads-a r h short _, tt)
   effect-fine TYB = (loads-b r h short _, tt)
-  effect-fine TYX = (loads-x r h short _, tt)
+  effect-fine TYX = (into-x r h short _, tt)
   effect-fine WIT = (h, tt)
   effect-fine XAB = (loads-a _ (in-b r h short (r .a)) short _, tt)

@@ -17,6 +17,7 @@ pub mod Memory
 pub mod Status
 pub mod Step
 pub mod Effects
+pub mod ClearedBytes
 pub mod StatusBits
 pub mod StateBytes
 pub mod Run

@@ -1,5 +1,6 @@
 -- What operations do to registers and flags, n being the bits of the data: manual 4.2, an instruction's 'Operation' and
--- 'Status flags'. 01: a result 'has the destination's length', and 'the high byte stays as it was'.
+-- 'Status flags'. 01: a result 'has the destination's length', and 'the high byte stays as it was'; 02, R-3, takes
+-- transfers into an index out of that.
 -- Assumes nothing.
 use Prim.Native.Nat.{ℕ}
 use mathlib.Core.Bool.{Bool, true, not, _&&_, _||_}
@@ -161,6 +162,12 @@ loadsX n v r = flagged n v (withX (merged n (r .x) v) r)
 
 abbrev pub loadsY : ℕ → ℕ → Registers → Registers
 loadsY n v r = flagged n v (withY (merged n (r .y) v) r)
+
+-- A register is transferred into an index, which `put` puts; N and Z are set by the data. 01: 'Manual 2.2 and its note
+-- under implied addressing differ on the high byte of an index under x=1; 2.2 decides'. 02, R-3, overrules that for
+-- transfers: 'The manual's note under implied addressing now decides' (L 228), 'the upper byte becomes 00'.
+abbrev pub transfersInto : (ℕ → Registers → Registers) → ℕ → ℕ → Registers → Registers
+transfersInto put n v r = flagged n v (put (low n v) r)
 
 -- the accumulator that an entry names, A where it names none
 abbrev pub loads : Accumulator → ℕ → ℕ → Registers → Registers

@@ -25,7 +25,8 @@ use Rattle.types.specs.Status.{numberOf}
 use Rattle.anywidth.specs.AnyWidth.{low, isNegative, decremented, clearedBy, shiftedLeft, shiftedRight, isOdd}
 use Rattle.model.specs.Addressing.{bits, operandPlaceOf, accumulatorOf, pulledAt}
 use Rattle.model.specs.Arithmetic.{withCarry, withDisable, withOverflow, withFlagsSet, withFlagsCleared}
-use Rattle.model.specs.Arithmetic.{withS, withDpr, withDt, withStatus, flagged, loadsA, loadsB, loadsX, loadsY}
+use Rattle.model.specs.Arithmetic.{withX, withY, withS, withDpr, withDt, withStatus, flagged}
+use Rattle.model.specs.Arithmetic.{loadsA, loadsB, loadsX, loadsY, transfersInto}
 use Rattle.model.specs.Arithmetic.{loads, adds, subtracts, compares, ands, ors, exclusiveOrs}
 use Rattle.model.specs.Arithmetic.{rotatesA, swaps}
 
@@ -232,23 +233,23 @@ module _ (mode : Mode) (named : Accumulator) (short : Bool) (operand next : ℕ)
   effectOf STY = storesTo short address (r .y) r
   effectOf TAD = only (withDpr (r .a) r)
   effectOf TAS = only (withS (r .a) r)
-  effectOf TAX = only (loadsX n (r .a) r)
-  effectOf TAY = only (loadsY n (r .a) r)
+  effectOf TAX = only (transfersInto withX n (r .a) r)
+  effectOf TAY = only (transfersInto withY n (r .a) r)
   effectOf TBD = only (withDpr (r .b) r)
   effectOf TBS = only (withS (r .b) r)
-  effectOf TBX = only (loadsX n (r .b) r)
-  effectOf TBY = only (loadsY n (r .b) r)
+  effectOf TBX = only (transfersInto withX n (r .b) r)
+  effectOf TBY = only (transfersInto withY n (r .b) r)
   effectOf TDA = only (loadsA n (r .dpr) r)
   effectOf TDB = only (loadsB n (r .dpr) r)
   effectOf TSA = only (loadsA n (r .s) r)
   effectOf TSB = only (loadsB n (r .s) r)
-  effectOf TSX = only (loadsX n (r .s) r)
+  effectOf TSX = only (transfersInto withX n (r .s) r)
   effectOf TXA = only (loadsA n (r .x) r)
   effectOf TXB = only (loadsB n (r .x) r)
   effectOf TXS = only (withS (r .x) r)
-  effectOf TXY = only (loadsY n (r .x) r)
+  effectOf TXY = only (transfersInto withY n (r .x) r)
   effectOf TYA = only (loadsA n (r .y) r)
   effectOf TYB = only (loadsB n (r .y) r)
-  effectOf TYX = only (loadsX n (r .y) r)
+  effectOf TYX = only (transfersInto withX n (r .y) r)
   effectOf WIT = only r
   effectOf XAB = only (swaps n r)

@@ -21,5 +21,6 @@ pub mod StatusBits
 pub mod StateBytes
 pub mod Run
 pub mod Guarantee
+pub mod ClearedBytes
 pub mod RunBytes
 pub mod Grounds

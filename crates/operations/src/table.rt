@@ -24,6 +24,7 @@ use actions::tasks::ROTATE;
 use actions::tasks::STORE;
 use actions::tasks::SUBTRACT;
 use actions::tasks::SWAP;
+use actions::tasks::TRANSFER;
 ghost use mathlib.Core.Path.{_≡_};
 ghost use Rattle.codepages.specs.Packing.{unpacked};
 ghost use Rattle.operations.specs.Table.{columnOf, part, Does, Tasked};
@@ -209,24 +210,24 @@ const TASKS: TaskTable = [
     STORE + FROM_Y + ADDRESS, // STY
     MOVE + FROM_A + TO_DPR, // TAD
     MOVE + FROM_A + TO_S, // TAS
-    LOAD + FROM_A + TO_X, // TAX
-    LOAD + FROM_A + TO_Y, // TAY
+    TRANSFER + FROM_A + TO_X, // TAX
+    TRANSFER + FROM_A + TO_Y, // TAY
     MOVE + FROM_B + TO_DPR, // TBD
     MOVE + FROM_B + TO_S, // TBS
-    LOAD + FROM_B + TO_X, // TBX
-    LOAD + FROM_B + TO_Y, // TBY
+    TRANSFER + FROM_B + TO_X, // TBX
+    TRANSFER + FROM_B + TO_Y, // TBY
     LOAD + FROM_DPR + TO_A, // TDA
     LOAD + FROM_DPR + TO_B, // TDB
     LOAD + FROM_S + TO_A, // TSA
     LOAD + FROM_S + TO_B, // TSB
-    LOAD + FROM_S + TO_X, // TSX
+    TRANSFER + FROM_S + TO_X, // TSX
     LOAD + FROM_X + TO_A, // TXA
     LOAD + FROM_X + TO_B, // TXB
     MOVE + FROM_X + TO_S, // TXS
-    LOAD + FROM_X + TO_Y, // TXY
+    TRANSFER + FROM_X + TO_Y, // TXY
     LOAD + FROM_Y + TO_A, // TYA
     LOAD + FROM_Y + TO_B, // TYB
-    LOAD + FROM_Y + TO_X, // TYX
+    TRANSFER + FROM_Y + TO_X, // TYX
     LEAVE, // WIT
     SWAP, // XAB
     LEAVE, // no operation, from here on

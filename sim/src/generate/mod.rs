@@ -9,6 +9,7 @@ mod programs;
 mod runs;
 mod scene;
 mod steps;
+mod transfers;
 mod values;
 
 pub use aims::{continued_runs, refused_by, stopped_by};
@@ -19,6 +20,7 @@ pub use prints::{print_by, print_case, PrintCase};
 pub use programs::{accepted, every_code, gentle, Program};
 pub use runs::{refused_run, run_case};
 pub use steps::{aimed_step, edge_step, step_case, RunCase, EDGES};
+pub use transfers::{transfer_runs, transfer_steps};
 pub use values::{crossed_steps, valued_steps, VALUES};
 
 /// Arguments of a check.

@@ -313,6 +313,30 @@ fn placed_steps_stop_at_each_place() {
     }
 }
 
+/// Transfers into X and Y are completed, from an upper byte that is not 00 to
+/// 00; runs show it by a store, and what is no transfer keeps it.
+#[test]
+fn transfers_have_upper_bytes() {
+    let mut cleared = 0;
+    for case in transfer_steps(&mut Rng::new(2)) {
+        let (answer, after, _) = case.answer();
+        assert_eq!(answer, 1 << 16);
+        let (before, after) = (Registers::read(&case.state), Registers::read(&after));
+        assert!(before.x > 0xFF && before.y > 0xFF && before.x_flag());
+        cleared += (after.x < 0x100) as u32 + (after.y < 0x100) as u32;
+    }
+    assert_eq!(cleared, 70);
+    let mut above = [0, 0];
+    for case in transfer_runs(&mut Rng::new(2)) {
+        let (answer, _, ram) = case.answer();
+        assert_eq!(answer >> 8 & 0xFF, 22);
+        if answer >> 16 & 0xFF_FFFF == 3 {
+            above[(ram[0x41] != 0) as usize] += 1;
+        }
+    }
+    assert_eq!(above, [7, 10]);
+}
+
 /// Runs of one program: each from the last one's end, refused ones between.
 #[test]
 fn continued_runs_continue() {

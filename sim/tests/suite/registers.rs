@@ -1,6 +1,7 @@
-//! Loads, transfers and exchanges between registers, and 01's rule on high
-//! bytes: "A transfer between registers has the destination's length; the
-//! source's stored high byte is moved where that length is 16."
+//! Loads, transfers and exchanges between registers, and the rules on high
+//! bytes. 01: "A transfer between registers has the destination's length; the
+//! source's stored high byte is moved where that length is 16." 02, R-3: a
+//! transfer into X or Y under x=1 clears the destination's.
 
 use crate::common::*;
 use sim7700::state::Registers;
@@ -71,10 +72,10 @@ fn transfers_have_the_destinations_length() {
                     _ => false,
                 };
                 let place = name(&mut after, to);
-                *place = if byte {
-                    *place & 0xFF00 | value & 0xFF
-                } else {
-                    value
+                *place = match (byte, to) {
+                    (false, _) => value,
+                    (true, 'X' | 'Y') => value & 0xFF,
+                    (true, _) => *place & 0xFF00 | value & 0xFF,
                 };
                 if code != [0xEA] && !matches!(to, 'S' | 'D') {
                     after.ps = after.ps & !(N | Z) | nz(byte, value);
@@ -92,6 +93,78 @@ fn setting_x_leaves_the_high_bytes() {
     registers_after(&[0xE2, 0x10], FULL, after);
     let cleared = Registers { ps: 0, ..FULL };
     registers_after(&[0xC2, 0x10], after, cleared);
+}
+
+/// What is no transfer leaves the upper byte under x=1: loads, pulls, counts.
+#[test]
+fn others_leave_the_upper_byte() {
+    let codes: [(&[u8], char, u16); 12] = [
+        (&[0xA2, 0x12], 'X', 0x7112),
+        (&[0xA6, 0x00], 'X', 0x7134),
+        (&[0xAE, 0x80, 0x00], 'X', 0x7134),
+        (&[0xA0, 0x12], 'Y', 0x8112),
+        (&[0xA4, 0x00], 'Y', 0x8134),
+        (&[0xFA], 'X', 0x7156),
+        (&[0x7A], 'Y', 0x8156),
+        (&[0xE8], 'X', 0x7173),
+        (&[0xCA], 'X', 0x7171),
+        (&[0xC8], 'Y', 0x8101),
+        (&[0x88], 'Y', 0x81FF),
+        (&[0xEA], 'X', 0x7172),
+    ];
+    for (code, register, value) in codes {
+        let mut bench = Bench::new(code);
+        bench.r = Registers {
+            ps: X,
+            dpr: 0x80,
+            dt: 0,
+            s: 0x100,
+            ..FULL
+        };
+        (bench.ram[0x80], bench.ram[0x101]) = (0x34, 0x56);
+        bench.step();
+        assert_eq!(*name(&mut bench.r, register), value, "{code:02X?}");
+    }
+}
+
+/// R-3's own trace: after TAX under x=1 and a later CLP, X has 00 above.
+#[test]
+fn a_later_clp_shows_00_above() {
+    let stores: [(&[u8], u8, u16); 7] = [
+        (&[0xAA], 0x8E, 0xA2),
+        (&[0x42, 0xAA], 0x8E, 0xB2),
+        (&[0xBA], 0x8E, 0x00),
+        (&[0xBB], 0x8E, 0x00),
+        (&[0xA8], 0x8C, 0xA2),
+        (&[0x42, 0xA8], 0x8C, 0xB2),
+        (&[0x9B], 0x8C, 0x72),
+    ];
+    for (code, store, value) in stores {
+        let image = [code, &[0xC2, 0x10, store, 0x40, 0x00]].concat();
+        let mut bench = Bench::new(&image);
+        bench.r = Registers {
+            ps: X,
+            dt: 0,
+            ..FULL
+        };
+        (bench.ram[0x40], bench.ram[0x41]) = (0xEE, 0xEE);
+        assert_eq!(bench.run(3), (0, 3, 0));
+        let [low, high] = value.to_le_bytes();
+        assert_eq!(bench.ram[0x40..0x42], [low, high], "{code:02X?}");
+    }
+}
+
+/// TSX leaves nothing above for TXS to move: S comes back without it.
+#[test]
+fn tsx_and_txs_lose_the_upper_byte() {
+    let mut bench = Bench::new(&[0xBA, 0x9A]);
+    bench.r.ps = X;
+    bench.r.x = 0x7172;
+    bench.r.s = 0x1FE;
+    bench.step();
+    assert_eq!((bench.r.x, bench.r.s), (0xFE, 0x1FE));
+    bench.step();
+    assert_eq!((bench.r.x, bench.r.s), (0xFE, 0xFE));
 }
 
 /// TXA and TXS under x=1: their pages say 00 for the high byte, 01 says the

@@ -316,6 +316,29 @@ fn carried_codes_stand_with_edge_values_and_flags() {
     assert_eq!(carried, 380);
 }
 
+/// Each of the seven transfers into X or Y stands under x=1 at both m, with an
+/// upper byte that is not 00 before it and is 00 after it.
+#[test]
+fn transfers_stand_with_upper_bytes() {
+    let mut seen = BTreeSet::new();
+    for step in ran("step") {
+        let Some((page, code, widths)) = instruction(&step) else {
+            continue;
+        };
+        let (before, after) = (Registers::read(&step.before), Registers::read(&step.after));
+        let (from, to) = match entry_of(page, code).word {
+            Word::TAX | Word::TBX | Word::TSX | Word::TYX => (before.x, after.x),
+            Word::TAY | Word::TBY | Word::TXY => (before.y, after.y),
+            _ => continue,
+        };
+        if widths & 0x10 != 0 && from > 0xFF {
+            assert!(to <= 0xFF, "{code:02X}");
+            seen.insert((page, code, widths));
+        }
+    }
+    assert_eq!(seen.len(), 14);
+}
+
 /// Among the runs are such that begin with image, state and RAM of the end
 /// of one before, and refused ones of the same program between them.
 #[test]

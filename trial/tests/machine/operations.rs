@@ -5,7 +5,7 @@ use sim7700::alu::{self, Width, C, D, M, N, V, X, Z};
 use sim7700::codes::{Mode, Register, Word};
 use sim7700::state::Registers;
 
-pub const FAULTS: [(&str, Twist); 25] = [
+pub const FAULTS: [(&str, Twist); 34] = [
     ("X's high byte cleared when x is set", x_cleared),
     ("an index's high byte cleared by INX under x=1", inx_clears),
     ("branch offset from the branch", branch_from_itself),
@@ -24,6 +24,15 @@ pub const FAULTS: [(&str, Twist); 25] = [
     ("the whole index under x=1", whole_index),
     ("DEC at the wrong width", dec_of_16_bits),
     ("TXA with 00 above", txa_clears),
+    ("LDX with 00 above", |made| clears(made, Word::LDX)),
+    ("PLY with 00 above", |made| clears(made, Word::PLY)),
+    ("TAX leaves the byte above", |made| leaves(made, Word::TAX)),
+    ("TAY leaves the byte above", |made| leaves(made, Word::TAY)),
+    ("TBX leaves the byte above", |made| leaves(made, Word::TBX)),
+    ("TBY leaves the byte above", |made| leaves(made, Word::TBY)),
+    ("TSX leaves the byte above", |made| leaves(made, Word::TSX)),
+    ("TXY leaves the byte above", |made| leaves(made, Word::TXY)),
+    ("TYX leaves the byte above", |made| leaves(made, Word::TYX)),
     ("TAD by m", tad_by_m),
     ("XAB of 16 bits", xab_of_16_bits),
     ("LDX immediate by m", ldx_by_m),
@@ -43,6 +52,27 @@ fn x_cleared(made: &mut Made) {
 fn inx_clears(made: &mut Made) {
     if made.does(Word::INX) && made.before().x_flag() {
         made.put(|r| r.x &= 0xFF);
+    }
+}
+
+/// LDX or PLY clears the high byte under x=1.
+fn clears(made: &mut Made, word: Word) {
+    if made.does(word) && made.before().x_flag() {
+        made.put(|r| match word {
+            Word::LDX => r.x &= 0xFF,
+            _ => r.y &= 0xFF,
+        });
+    }
+}
+
+/// Puts the high bytes back behind a transfer under x=1.
+fn leaves(made: &mut Made, word: Word) {
+    if made.does(word) && made.before().x_flag() {
+        let before = made.before();
+        made.put(|r| {
+            r.x = Width::Byte.replace(before.x, r.x);
+            r.y = Width::Byte.replace(before.y, r.y);
+        });
     }
 }
 

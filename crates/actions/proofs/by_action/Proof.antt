@@ -106,7 +106,8 @@ by-action-spec =
     (λ c. search needs) (λ c κs. search needs) (λ c κs. search needs) (λ c κs. search needs) (λ c κs. search needs)
     (λ c. search needs) (λ c κs. search needs) (λ c κs. search needs) (λ c κs. search needs) (λ c. search needs)
     (λ c κs. search needs) (λ c κs. search needs) (λ c κs. search needs) (λ c. search needs) (λ c κs. search needs)
-    (λ c κs. search needs) (λ c κs. search needs) returns returns-2 returns-3 returns-4 returns-5
+    (λ c κs. search needs) (λ c κs. search needs) (λ c. search needs) (λ c κs. search needs) returns returns-2 returns-3
+    returns-4 returns-5
     (λ c. rw (c .before .enum-told6 .given .1) (unfold byAction in c .pulls-data .ensures))
     (λ c. rw (c .before .enum-told7 .given .1) (unfold byAction in c .pulls-whole .ensures))
     (λ c. rw (c .before .enum-told8 .given .1) (unfold byAction in c .combines .ensures))
@@ -119,4 +120,4 @@ by-action-spec =
     (λ c. rw (c .before .enum-told15 .given .1) (unfold byAction in c .modifies .ensures))
     (λ c. rw (c .before .enum-told16 .given .1) (unfold byAction in c .rotates .ensures))
     (λ c. rw (c .before .enum-told17 .given .1) (unfold byAction in c .swaps .ensures)) returns-18 returns-19
-    returns-20 returns-21)
+    returns-20 returns-21 (λ c. rw (c .before .enum-told22 .given .1) (unfold byAction in c .transfers .ensures)))

@@ -18,5 +18,5 @@ action-of-spec =
     (λ c. unfold unpackedTask in rw (c .match .keys14) refl) (λ c. unfold unpackedTask in rw (c .match .keys15) refl)
     (λ c. unfold unpackedTask in rw (c .match .keys16) refl) (λ c. unfold unpackedTask in rw (c .match .keys17) refl)
     (λ c. unfold unpackedTask in rw (c .match .keys18) refl) (λ c. unfold unpackedTask in rw (c .match .keys19) refl)
-    (λ c. unfold unpackedTask in rw (c .match .keys20) refl)
+    (λ c. unfold unpackedTask in rw (c .match .keys20) refl) (λ c. unfold unpackedTask in rw (c .match .keys21) refl)
     (λ c. unfold unpackedTask in no-key actions _ _ refl (c .match .rest)))
