@@ -2,6 +2,7 @@
 -- lowest, for 5, 6, 7, 10, 8, 9. It also returns the offset of that start (of the lowest bad mark for 4; 0 for 1, 2,
 -- 3).'
 -- Assumes nothing.
+use mathlib.Core.Path.{_≡_}
 use Prim.Native.Nat.{ℕ, _+_, _-_}
 use mathlib.Core.Bool.{Bool, true, not, _&&_}
 use mathlib.Core.List.{List, [], _∷_, _++_}
@@ -109,3 +110,7 @@ verdict image marks base reset =
     answered (firstRefusal (marksTests (length image) marks base reset))
     (λ why. Verdict.Refused why (offsetOf marks why))
     (startsVerdict image marks base)
+
+-- the check accepts an image, at some reset address
+abbrev pub IsAccepted : List ℕ → List ℕ → ℕ → Type 0
+IsAccepted image marks base = (reset : ℕ) × (verdict image marks base reset ≡ Verdict.Accepted)

@@ -1,20 +1,23 @@
 -- Every answer of the check, the reader, the writer and the printer fits its packing.
 -- Assumes nothing.
-use mathlib.Core.Path.{_≡_, refl}
+use mathlib.Core.Path.{_≡_, refl, ap, _∙_}
 use mathlib.Core.List.{List}
-use Prim.Native.Nat.{ℕ}
+use Prim.Native.Nat.{ℕ, _+_, _*_}
 use native.Mathlib.Omega.{arith}
+use Rattle.types.specs.declared.refusals.Refusal.{Refusal}
 use Rattle.types.specs.declared.rules.Verdict.{Verdict}
 use Rattle.types.specs.declared.lists.ListRead.{ListRead}
 use Rattle.types.specs.declared.lists.ListWritten.{ListWritten}
 use Rattle.types.specs.declared.pages.Printed.{Printed}
+use Rattle.types.specs.Refusals.{refusalNumber}
 use Rattle.model.specs.Verdict.{verdict}
 use Rattle.model.specs.MarkList.{readList, writeList}
 use Rattle.model.specs.PrintedPage.{printed}
 use Rattle.model.proofs.Meaning.{refused-small}
 use Rattle.model.proofs.PrintedAnswers.{refused-offset, printed-small}
 use Rattle.model.proofs.ListAnswers.{read-small, written-small}
-use Rattle.packing.specs.Packed.{Fits, ReadFits, WrittenFits, PrintedFits}
+use Rattle.packing.specs.Packed.{packedVerdict, Fits, ReadFits, WrittenFits, PrintedFits, passedOn}
+use Rattle.packing.proofs.Unpacked.{passed-on}
 
 pub verdict-fits : (image marks : List ℕ) (base reset : ℕ) → Fits (verdict image marks base reset)
 verdict-fits image marks base reset = by (verdict image marks base reset) refl
@@ -44,3 +47,17 @@ printed-fits image marks base reset page = by (printed image marks base reset pa
     by : (a : Printed) → printed image marks base reset page ≡ a → PrintedFits a
     by (Printed.NotPrinted why at) e = refused-offset image marks base reset page why at e
     by (Printed.Rows n) e = omega (arith, printed-small image marks base reset page n e)
+
+-- what a function that passes a refusal of the check on may use: which it is, and what is packed
+pub when-refused : {P : Type 0} (image marks : List ℕ) (base reset result : ℕ)
+    → result ≡ packedVerdict (verdict image marks base reset) → (result ≡ 0 → ⊥)
+    → ((why : Refusal) (at : ℕ) → verdict image marks base reset ≡ Verdict.Refused why at
+    → passedOn result ≡ refusalNumber why + at * 256 → P)
+    → P
+when-refused {P} image marks base reset result told some shows =
+    by (verdict image marks base reset) refl (verdict-fits image marks base reset)
+  where
+    by : (v : Verdict) → verdict image marks base reset ≡ v → Fits v → P
+    by Verdict.Accepted e fits = absurd (some (told ∙ ap packedVerdict e))
+    by (Verdict.Refused why at) e fits =
+        shows why at e (ap passedOn (told ∙ ap packedVerdict e) ∙ passed-on why at fits)

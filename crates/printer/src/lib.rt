@@ -12,7 +12,8 @@ ghost use mathlib.Core.Path.{_≡_};
 ghost use lib.ListN.{length};
 ghost use Rattle.types.specs.declared.rules.Verdict.{Verdict};
 ghost use Rattle.model.specs.PrintedPage.{pageText, printedBy, printed, pageAfter, pagePrinted};
-ghost use Rattle.printer.specs.Printable.{IsAccepted, Printable};
+ghost use Rattle.model.specs.Verdict.{IsAccepted};
+ghost use Rattle.printer.specs.Printable.{Printable};
 
 // Prints the rows of an accepted image with so many starts, where the page has room for them.
 fn print_rows(image: &[u8], marks: &[u8], base: u32, starts: usize, page: &mut [u8]) -> Printed

@@ -1,48 +1,34 @@
 -- What the check refuses is passed on; what it accepts is printed, and every answer fits its packing.
 -- Assumes nothing.
-use mathlib.Core.Path.{_≡_, refl, sym, ap, _∙_}
-use Prim.Native.Nat.{ℕ}
-use mathlib.Core.List.{List}
+use mathlib.Core.Path.{_≡_, sym, ap, _∙_}
 use Rattle.types.specs.declared.rules.Verdict.{Verdict}
 use Rattle.model.specs.Verdict.{verdict}
-use Rattle.model.specs.PrintedPage.{printed, pagePrinted}
-use Rattle.packing.proofs.Answers.{verdict-fits, printed-fits}
-use Rattle.packing.proofs.Unpacked.{passed-on, accepted-zero}
-use Rattle.packing.specs.Packed.{packedVerdict, Fits, passedOn, packedPrinted}
+use Rattle.packing.proofs.Answers.{printed-fits, when-refused}
+use Rattle.packing.proofs.Unpacked.{accepted-zero}
+use Rattle.packing.specs.Packed.{packedPrinted}
 use Rattle.printer.proofs.Printing.{judged-page, refused-page}
 use borrow.Author.Needs.{needs}
 use Rattle.loader.proofs.m7700_print.Statement.{statement}
 use Rattle.loader.proofs.m7700_print.Tie as tie
-
--- where the check refuses, what is passed on is packed as the printer's refusal
-module _ (image marks : List ℕ) (base reset : ℕ) (page : List ℕ) (result : ℕ) where
-  refused : result ≡ packedVerdict (verdict image marks base reset) → (result ≡ 0 → ⊥)
-      → (passedOn result ≡ packedPrinted (printed image marks base reset page))
-      × (page ≡ pagePrinted image marks base reset page)
-  refused told some = by (verdict image marks base reset) refl (verdict-fits image marks base reset)
-    where
-      by : (v : Verdict) → verdict image marks base reset ≡ v → Fits v
-          → (passedOn result ≡ packedPrinted (printed image marks base reset page))
-          × (page ≡ pagePrinted image marks base reset page)
-      by Verdict.Accepted e fits = absurd (some (told ∙ ap packedVerdict e))
-      by (Verdict.Refused why at) e fits =
-          let left = refused-page image marks base reset page why at e in
-          (ap passedOn (told ∙ ap packedVerdict e) ∙ passed-on why at fits ∙ ap packedPrinted (left .0), left .1)
 
 returns : tie.Need-returns
 returns c =
     let test = c .before in
     let checked = test .before in
     let args = checked .before .before .before .before .args in
-    let left = refused (args .image .now) (args .marks .now) (args .base) (args .reset) (args .page .now)
-    (checked .m7700-check .result) (checked .m7700-check .ensures) (test .if1 .taken) in
-    (c .pass-on .ensures ∙ left .0, left .1)
+    when-refused (args .image .now) (args .marks .now) (args .base) (args .reset) (checked .m7700-check .result)
+    (checked .m7700-check .ensures) (test .if1 .taken) (λ why at e told.
+    let left = refused-page (args .image .now) (args .marks .now) (args .base) (args .reset) (args .page .now) why at
+    e in
+    (c .pass-on .ensures ∙ told ∙ ap packedPrinted (left .0), left .1))
 
 -- where the image is accepted
 module _ (checked : tie.After-m7700-check) (zero : checked .m7700-check .result ≡ 0) where
-  accepted : verdict (checked .before .before .before .before .args .image .now)
-      (checked .before .before .before .before .args .marks .now) (checked .before .before .before .before .args .base)
-      (checked .before .before .before .before .args .reset) ≡ Verdict.Accepted
+  abbrev start : tie.Start
+  start = checked .before .before .before .before
+
+  accepted : verdict (start .args .image .now) (start .args .marks .now) (start .args .base) (start .args .reset)
+      ≡ Verdict.Accepted
   accepted = accepted-zero _ (sym (checked .m7700-check .ensures) ∙ zero)
 
 print-accepted-requires : tie.Need-print-accepted-requires
