@@ -34,7 +34,7 @@
 extern "C" {
 #endif
 
-#define M7700_VERSION "1.1.0"
+#define M7700_VERSION "1.2.0"
 
 /* SYSTEM
  *
@@ -51,12 +51,13 @@ extern "C" {
 /* LIMITS
  *
  * The longest image; the longest list, 20 bytes of a first line and 15 for
- * each start; a row of a page, and the longest page; the most RAM, steps of a
- * run, and open calls. */
+ * each start; a row of a page, and the longest page; the most addresses in one
+ * reading; the most RAM, steps of a run, and open calls. */
 #define M7700_IMAGE_BYTES 16384
 #define M7700_LIST_BYTES (20 + 15 * M7700_IMAGE_BYTES)
 #define M7700_ROW_BYTES 36
 #define M7700_PAGE_BYTES (M7700_ROW_BYTES * M7700_IMAGE_BYTES)
+#define M7700_ADDRESSES 256
 #define M7700_RAM_BYTES 4096
 #define M7700_STEPS 1000000
 #define M7700_CALLS 64
@@ -115,7 +116,11 @@ extern "C" {
 #define M7700_REFUSED_STEPS 13  /* steps: over M7700_STEPS */
 #define M7700_REFUSED_LIST 14   /* list: text is not a mark list */
 #define M7700_REFUSED_PAGE 15   /* page: output buffer shorter than the
-                                   list, or than the rows */
+                                   list, or than the rows; fewer places
+                                   than addresses */
+#define M7700_REFUSED_ADDRESSES 16 /* addresses: over M7700_ADDRESSES, not
+                                      strictly ascending, or one outside
+                                      the image */
 
 /* Not carried are BRK, RTI, PLP, PSH, PUL, MVN, MVP, MPY, DIV, every JMP or JSR
  * through memory, and every unassigned code or prefix pair.
@@ -265,6 +270,47 @@ m7700_print_page(const uint8_t *image, size_t image_len,
                  uint32_t base, uint32_t reset,
                  uint8_t *page, size_t page_len);
 
+/* LOCATING ADDRESSES
+ *
+ * Says where each of some addresses, such as a bus probe delivers, lies in an
+ * accepted image. They are strictly ascending. The tests go in the order of
+ * the check's, and then
+ *
+ *     16  over M7700_ADDRESSES, an address that is not above the one
+ *         before it, or one outside the image
+ *     15  fewer places than addresses
+ *
+ * and the first that fails decides. The offset is the check's, and 0 for 16
+ * and 15. If the addresses were located, the place of each stands at its own
+ * index, and the places behind them are as given. A place is the address of
+ * the nearest start at or below, and what the address is to it: */
+#define M7700_PLACE_START(place) ((place)&0xFFFFFF)
+#define M7700_PLACE_KIND(place) ((place) >> 24)
+#define M7700_PLACE_BELOW 0  /* below the first start; the place is 0 */
+#define M7700_PLACE_WITHIN 1 /* in the instruction that starts there */
+#define M7700_PLACE_BEHIND 2 /* in the gap behind that instruction */
+
+/* Each place is the one that a call with its address alone gives. The marks
+ * are passed over once, from low to high, and `marks_read` says how many were
+ * read so: the offset of the highest address plus one, 0 for no addresses.
+ *
+ * Every length, base and reset, every byte of image and marks and every
+ * address is answered. The function reads only image, marks and addresses,
+ * writes only the places, and keeps no pointer. The lengths of addresses and
+ * places count numbers, not bytes. */
+typedef struct {
+    uint32_t refusal;
+    uint32_t offset;
+    uint32_t marks_read;
+} m7700_located;
+
+static inline m7700_located
+m7700_locate_addresses(const uint8_t *image, size_t image_len,
+                       const uint8_t *marks, size_t marks_len,
+                       uint32_t base, uint32_t reset,
+                       const uint32_t *addresses, size_t addresses_len,
+                       uint32_t *places, size_t places_len);
+
 /* MACHINE
  *
  * The stepping machine runs an image in lent RAM from a lent state. RAM lies
@@ -376,7 +422,7 @@ m7700_step_image(const uint8_t *image, size_t image_len, uint32_t base,
 
 /* OTHER LANGUAGES
  *
- * These six functions are what the archive has. They take the arguments of
+ * These seven functions are what the archive has. They take the arguments of
  * those above and return the members as one number, each in its own way, so
  * that one function's number says something else if it is read as another's.
  * From C, call those above.
@@ -401,6 +447,14 @@ uint64_t m7700_print(const uint8_t *image, size_t image_len,
                      const uint8_t *marks, size_t marks_len,
                      uint32_t base, uint32_t reset,
                      uint8_t *page, size_t page_len);
+
+/* Bits 0 to 7 are the refusal, bits 8 to 63 marks_read or, if the call is
+ * refused, the offset: */
+uint64_t m7700_locate(const uint8_t *image, size_t image_len,
+                      const uint8_t *marks, size_t marks_len,
+                      uint32_t base, uint32_t reset,
+                      const uint32_t *addresses, size_t addresses_len,
+                      uint32_t *places, size_t places_len);
 
 /* Bits 0 to 7 are the refusal, bits 8 to 15 the end, bits 16 to 39 steps, bits
  * 40 to 63 calls: */
@@ -443,6 +497,7 @@ static inline const char *m7700_refusal_word(uint32_t number)
     case M7700_REFUSED_STEPS: return "steps";
     case M7700_REFUSED_LIST: return "list";
     case M7700_REFUSED_PAGE: return "page";
+    case M7700_REFUSED_ADDRESSES: return "addresses";
     default: return "unknown";
     }
 }
@@ -518,6 +573,25 @@ m7700_print_page(const uint8_t *image, size_t image_len,
     printed.offset = printed.refusal == 0 ? 0 : packed >> 8 & 0xFFFFFFFF;
     printed.length = printed.refusal == 0 ? packed >> 8 : 0;
     return printed;
+}
+
+static inline m7700_located
+m7700_locate_addresses(const uint8_t *image, size_t image_len,
+                       const uint8_t *marks, size_t marks_len,
+                       uint32_t base, uint32_t reset,
+                       const uint32_t *addresses, size_t addresses_len,
+                       uint32_t *places, size_t places_len)
+{
+    const uint64_t packed = m7700_locate(image, image_len, marks, marks_len,
+                                         base, reset, addresses, addresses_len,
+                                         places, places_len);
+    const uint32_t above = packed >> 8 & 0xFFFFFFFF;
+    m7700_located located;
+
+    located.refusal = packed & 0xFF;
+    located.offset = located.refusal == 0 ? 0 : above;
+    located.marks_read = located.refusal == 0 ? above : 0;
+    return located;
 }
 
 /* What a run or a step returned: a type of its own, so that no other function's

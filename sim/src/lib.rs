@@ -11,6 +11,7 @@ pub mod codes;
 pub mod generate;
 mod list;
 pub mod listing;
+mod locate;
 mod machine;
 pub mod marks;
 pub mod numbers;
@@ -20,5 +21,6 @@ pub mod vectors;
 
 pub use check::{check, verdict};
 pub use list::{read_list, write_list};
+pub use locate::{locate, IN_GAP, IN_INSTRUCTION, NO_START};
 pub use machine::{run, step};
 pub use print::{print, ROW_BYTES};

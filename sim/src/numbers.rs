@@ -1,4 +1,4 @@
-//! The numbers of 01's table and the limits behind them.
+//! The numbers of 01's table and of 02, and the limits behind them.
 
 pub const LENGTH: u8 = 1;
 pub const BASE: u8 = 2;
@@ -15,6 +15,8 @@ pub const STATE: u8 = 12;
 pub const STEPS: u8 = 13;
 pub const LIST: u8 = 14;
 pub const PAGE: u8 = 15;
+/// the list of addresses.
+pub const PROBE: u8 = 16;
 
 pub const OUTSIDE: u8 = 20;
 pub const UNCARRIED: u8 = 21;
@@ -29,6 +31,8 @@ pub const MAX_IMAGE: usize = 16_384;
 pub const MAX_RAM: usize = 4_096;
 pub const MAX_STEPS: u32 = 1_000_000;
 pub const MAX_CALLS: usize = 64;
+/// Addresses that a probe delivers at most.
+pub const MAX_PROBE: usize = 256;
 pub const MAX_ADDRESS: u32 = 0xFF_FFFF;
 pub const BANK: u32 = 0x1_0000;
 

@@ -15,19 +15,22 @@ pub const MAX_FILE: usize = 65_536;
 /// Cases aimed at each number that a kind can give: so many stand at least.
 pub const LEAST: usize = 100;
 
-/// The numbers that a step, a run, a read, a write and a page can give,
-/// besides 0.
+/// The numbers that a step, a run, a read, a write, a page and a location can
+/// give, besides 0.
 pub const STEP_NUMBERS: [u8; 12] = [1, 2, 11, 12, 20, 21, 22, 23, 24, 25, 26, 27];
 pub const RUN_NUMBERS: [u8; 13] = [1, 2, 11, 12, 13, 20, 21, 22, 23, 24, 25, 26, 27];
 pub const READ_NUMBERS: [u8; 4] = [14, 1, 2, 3];
 pub const WRITE_NUMBERS: [u8; 5] = [1, 2, 4, 3, 15];
 pub const PRINT_NUMBERS: [u8; 11] = [1, 2, 4, 3, 5, 6, 7, 10, 8, 9, 15];
+pub const LOCATE_NUMBERS: [u8; 12] = [1, 2, 4, 3, 5, 6, 7, 10, 8, 9, 16, 15];
 
 /// Turns the seed into the printed pages' own, so that they stay what they
 /// are when others are drawn before them.
 const PRINT_SEED: u64 = 0x5052_494E_5400_0000;
 /// Likewise for the transfers into X and Y, which came later.
 const TRANSFER_SEED: u64 = 0x5452_414E_5300_0000;
+/// Likewise for the locations.
+const LOCATE_SEED: u64 = 0x4C4F_4341_5445_0000;
 
 /// All files of a seed, by name.
 pub fn files(seed: u64) -> Vec<(String, Vec<u8>)> {
@@ -49,13 +52,20 @@ pub fn files(seed: u64) -> Vec<(String, Vec<u8>)> {
     ];
     let files = kinds.into_iter();
     let files = files.flat_map(|(kind, records)| pack(kind, records));
-    files.chain(print_files(seed)).collect()
+    let files = files.chain(print_files(seed));
+    files.chain(locate_files(seed)).collect()
 }
 
 /// The print files alone, which hang on no machine.
 pub fn print_files(seed: u64) -> Vec<(String, Vec<u8>)> {
     let mut rng = Rng::new(seed ^ PRINT_SEED);
     pack("print", print_records(&mut rng))
+}
+
+/// The files of locations alone, likewise.
+pub fn locate_files(seed: u64) -> Vec<(String, Vec<u8>)> {
+    let mut rng = Rng::new(seed ^ LOCATE_SEED);
+    pack("locate", locate_records(&mut rng))
 }
 
 /// Puts records into numbered files: a count, then record after record.
@@ -191,6 +201,27 @@ fn print_record(case: &PrintCase) -> Vec<u8> {
     put_u64(&mut out, answer);
     if answer & 0xFF == 0 {
         out.extend_from_slice(&page[..(answer >> 8) as usize]);
+    }
+    out
+}
+
+fn locate_record(case: &LocateCase) -> Vec<u8> {
+    let (answer, places) = case.answer();
+    let mut out = Vec::new();
+    put_u32(&mut out, case.checked.base);
+    put_u32(&mut out, case.checked.reset);
+    put_bytes(&mut out, &case.checked.image);
+    put_bytes(&mut out, &case.checked.marks);
+    put_u32(&mut out, case.addresses.len() as u32);
+    for &address in &case.addresses {
+        put_u32(&mut out, address);
+    }
+    put_u32(&mut out, case.places_len as u32);
+    put_u64(&mut out, answer);
+    if answer & 0xFF == 0 {
+        for &place in &places[..case.addresses.len()] {
+            put_u32(&mut out, place);
+        }
     }
     out
 }
@@ -499,4 +530,63 @@ fn longest_print() -> PrintCase {
     case.checked.image[..3].copy_from_slice(&[0x4C, 0xFF, 0x3F]);
     case.checked.marks[1..16_383].fill(0);
     PrintCase::exact(case.checked)
+}
+
+/// Cases aimed at each number and drawn ones in small images, each carried
+/// code, as many addresses as go and one more, all lists of two in a short
+/// image, and the longest one.
+fn locate_records(rng: &mut Rng) -> Vec<Vec<u8>> {
+    let mut cases = vec![longest_locate()];
+    // 0 twice: these alone have places.
+    for number in [0, 0].into_iter().chain(LOCATE_NUMBERS) {
+        let aimed = std::iter::repeat_with(|| locate_by(rng, number));
+        cases.extend(aimed.filter(is_small).take(LEAST));
+    }
+    let drawn = (0..100).map(|_| locate_case(rng));
+    cases.extend(drawn.filter(is_small));
+    cases.extend(every_code(rng).into_iter().step_by(3).map(at_the_end));
+    for count in [255, 256, 256, 257, 257, 300] {
+        cases.push(crowd(rng, count));
+    }
+    cases.extend(pairs());
+    cases.iter().map(locate_record).collect()
+}
+
+fn is_small(case: &LocateCase) -> bool {
+    case.checked.image.len() < 60
+}
+
+/// The image's last three bytes: a length that is too short has a gap there.
+fn at_the_end(checked: CheckCase) -> LocateCase {
+    let end = checked.base + checked.image.len() as u32;
+    let first = end - checked.image.len().min(3) as u32;
+    LocateCase::exact(checked, (first..end).collect())
+}
+
+/// Up to FFFFFF: two bytes before the first start, an instruction of two
+/// bytes, a gap, one of a byte, a gap. Every two addresses in it and beside
+/// it in either order, each alone, and all that are inside.
+fn pairs() -> Vec<LocateCase> {
+    let checked = CheckCase {
+        image: vec![0, 0, 0x80, 0x02, 0xEA, 0xEA, 0xDB, 0xEA],
+        marks: vec![0, 0, 1, 0, 0, 0, 1, 0],
+        base: 0xFF_FFF8,
+        reset: 0xFFFA,
+    };
+    let all = 0xFF_FFF7..=0x100_0000u32;
+    let mut lists = vec![(0xFF_FFF8..0x100_0000).collect(), Vec::new()];
+    for first in all.clone() {
+        lists.push(vec![first]);
+        lists.extend(all.clone().map(|second| vec![first, second]));
+    }
+    let case = |addresses| LocateCase::exact(checked.clone(), addresses);
+    lists.into_iter().map(case).collect()
+}
+
+/// The longest image with two starts, the second on its last byte.
+fn longest_locate() -> LocateCase {
+    let checked = longest_print().checked;
+    let addresses = [0, 2, 3, 255, 256, 8_191, 8_192, 16_382, 16_383];
+    let addresses = addresses.map(|at| checked.base + at);
+    LocateCase::exact(checked, addresses.to_vec())
 }

@@ -2,6 +2,7 @@
  * driver write-list MARKS BASE RESET LENGTH LIST
  * driver read-list LIST LENGTH MARKS
  * driver print IMAGE MARKS BASE RESET LENGTH PAGE
+ * driver locate IMAGE MARKS BASE RESET LENGTH [ADDRESS]..
  * driver run IMAGE MARKS BASE RESET START S RAM STEPS [OPTION]..
  * driver trace IMAGE MARKS BASE RESET START S RAM STEPS [OPTION]..
  *
@@ -13,10 +14,13 @@
  * LIST into LENGTH marks and writes them into the file MARKS. The fourth prints an
  * image into a page of LENGTH bytes and writes the whole page into the file PAGE.
  *
- * The fifth checks an image and, if it is accepted, runs it for STEPS steps in
+ * The fifth locates addresses of an image and prints all of LENGTH places in one line; a
+ * call that is refused and changes one passes for located.
+ *
+ * The sixth checks an image and, if it is accepted, runs it for STEPS steps in
  * RAM bytes of RAM, and prints one line. It begins with PG and PC at the 24-bit
  * address START and with S; all else of the state is 0, so m=0, x=0 and no call is
- * open. The sixth does the same one step after the other, a line each. Options:
+ * open. The seventh does the same one step after the other, a line each. Options:
  *
  *   --unchecked              runs the image without the check
  *   --poke OFFSET BYTE       puts a byte into the state before the run
@@ -26,7 +30,7 @@
  *
  * A page, marks that are read and RAM hold dots before. Every number given is
  * hexadecimal; counts and the check's offset are printed in decimal. The exit status
- * is 0 if accepted, written, read, printed or run, 1 if refused, 2 if there was nothing
+ * is 0 if accepted, written, read, printed, located or run, 1 if refused, 2 if there was nothing
  * to work on. */
 #include <errno.h>
 #include <stdio.h>
@@ -190,6 +194,39 @@ static int print(char **arguments)
     if (printed.refusal != 0)
         return refused_at(printed.refusal, printed.offset);
     printf("printed: %zu bytes\n", printed.length);
+    return ACCEPTED;
+}
+
+/* Numbers, and more of them than may be. */
+enum { COUNT = M7700_ADDRESSES + 2, UNPLACED = 0x2E2E2E2E };
+
+static uint32_t addresses[COUNT], places[COUNT];
+
+static int locate(char **arguments, size_t count)
+{
+    uint32_t base, reset, room, i;
+    int as_lent = 1;
+    m7700_located located;
+
+    if (!read_file(arguments[0], &image) || !read_file(arguments[1], &marks) ||
+        !read_hex(arguments[2], &base) || !read_hex(arguments[3], &reset) ||
+        !read_up_to(COUNT, arguments[4], &room) || count > COUNT)
+        return UNREAD;
+    for (i = 0; i < count; i++)
+        if (!read_hex(arguments[5 + i], &addresses[i]))
+            return UNREAD;
+    for (i = 0; i < room; i++)
+        places[i] = UNPLACED;
+    located = m7700_locate_addresses(image.at, image.length, marks.at, marks.length, base, reset, addresses,
+                                     count, places, room);
+    for (i = 0; i < room; i++)
+        as_lent = as_lent && places[i] == UNPLACED;
+    if (located.refusal != 0 && as_lent)
+        return refused_at(located.refusal, located.offset);
+    printf("located by %u marks:", (unsigned)located.marks_read);
+    for (i = 0; i < room; i++)
+        printf(" %08X", (unsigned)places[i]);
+    printf("\n");
     return ACCEPTED;
 }
 
@@ -386,6 +423,8 @@ int main(int argc, char **argv)
         return read_list(argv + 2);
     if (argc == 8 && strcmp(argv[1], "print") == 0)
         return print(argv + 2);
+    if (argc >= 7 && strcmp(argv[1], "locate") == 0)
+        return locate(argv + 2, (size_t)argc - 7);
     if (argc >= 10 && strcmp(argv[1], "run") == 0)
         return execute(argv + 2, run);
     if (argc >= 10 && strcmp(argv[1], "trace") == 0)
@@ -396,6 +435,7 @@ int main(int argc, char **argv)
                     "       driver write-list MARKS BASE RESET LENGTH LIST\n"
                     "       driver read-list LIST LENGTH MARKS\n"
                     "       driver print IMAGE MARKS BASE RESET LENGTH PAGE\n"
+                    "       driver locate IMAGE MARKS BASE RESET LENGTH [ADDRESS]..\n"
                     "       driver run IMAGE MARKS BASE RESET START S RAM STEPS [OPTION]..\n"
                     "       driver trace IMAGE MARKS BASE RESET START S RAM STEPS [OPTION]..\n");
     return UNREAD;

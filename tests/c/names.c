@@ -11,6 +11,7 @@
 
 static uint8_t image[M7700_IMAGE_BYTES + 1], marks[M7700_IMAGE_BYTES + 1], list[M7700_LIST_BYTES];
 static uint8_t page[M7700_PAGE_BYTES];
+static uint32_t addresses[M7700_ADDRESSES + 1], places[M7700_ADDRESSES + 1];
 static uint8_t state[M7700_STATE_BYTES + 1], ram[M7700_RAM_BYTES + 1];
 static unsigned cases, differing;
 
@@ -136,6 +137,52 @@ static void pages(void)
     same("no length", printed.length, 0);
 }
 
+/* So many addresses from the base on. */
+static m7700_located locate(size_t image_len, uint32_t count, size_t places_len)
+{
+    uint32_t i;
+
+    for (i = 0; i < count; i++)
+        addresses[i] = BASE + i;
+    memset(places, 0, sizeof places);
+    return m7700_locate_addresses(image, image_len, marks, image_len, BASE, RESET + 1, addresses, count, places,
+                                  places_len);
+}
+
+static void same_place(const char *what, uint32_t place, uint32_t kind, uint32_t start)
+{
+    same(what, M7700_PLACE_KIND(place), kind);
+    same(what, M7700_PLACE_START(place), start);
+}
+
+/* A byte before the first start, BRA over a gap of two bytes, and STP. */
+static void located_places(void)
+{
+    static const uint8_t code[] = {0xFF, 0x80, 0x02, 0xFF, 0xFF, 0xDB};
+    m7700_located located;
+
+    memcpy(image, code, sizeof code);
+    memset(marks, 0, sizeof code);
+    marks[1] = marks[5] = M7700_MARK_START;
+    located = locate(sizeof code, 5, 5);
+    same("the addresses' refusal", located.refusal, 0);
+    same("the addresses' offset", located.offset, 0);
+    same("the marks read", located.marks_read, 5);
+    same("a place below", places[0], 0);
+    same_place("a place below", places[0], M7700_PLACE_BELOW, 0);
+    same_place("a start", places[1], M7700_PLACE_WITHIN, BASE + 1);
+    same_place("a later byte", places[2], M7700_PLACE_WITHIN, BASE + 1);
+    same_place("a gap", places[3], M7700_PLACE_BEHIND, BASE + 1);
+    located = locate(sizeof code, 7, 7);
+    same("an address outside", located.refusal, M7700_REFUSED_ADDRESSES);
+    same("no marks read", located.marks_read, 0);
+    same("few places", locate(sizeof code, 5, 4).refusal, M7700_REFUSED_PAGE);
+    marks[4] = M7700_MARK_M;
+    located = locate(sizeof code, 5, 5);
+    same("the addresses at a bad mark", located.refusal, M7700_REFUSED_MARK);
+    same("the mark's offset", located.offset, 4);
+}
+
 /* NOP and a last STP, each with a start. */
 static void limits(void)
 {
@@ -149,6 +196,9 @@ static void limits(void)
     same("the longest list",
          m7700_write_mark_list(marks, M7700_IMAGE_BYTES, BASE, RESET, list, sizeof list).length, M7700_LIST_BYTES);
     same("the longest page", print(M7700_IMAGE_BYTES, sizeof page).length, M7700_PAGE_BYTES);
+    same("the most addresses", locate(M7700_IMAGE_BYTES, M7700_ADDRESSES, M7700_ADDRESSES).refusal, 0);
+    same("more addresses", locate(M7700_IMAGE_BYTES, M7700_ADDRESSES + 1, M7700_ADDRESSES + 1).refusal,
+         M7700_REFUSED_ADDRESSES);
     begin(0);
     same("the most RAM", run(1, M7700_STATE_BYTES, M7700_RAM_BYTES, 0).refusal, 0);
     same("more RAM", run(1, M7700_STATE_BYTES, M7700_RAM_BYTES + 1, 0).refusal, M7700_REFUSED_RAM);
@@ -179,12 +229,12 @@ static void open_calls(void)
     same("the kind of JSR long", state[M7700_AT_ENTRY(0) + 4], M7700_KIND_RTL);
 }
 
-/* 01's table. */
+/* 01's table, and 02's number. */
 static void words(void)
 {
     static const char *const refusals[] = {"none", "length", "base", "reset", "mark", "code", "cut off", "overlap",
                                            "flow", "widths", "return", "RAM", "state", "steps", "list", "page",
-                                           "unknown"};
+                                           "addresses", "unknown"};
     static const char *const stops[] = {"outside", "uncarried", "halt", "unmapped", "astray", "deep", "image store",
                                         "decimal", "unknown"};
     uint32_t i;
@@ -202,6 +252,7 @@ int main(void)
     flags();
     mark_bits();
     pages();
+    located_places();
     limits();
     open_calls();
     words();

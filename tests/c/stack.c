@@ -18,17 +18,21 @@ enum { STACK = 4 * M7700_STACK_BYTES, BASE = 0x00C000, RESET = 0xC000, PAINT = 0
 
 static uint8_t stack[STACK], image[M7700_IMAGE_BYTES], marks[M7700_IMAGE_BYTES];
 static uint8_t list[M7700_LIST_BYTES], page[M7700_PAGE_BYTES], state[M7700_STATE_BYTES], ram[M7700_RAM_BYTES];
+static uint32_t addresses[M7700_ADDRESSES], places[M7700_ADDRESSES];
 
 /* A call of a routine that fills the image: JSR C004; STP; NOP ..; RTS. All but the operand are starts. */
 static void make_program(void)
 {
     static const uint8_t code[] = {0x20, 0x04, 0xC0, 0xDB}, marked[] = {0x01, 0x00, 0x00, 0x01};
+    uint32_t i;
 
     memset(image, 0xEA, sizeof image);
     memset(marks, M7700_MARK_START | M7700_KIND_RTS << 3, sizeof marks);
     memcpy(image, code, sizeof code);
     memcpy(marks, marked, sizeof marked);
     image[sizeof image - 1] = 0x60;
+    for (i = 0; i < M7700_ADDRESSES; i++)
+        addresses[i] = BASE + i * (M7700_IMAGE_BYTES / M7700_ADDRESSES);
     state[M7700_AT_PC + 1] = RESET >> 8;
     state[M7700_AT_S + 1] = 0x0F;
 }
@@ -60,6 +64,12 @@ static void call_read(void)
 static void call_print(void)
 {
     refusal = m7700_print_page(image, sizeof image, marks, sizeof marks, BASE, RESET, page, sizeof page).refusal;
+}
+
+static void call_locate(void)
+{
+    refusal = m7700_locate_addresses(image, sizeof image, marks, sizeof marks, BASE, RESET, addresses,
+                                     M7700_ADDRESSES, places, M7700_ADDRESSES).refusal;
 }
 
 static void call_step(void)
@@ -96,8 +106,9 @@ int main(void)
         const char *name;
         void (*call)(void);
     } calls[] = {
-        {"check", call_check}, {"write", call_write}, {"read", call_read},
-        {"print", call_print}, {"step", call_step},   {"run", call_run},
+        {"check", call_check}, {"write", call_write},   {"read", call_read},
+        {"print", call_print}, {"locate", call_locate}, {"step", call_step},
+        {"run", call_run},
     };
     size_t without = touched(call_nothing), most = 0, i;
 

@@ -6,6 +6,7 @@ pub mod faults;
 pub mod guard;
 pub mod library;
 pub mod lists;
+pub mod locate;
 pub mod machine;
 mod packed;
 pub mod print;

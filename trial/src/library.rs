@@ -37,6 +37,19 @@ extern "C" {
         page_len: usize,
     ) -> u64;
 
+    pub fn m7700_locate(
+        image: *const u8,
+        image_len: usize,
+        marks: *const u8,
+        marks_len: usize,
+        base: u32,
+        reset: u32,
+        addresses: *const u32,
+        addresses_len: usize,
+        places: *mut u32,
+        places_len: usize,
+    ) -> u64;
+
     pub fn m7700_step(
         image: *const u8,
         image_len: usize,

@@ -3,7 +3,8 @@
 use sim7700::state::STATE_BYTES;
 use std::ptr::{null_mut, without_provenance_mut};
 use trial7700::library::{
-    m7700_check, m7700_print, m7700_read_list, m7700_run, m7700_step, m7700_write_list,
+    m7700_check, m7700_locate, m7700_print, m7700_read_list, m7700_run, m7700_step,
+    m7700_write_list,
 };
 
 #[test]
@@ -44,6 +45,32 @@ fn at_length_0_any_pointer_will_do() {
         };
         assert_eq!(answers, [1, 1, 15]);
     }
+}
+
+#[test]
+fn at_length_0_any_pointer_will_do_for_addresses() {
+    let (image, marks) = ([0xDB], [1]);
+    let mut place = 0;
+    for nowhere in [
+        null_mut(),
+        without_provenance_mut(4),
+        without_provenance_mut(usize::MAX - 3),
+    ] {
+        let (i, m) = (image.as_ptr(), marks.as_ptr());
+        // SAFETY: each pointer is valid for its length, and the place overlaps
+        // nothing.
+        let answers = unsafe {
+            [
+                m7700_locate(null_mut(), 0, null_mut(), 0, 0, 0, nowhere, 0, nowhere, 0),
+                m7700_locate(i, 1, m, 1, 0, 0, nowhere, 0, nowhere, 0),
+                m7700_locate(i, 1, m, 1, 0, 0, nowhere, 0, &mut place, 1),
+                m7700_locate(i, 1, m, 1, 0, 0, &0, 1, nowhere, 0),
+                m7700_locate(i, 1, m, 1, 0, 0, &1, 1, nowhere, 0),
+            ]
+        };
+        assert_eq!(answers, [1, 0, 0, 15, 16]);
+    }
+    assert_eq!(place, 0);
 }
 
 #[test]

@@ -4,21 +4,23 @@
 use mathlib.Core.Path.{_≡_, ap, _∙_}
 use Rattle.packing.specs.Packed.{verdictNumbers, checkNumbers, listReadNumbers, readNumbers, listWrittenNumbers}
 use Rattle.packing.specs.Packed.{writtenNumbers, pagePrintedNumbers, printedNumbers, packedRun, answerNumbers}
-use Rattle.packing.specs.Packed.{runNumbers}
+use Rattle.packing.specs.Packed.{addressesLocatedNumbers, locatedNumbers, runNumbers}
 use Rattle.packing.proofs.Answers.{verdict-fits, read-fits}
 use Rattle.packing.proofs.Counts.{run-fits}
 use Rattle.packing.proofs.Unpacked.{verdict-unpacked, read-unpacked, written-unpacked, printed-unpacked}
-use Rattle.packing.proofs.Unpacked.{run-unpacked}
+use Rattle.packing.proofs.Unpacked.{located-unpacked, run-unpacked}
 use Rattle.types.specs.declared.rules.Verdict.{Verdict}
 use Rattle.types.specs.declared.lists.ListRead.{ListRead}
 use Rattle.types.specs.declared.lists.ListWritten.{ListWritten}
 use Rattle.types.specs.declared.pages.Printed.{Printed}
+use Rattle.types.specs.declared.probes.Located.{Located}
 use Rattle.model.specs.Verdict.{verdict}
 use Rattle.model.specs.MarkList.{readList, writeList}
 use Rattle.model.specs.PrintedPage.{printed}
+use Rattle.model.specs.Locate.{located}
 use Rattle.model.specs.RunBytes.{RanBytes, ranBytes}
 use Rattle.demands.specs.Calls.{holds, CheckCall, ReadCall, WriteCall, PrintCall, MachineContract, run, step}
-use Rattle.demands.specs.Calls.{RunCall, numbers, memoryOf}
+use Rattle.demands.specs.Calls.{RunCall, numbers, memoryOf, listed, LocateCall}
 
 -- the answer of each function to what a call is given
 abbrev pub verdictOf : CheckCall → Verdict
@@ -32,6 +34,10 @@ writtenOf c = writeList (holds (c .marks)) (c .base) (c .reset) (holds (c .page)
 
 abbrev pub printedOf : PrintCall → Printed
 printedOf c = printed (holds (c .image)) (holds (c .marks)) (c .base) (c .reset) (holds (c .page))
+
+abbrev pub locatedOf : LocateCall → Located
+locatedOf c =
+    located (holds (c .image)) (holds (c .marks)) (c .base) (c .reset) (listed (c .addresses)) (listed (c .places))
 
 abbrev pub ranOf : RunCall → RanBytes
 ranOf c = ranBytes (memoryOf c) (holds (c .state)) (c .steps)
@@ -64,6 +70,9 @@ written-numbers c = ap writtenNumbers (c .kept .0) ∙ written-unpacked (written
 
 pub print-numbers : (c : PrintCall) → printedNumbers (c .result) ≡ pagePrintedNumbers (printedOf c)
 print-numbers c = ap printedNumbers (c .kept .0) ∙ printed-unpacked (printedOf c)
+
+pub locate-numbers : (c : LocateCall) → locatedNumbers (c .result) ≡ addressesLocatedNumbers (locatedOf c)
+locate-numbers c = ap locatedNumbers (c .kept .0) ∙ located-unpacked (locatedOf c)
 
 pub run-numbers : (c : RunCall) → numbers c ≡ answerNumbers (ranOf c .answer)
 run-numbers c =

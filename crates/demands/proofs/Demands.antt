@@ -13,6 +13,7 @@ use Rattle.loader.proofs.m7700_check.Met as CheckMet
 use Rattle.loader.proofs.m7700_read_list.Met as ReadMet
 use Rattle.loader.proofs.m7700_write_list.Met as WriteMet
 use Rattle.loader.proofs.m7700_print.Met as PrintMet
+use Rattle.loader.proofs.m7700_locate.Met as LocateMet
 use Rattle.loader.proofs.m7700_run.Met as RunMet
 use Rattle.loader.proofs.m7700_step.Met as StepMet
 use Rattle.packing.specs.Packed.{packedVerdict, verdictNumbers, checkNumbers, listReadNumbers, readNumbers}
@@ -121,6 +122,7 @@ demand-1 = record {
         read = λ κs given. tt;
         write = λ κs given. tt;
         print = λ κs given. tt;
+        locate = λ κs given. tt;
         run = λ κs given. tt;
         step = λ κs given. tt;
       };
@@ -130,6 +132,7 @@ demand-1 = record {
         read = λ κs given last. refl;
         write = λ κs given last. refl;
         print = λ κs given last. (refl, refl);
+        locate = λ κs given last. (refl, refl, refl);
         run = λ κs given last. refl;
         step = λ κs given last. refl;
       };
@@ -148,6 +151,7 @@ demand-1 = record {
         read = ReadMet.met;
         write = WriteMet.met;
         print = PrintMet.met;
+        locate = LocateMet.met;
         run = RunMet.met;
         step = StepMet.met;
       };

@@ -1,4 +1,4 @@
--- The six exported functions (loader/src/lib.rt) and their calls: what a call is given, its result, what it leaves,
+-- The seven exported functions (loader/src/lib.rt) and their calls: what a call is given, its result, what it leaves,
 -- and that it keeps its function's contract. Each contract is the function's own: `Learnt` is what a caller learns by
 -- the `ensures` that stand there, `Asked` what its `requires` ask, and `statement` the theorem that its code keeps
 -- it, all made by the toolchain from the text there. So whoever weakens a promise weakens what is known of a call
@@ -24,6 +24,9 @@ use Rattle.loader.proofs.m7700_write_list.Statement as WriteStatement
 use Rattle.loader.proofs.m7700_print as Print
 use Rattle.loader.proofs.m7700_print.Reads as PrintReads
 use Rattle.loader.proofs.m7700_print.Statement as PrintStatement
+use Rattle.loader.proofs.m7700_locate as Locate
+use Rattle.loader.proofs.m7700_locate.Reads as LocateReads
+use Rattle.loader.proofs.m7700_locate.Statement as LocateStatement
 use Rattle.loader.proofs.m7700_run as Run
 use Rattle.loader.proofs.m7700_run.Reads as RunReads
 use Rattle.loader.proofs.m7700_run.Statement as RunStatement
@@ -46,6 +49,7 @@ pub record AllReturn : Type 2 where
   pub read : {M : Type 1} → ReadStatement.statement M
   pub write : {M : Type 1} → WriteStatement.statement M
   pub print : {M : Type 1} → PrintStatement.statement M
+  pub locate : {M : Type 1} → LocateStatement.statement M
   pub run : {M : Type 1} → RunStatement.statement M
   pub step : {M : Type 1} → StepStatement.statement M
 
@@ -55,12 +59,13 @@ pub record NothingAsked : Type 0 where
   pub read : (κs : Lfts 2) (given : Args Read.signature κs) → ReadReads.Asked κs given
   pub write : (κs : Lfts 2) (given : Args Write.signature κs) → WriteReads.Asked κs given
   pub print : (κs : Lfts 3) (given : Args Print.signature κs) → PrintReads.Asked κs given
+  pub locate : (κs : Lfts 4) (given : Args Locate.signature κs) → LocateReads.Asked κs given
   pub run : (κs : Lfts 3) (given : Args Run.signature κs) → RunReads.Asked κs given
   pub step : (κs : Lfts 3) (given : Args Step.signature κs) → StepReads.Asked κs given
 
 -- What is lent by `&` is after a call as it was given: all that the check is lent, the text of a list that is read, the
--- marks of one that is written, image and marks of a page that is printed, the image of the machine. `last` is what the
--- buffers lent by `&mut` hold then.
+-- marks of one that is written, image and marks of a page that is printed, these and the addresses where addresses are
+-- located, the image of the machine. `last` is what the buffers lent by `&mut` hold then.
 pub record SharedStays : Type 0 where
   pub check : (κs : Lfts 2) (given : Args Check.signature κs) (last : Lasts Check.ended κs given)
       → atExit Check.ended κs given last ≡ given
@@ -70,6 +75,9 @@ pub record SharedStays : Type 0 where
       → atExit Write.ended κs given last .0 ≡ given .0
   pub print : (κs : Lfts 3) (given : Args Print.signature κs) (last : Lasts Print.ended κs given)
       → (atExit Print.ended κs given last .0 ≡ given .0) × (atExit Print.ended κs given last .1 .0 ≡ given .1 .0)
+  pub locate : (κs : Lfts 4) (given : Args Locate.signature κs) (last : Lasts Locate.ended κs given)
+      → (atExit Locate.ended κs given last .0 ≡ given .0) × (atExit Locate.ended κs given last .1 .0 ≡ given .1 .0)
+      × (atExit Locate.ended κs given last .1 .1 .1 .1 .0 ≡ given .1 .1 .1 .1 .0)
   pub run : (κs : Lfts 3) (given : Args Run.signature κs) (last : Lasts Run.ended κs given)
       → atExit Run.ended κs given last .0 ≡ given .0
   pub step : (κs : Lfts 3) (given : Args Step.signature κs) (last : Lasts Step.ended κs given)
@@ -85,6 +93,14 @@ pub record Buffer : Type 0 where
 
 abbrev pub holds : Buffer → List ℕ
 holds b = b .lent .now
+
+-- lent numbers of 32 bits, as addresses and places are
+pub record Words : Type 0 where
+  pub lifetime : Lft
+  pub lent : RefT (List ℕ)
+
+abbrev pub listed : Words → List ℕ
+listed w = w .lent .now
 
 abbrev pub CheckContract : Buffer → Buffer → ℕ → ℕ → ℕ → Type 0
 CheckContract image marks base reset result =
@@ -109,6 +125,13 @@ PrintContract image marks base reset page result page-left =
     let κs : Lfts 3 = (image .lifetime, (marks .lifetime, (page .lifetime, tt))) in
     let given : Args Print.signature κs = (image .lent, (marks .lent, (base, (reset, (page .lent, tt))))) in
     PrintReads.Learnt κs given result (atExit Print.ended κs given (tt, (tt, (tt, (tt, (page-left, tt))))))
+
+abbrev pub LocateContract : Buffer → Buffer → ℕ → ℕ → Words → Words → ℕ → List ℕ → Type 0
+LocateContract image marks base reset addresses places result places-left =
+    let κs : Lfts 4 = (image .lifetime, (marks .lifetime, (addresses .lifetime, (places .lifetime, tt)))) in
+    let given : Args Locate.signature κs =
+    (image .lent, (marks .lent, (base, (reset, (addresses .lent, (places .lent, tt)))))) in
+    LocateReads.Learnt κs given result (atExit Locate.ended κs given (tt, (tt, (tt, (tt, (tt, (places-left, tt)))))))
 
 abbrev pub RunContract : Buffer → ℕ → Buffer → Buffer → ℕ → ℕ → List ℕ → List ℕ → Type 0
 RunContract image base state ram steps result state-left ram-left =
@@ -161,6 +184,18 @@ pub record PrintCall : Type 0 where
   pub result : ℕ
   pub page-left : List ℕ
   pub kept : PrintContract image marks base reset page result page-left
+
+-- of `m7700_locate`
+pub record LocateCall : Type 0 where
+  pub image : Buffer
+  pub marks : Buffer
+  pub base : ℕ
+  pub reset : ℕ
+  pub addresses : Words
+  pub places : Words
+  pub result : ℕ
+  pub places-left : List ℕ
+  pub kept : LocateContract image marks base reset addresses places result places-left
 
 -- of `m7700_run`; or of `m7700_step`, which asks for one step
 pub data MachineContract (image : Buffer) (base : ℕ) (state ram : Buffer) (steps result : ℕ)

@@ -1,16 +1,19 @@
 -- What the requests of document 02 claim of calls of the exported functions, a proposition a request, in the notions of
--- Demands.antt. Their proofs stand in proofs/Requests.antt.
+-- Demands.antt. Their proofs stand in proofs/Requests.antt and, of R-4, in proofs/Locating.antt.
 -- Assumes nothing.
 use mathlib.Core.Path.{_≡_}
 use Prim.Native.Nat.{ℕ, _*_, _≤_, _<_}
-use mathlib.Core.List.{List, _++_}
-use lib.ListN.{length, take, drop}
-use Rattle.packing.specs.Packed.{checkNumbers, printedNumbers}
+use mathlib.Core.List.{List, [], _∷_, _++_, map}
+use lib.ListN.{length, getD, take, drop}
+use Rattle.packing.specs.Packed.{checkNumbers, printedNumbers, locatedNumbers}
+use Rattle.types.specs.Refusals.{refusalNumber}
 use Rattle.model.specs.Image.{startCount}
 use Rattle.model.specs.Rules.{Accepts}
 use Rattle.model.specs.PrintedPage.{rowSize, pageText}
 use Rattle.model.specs.PageReading.{bytesOnPage, startsOnPage, coveredBytes, startsShown}
-use Rattle.demands.specs.Calls.{Buffer, holds, CheckCall, PrintCall}
+use Rattle.model.specs.Grounds.{AnswersBy, locateGrounds}
+use Rattle.model.specs.Locate.{placeNumber, placeOf, marksTo}
+use Rattle.demands.specs.Calls.{Buffer, holds, CheckCall, PrintCall, listed, LocateCall}
 
 -- two calls are given the same image, marks, base and reset
 abbrev pub GivenAlike : Buffer → Buffer → ℕ → ℕ → Buffer → Buffer → ℕ → ℕ → Type 0
@@ -53,3 +56,42 @@ pub record PrintsPages : Type 0 where
       → bytesOnPage (printedPage c) ≡ coveredBytes (holds (c .image)) (holds (c .marks))
   pub starts : (c : PrintCall) → printedNumbers (c .result) .number ≡ 0
       → startsOnPage (printedPage c) ≡ startsShown (holds (c .marks)) (c .base)
+
+-- ---- R-4
+
+-- a call of the check on what the locator is given
+abbrev pub ChecksAlike : LocateCall → CheckCall → Type 0
+ChecksAlike c d =
+    GivenAlike (c .image) (c .marks) (c .base) (c .reset) (d .image) (d .marks) (d .base) (d .reset)
+
+-- another call of the locator on the same image
+abbrev pub LocatesAlike : LocateCall → LocateCall → Type 0
+LocatesAlike c d =
+    GivenAlike (c .image) (c .marks) (c .base) (c .reset) (d .image) (d .marks) (d .base) (d .reset)
+
+pub record LocatesAddresses : Type 0 where
+  -- 'tested after the check's own refusals'
+  pub check-first : (c : LocateCall) (d : CheckCall) → ChecksAlike c d → 0 < d .result
+      → (locatedNumbers (c .result) .number ≡ checkNumbers (d .result) .number)
+      × (locatedNumbers (c .result) .offset ≡ checkNumbers (d .result) .offset)
+  -- 'Answers: 16 when the list is too long, unordered, or holds an address outside the image'; behind it 15
+  pub refuses : (c : LocateCall) → Accepts (holds (c .image)) (holds (c .marks)) (c .base) (c .reset)
+      → AnswersBy
+      (locateGrounds (c .base) (length (holds (c .image))) (listed (c .addresses)) (length (listed (c .places))))
+      refusalNumber 0 (locatedNumbers (c .result) .number)
+  -- 01: 'A refusal leaves every buffer .. as given'
+  pub refused : (c : LocateCall) → 0 < locatedNumbers (c .result) .number
+      → (c .places-left ≡ listed (c .places)) × (locatedNumbers (c .result) .read ≡ 0)
+  -- 'For each, give the address of the nearest start at or below it in the marks, and whether the address belongs to
+  -- that instruction or to a gap'; 'the number of marks read in it is reported: the offset of the highest address plus
+  -- one, or 0 for no addresses'
+  pub located : (c : LocateCall) → locatedNumbers (c .result) .number ≡ 0
+      → (c .places-left
+      ≡ map placeNumber (map (placeOf (holds (c .image)) (holds (c .marks)) (c .base)) (listed (c .addresses)))
+      ++ drop (length (listed (c .addresses))) (listed (c .places)))
+      × (locatedNumbers (c .result) .read ≡ marksTo (c .base) (listed (c .addresses)))
+  -- 'On success each address's result equals that of asking it alone.'
+  pub alone : (c d : LocateCall) (k : ℕ) → locatedNumbers (c .result) .number ≡ 0 → LocatesAlike c d
+      → k < length (listed (c .addresses)) → listed (d .addresses) ≡ getD (listed (c .addresses)) k 0 ∷ []
+      → 1 ≤ length (listed (d .places))
+      → (locatedNumbers (d .result) .number ≡ 0) × (getD (d .places-left) 0 0 ≡ getD (c .places-left) k 0)

@@ -1,8 +1,10 @@
-// The interface for loaders written in C (include/m7700.h): numbers and byte slices, each as a pointer and a length.
+// The interface for loaders written in C (include/m7700.h): numbers and slices, each slice as a pointer and a length.
 use checker::check;
+use locator::locate;
 use marklist::reader::read_list;
 use marklist::writer::write_list;
 use packing::pack;
+use packing::pack_located;
 use packing::pack_printed;
 use packing::pack_read;
 use packing::pack_run;
@@ -16,7 +18,9 @@ ghost use Rattle.model.specs.RunBytes.{ranBytes};
 ghost use Rattle.model.specs.Verdict.{verdict};
 ghost use Rattle.model.specs.MarkList.{readList, marksRead, writeList, pageWritten};
 ghost use Rattle.model.specs.PrintedPage.{printed, pagePrinted};
-ghost use Rattle.packing.specs.Packed.{packedVerdict, packedRead, packedWritten, packedPrinted, packedRun};
+ghost use Rattle.model.specs.Locate.{located, placesLocated};
+ghost use Rattle.packing.specs.Packed.{packedVerdict, packedRead, packedWritten, packedPrinted, packedLocated};
+ghost use Rattle.packing.specs.Packed.{packedRun};
 
 // The check: 0 where the image is accepted, else the number of the first broken rule and its offset.
 #[no_mangle]
@@ -66,6 +70,29 @@ pub extern "C" fn m7700_print(
         return pass_on(refusal);
     }
     pack_printed(print_accepted(image, marks, base, page))
+}
+
+// Where addresses lie: 0 in the low byte and the number of marks read above it; or the number that refuses them, with
+// the check's offset above it.
+#[no_mangle]
+pub extern "C" fn m7700_locate(
+    image: &[u8],
+    marks: &[u8],
+    base: u32,
+    reset: u32,
+    addresses: &[u32],
+    places: &mut [u32],
+) -> u64
+    ensures answer { λ r. ⌜ r ≡ packedLocated (located (now (image .entry)) (now (marks .entry)) base reset
+        (now (addresses .entry)) (now (places .entry))) ⌝ }
+    ensures places { λ _. ⌜ now (places .exit) ≡ placesLocated (now (image .entry)) (now (marks .entry)) base reset
+        (now (addresses .entry)) (now (places .entry)) ⌝ }
+{
+    let refusal = m7700_check(image, marks, base, reset);
+    if refusal != 0 {
+        return pass_on(refusal);
+    }
+    pack_located(locate(image, marks, base, addresses, places))
 }
 
 // A run of the machine: 0 in the low byte and the end, the steps and the calls above it, or the number that refuses it.

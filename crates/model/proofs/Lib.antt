@@ -13,6 +13,7 @@ pub mod ListForm
 pub mod PrintedPage
 pub mod PageReading
 pub mod PrintedAnswers
+pub mod Locate
 pub mod Memory
 pub mod Status
 pub mod Step

@@ -1,10 +1,11 @@
--- 01, 'Numbers': on which grounds a run, the reader and the writer refuse, in the words of the table, 'Given when'. The
--- number given is that of the first ground that holds: 'A run is refused exactly when one of the numbers tested for a
--- run holds .., and answers the first such number'. Nothing here says how a ground is tested.
+-- 01, 'Numbers': on which grounds a run, the reader and the writer refuse, in the words of the table, 'Given when'; and
+-- 02, R-4: on which a list of addresses is refused. The number given is that of the first ground that holds: 'A run is
+-- refused exactly when one of the numbers tested for a run holds .., and answers the first such number'. Nothing here
+-- says how a ground is tested.
 -- Assumes nothing.
 use mathlib.Core.Path.{_≡_}
 use mathlib.Core.Logic.{_↔_, _⊎_}
-use Prim.Native.Nat.{ℕ, _+_, _%_, _^_, _≤_, _<_}
+use Prim.Native.Nat.{ℕ, suc, _+_, _%_, _^_, _≤_, _<_}
 use mathlib.Core.Bool.{true, false}
 use mathlib.Core.List.{List, [], _∷_}
 use lib.Dec.{eqb}
@@ -14,6 +15,7 @@ use Rattle.types.specs.declared.lists.ListRead.{ListRead}
 use Rattle.types.specs.declared.lists.ListWritten.{ListWritten}
 use Rattle.types.specs.declared.machine.State.{State}
 use Rattle.types.specs.declared.refusals.Refusal.{Refusal}
+use Rattle.types.specs.declared.probes.Located.{Located}
 use Rattle.types.specs.declared.runs.RunAnswer.{RunAnswer}
 use Rattle.types.specs.Refusals.{refusalNumber}
 use Rattle.types.specs.Addresses.{bankSize, addressLimit}
@@ -28,6 +30,8 @@ use Rattle.model.specs.Step.{callLimit, returnOf, kindOf}
 use Rattle.model.specs.Run.{ramLimit, stepLimit, executed, ran}
 use Rattle.model.specs.StateBytes.{stateSize, stateOf}
 use Rattle.model.specs.RunBytes.{ranBytes}
+use Rattle.model.specs.Rules.{Accepts}
+use Rattle.model.specs.Locate.{passOver, addressCount, located}
 
 -- ---- the first ground that holds
 
@@ -116,6 +120,19 @@ WrongList text = IsMarkList text → ⊥
 abbrev pub WrongPage : ℕ → ℕ → Type 0
 WrongPage page list = page < list
 
+-- 16: 'the list is too long, unordered, or holds an address outside the image'
+abbrev pub Unordered : List ℕ → Type 0
+Unordered addresses =
+    (k : ℕ) × (suc k < length addresses) × (getD addresses (suc k) 0 ≤ getD addresses k 0)
+
+abbrev pub HoldsOutside : ℕ → ℕ → List ℕ → Type 0
+HoldsOutside base size addresses =
+    (k : ℕ) × (k < length addresses) × ((getD addresses k 0 < base) ⊎ (base + size ≤ getD addresses k 0))
+
+abbrev pub WrongAddresses : ℕ → ℕ → List ℕ → Type 0
+WrongAddresses base size addresses =
+    (addressCount < length addresses) ⊎ Unordered addresses ⊎ HoldsOutside base size addresses
+
 -- ---- a run
 
 -- 'Run: 1, 2, 11, 12, 13.' What is wrong with the state is given.
@@ -175,3 +192,19 @@ WriteAnswers =
     (marks : List ℕ) (base reset : ℕ) (page : List ℕ)
     → AnswersBy (writeGrounds marks base reset page) ListWritten.NotWritten
     (ListWritten.Written (length (listText marks base reset))) (writeList marks base reset page)
+
+-- ---- addresses of an accepted image
+
+-- 16, 'tested after the check's own refusals', then 15
+abbrev pub locateGrounds : ℕ → ℕ → List ℕ → ℕ → Grounds
+locateGrounds base size addresses room =
+    (WrongAddresses base size addresses, Refusal.Addresses)
+    ∷ (WrongPage room (length addresses), Refusal.Page)
+    ∷ []
+
+abbrev pub LocateAnswers : Type 0
+LocateAnswers =
+    (image marks : List ℕ) (base reset : ℕ) (addresses places : List ℕ) → Accepts image marks base reset
+    → AnswersBy (locateGrounds base (length image) addresses (length places)) (λ why. Located.NotLocated why 0)
+    (Located.MarksRead (passOver image marks base addresses .read))
+    (located image marks base reset addresses places)

@@ -12,6 +12,7 @@ pub mod MarkList
 pub mod ListForm
 pub mod PrintedPage
 pub mod PageReading
+pub mod Locate
 pub mod Memory
 pub mod Addressing
 pub mod Arithmetic

@@ -1,4 +1,4 @@
--- Every answer of the check, the reader, the writer and the printer fits its packing.
+-- Every answer of the check, the reader, the writer, the printer and the locator fits its packing.
 -- Assumes nothing.
 use mathlib.Core.Path.{_≡_, refl, ap, _∙_}
 use mathlib.Core.List.{List}
@@ -9,14 +9,17 @@ use Rattle.types.specs.declared.rules.Verdict.{Verdict}
 use Rattle.types.specs.declared.lists.ListRead.{ListRead}
 use Rattle.types.specs.declared.lists.ListWritten.{ListWritten}
 use Rattle.types.specs.declared.pages.Printed.{Printed}
+use Rattle.types.specs.declared.probes.Located.{Located}
 use Rattle.types.specs.Refusals.{refusalNumber}
 use Rattle.model.specs.Verdict.{verdict}
 use Rattle.model.specs.MarkList.{readList, writeList}
 use Rattle.model.specs.PrintedPage.{printed}
+use Rattle.model.specs.Locate.{located}
 use Rattle.model.proofs.Meaning.{refused-small}
 use Rattle.model.proofs.PrintedAnswers.{refused-offset, printed-small}
+use Rattle.model.proofs.Locate.{read-few, offset-small}
 use Rattle.model.proofs.ListAnswers.{read-small, written-small}
-use Rattle.packing.specs.Packed.{packedVerdict, Fits, ReadFits, WrittenFits, PrintedFits, passedOn}
+use Rattle.packing.specs.Packed.{packedVerdict, Fits, ReadFits, WrittenFits, PrintedFits, LocatedFits, passedOn}
 use Rattle.packing.proofs.Unpacked.{passed-on}
 
 pub verdict-fits : (image marks : List ℕ) (base reset : ℕ) → Fits (verdict image marks base reset)
@@ -47,6 +50,14 @@ printed-fits image marks base reset page = by (printed image marks base reset pa
     by : (a : Printed) → printed image marks base reset page ≡ a → PrintedFits a
     by (Printed.NotPrinted why at) e = refused-offset image marks base reset page why at e
     by (Printed.Rows n) e = omega (arith, printed-small image marks base reset page n e)
+
+pub located-fits : (image marks : List ℕ) (base reset : ℕ) (addresses places : List ℕ)
+    → LocatedFits (located image marks base reset addresses places)
+located-fits image marks base reset addresses places = by (located image marks base reset addresses places) refl
+  where
+    by : (a : Located) → located image marks base reset addresses places ≡ a → LocatedFits a
+    by (Located.NotLocated why at) e = offset-small image marks base reset addresses places why at e
+    by (Located.MarksRead n) e = omega (arith, read-few image marks base reset addresses places n e)
 
 -- what a function that passes a refusal of the check on may use: which it is, and what is packed
 pub when-refused : {P : Type 0} (image marks : List ℕ) (base reset result : ℕ)

@@ -11,10 +11,13 @@ use Rattle.types.specs.declared.rules.Verdict.{Verdict}
 use Rattle.types.specs.declared.lists.ListRead.{ListRead}
 use Rattle.types.specs.declared.lists.ListWritten.{ListWritten}
 use Rattle.types.specs.declared.pages.Printed.{Printed}
+use Rattle.types.specs.declared.probes.Located.{Located}
 use Rattle.types.specs.declared.refusals.Refusal.{Refusal}
 use Rattle.types.specs.declared.runs.End.{End}
 use Rattle.types.specs.declared.runs.RunAnswer.{RunAnswer}
+use Rattle.types.specs.Addresses.{addressLimit}
 use Rattle.types.specs.Refusals.{refusalNumber}
+use Rattle.model.specs.Locate.{within, behind, placeNumber}
 use Rattle.model.specs.Run.{endNumber}
 use Rattle.model.proofs.TestResults.{refusal-range}
 use Rattle.model.proofs.Step.{stop-range}
@@ -22,6 +25,8 @@ use Rattle.packing.specs.Packed.{packedVerdict, Fits, verdictNumbers, ch
 use Rattle.packing.specs.Packed.{packedRead, ReadFits, listReadNumbers, readNumbers}
 use Rattle.packing.specs.Packed.{packedWritten, listWrittenNumbers, writtenNumbers}
 use Rattle.packing.specs.Packed.{passedOn, packedPrinted, pagePrintedNumbers, printedNumbers}
+use Rattle.packing.specs.Packed.{packedLocated, addressesLocatedNumbers, locatedNumbers}
+use Rattle.packing.specs.Packed.{placeStart, placeKind}
 use Rattle.packing.specs.Packed.{packedRun, RunFits, answerNumbers, runNumbers}
 
 pub verdict-unpacked : (v : Verdict) → Fits v → checkNumbers (packedVerdict v) ≡ verdictNumbers v
@@ -95,6 +100,16 @@ count-above n = omega arith
 pub printed-unpacked : (a : Printed) → printedNumbers (packedPrinted a) ≡ pagePrintedNumbers a
 printed-unpacked (Printed.NotPrinted why at) = rw (refused-low why at, refused-above why at, refused-so why at)
 printed-unpacked (Printed.Rows n) = rw (count-low n, count-above n)
+
+pub located-unpacked : (a : Located) → locatedNumbers (packedLocated a) ≡ addressesLocatedNumbers a
+located-unpacked (Located.NotLocated why at) = rw (refused-low why at, refused-above why at, refused-so why at)
+located-unpacked (Located.MarksRead n) = rw (count-low n, count-above n)
+
+-- the parts of a place
+pub place-parts : (start : ℕ) → start < addressLimit
+    → (placeStart (placeNumber (within start)) ≡ start) × (placeKind (placeNumber (within start)) ≡ 1)
+    × (placeStart (placeNumber (behind start)) ≡ start) × (placeKind (placeNumber (behind start)) ≡ 2)
+place-parts start small = (omega arith, omega arith, omega arith, omega arith)
 
 end-below : (end : End) → endNumber end < 256
 end-below End.Done = omega arith

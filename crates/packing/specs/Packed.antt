@@ -8,6 +8,7 @@ use Rattle.types.specs.declared.rules.Verdict.{Verdict}
 use Rattle.types.specs.declared.lists.ListRead.{ListRead}
 use Rattle.types.specs.declared.lists.ListWritten.{ListWritten}
 use Rattle.types.specs.declared.pages.Printed.{Printed}
+use Rattle.types.specs.declared.probes.Located.{Located}
 use Rattle.types.specs.declared.runs.RunAnswer.{RunAnswer}
 use Rattle.types.specs.Addresses.{addressLimit, bankSize}
 use Rattle.types.specs.Refusals.{refusalNumber}
@@ -116,6 +117,42 @@ printedNumbers result = record {
   offset = pick (eqb (result % 2 ^ 8) 0) 0 (result / 2 ^ 8);
   length = pick (eqb (result % 2 ^ 8) 0) (result / 2 ^ 8) 0;
 }
+
+-- ---- the places of addresses: the number in bits 0 to 7; above it the number of marks read where that is 0, else the
+-- offset
+
+abbrev pub packedLocated : Located → ℕ
+packedLocated (Located.NotLocated why offset) = refusalNumber why + offset * 256
+packedLocated (Located.MarksRead n) = n * 256
+
+abbrev pub LocatedFits : Located → Type 0
+LocatedFits (Located.NotLocated why offset) = offset < 65_536
+LocatedFits (Located.MarksRead n) = n < 72_057_594_037_927_936
+
+pub record LocatedNumbers : Type 0 where
+  pub number : ℕ
+  pub offset : ℕ
+  pub read : ℕ
+
+abbrev pub addressesLocatedNumbers : Located → LocatedNumbers
+addressesLocatedNumbers (Located.NotLocated why offset) =
+    record { number = refusalNumber why; offset = offset; read = 0 }
+addressesLocatedNumbers (Located.MarksRead n) = record { number = 0; offset = 0; read = n }
+
+-- as `m7700_locate_addresses` takes them
+abbrev pub locatedNumbers : ℕ → LocatedNumbers
+locatedNumbers result = record {
+  number = result % 2 ^ 8;
+  offset = pick (eqb (result % 2 ^ 8) 0) 0 (result / 2 ^ 8);
+  read = pick (eqb (result % 2 ^ 8) 0) (result / 2 ^ 8) 0;
+}
+
+-- a place, as `M7700_PLACE_START` and `M7700_PLACE_KIND` take it
+abbrev pub placeStart : ℕ → ℕ
+placeStart place = place % 2 ^ 24
+
+abbrev pub placeKind : ℕ → ℕ
+placeKind place = place / 2 ^ 24
 
 -- ---- a run: the refusal in bits 0 to 7; where that is 0, the end in bits 8 to 15, the steps in bits 16 to 39 and the
 -- calls in bits 40 to 63

@@ -4,6 +4,7 @@ use types::lists::ListRead;
 use types::lists::ListWritten;
 use types::machine::Stop;
 use types::pages::Printed;
+use types::probes::Located;
 use types::refusals::refusal_number;
 use types::rules::Verdict;
 use types::runs::End;
@@ -12,7 +13,7 @@ ghost use mathlib.Core.Path.{_≡_};
 ghost use Rattle.model.specs.Run.{endNumber};
 ghost use Rattle.model.specs.Step.{stopNumber};
 ghost use Rattle.packing.specs.Packed.{packedVerdict, Fits, packedRead, ReadFits, packedWritten, WrittenFits};
-ghost use Rattle.packing.specs.Packed.{passedOn, packedPrinted, PrintedFits};
+ghost use Rattle.packing.specs.Packed.{passedOn, packedPrinted, PrintedFits, packedLocated, LocatedFits};
 ghost use Rattle.packing.specs.Packed.{packedRun, RunFits};
 
 // The check's answer: the number above the offset, 0 where the image is accepted.
@@ -48,8 +49,8 @@ pub fn pack_written(answer: ListWritten) -> u64
     }
 }
 
-// The check's refusal, as the check packs it, in the form of the printer's answer: the number, and above it the
-// offset.
+// The check's refusal, as the check packs it, in the form of the functions that pass it on: the number, and above it
+// the offset.
 pub fn pass_on(refusal: u32) -> u64
     ensures { λ r. ⌜ r ≡ passedOn refusal ⌝ }
 {
@@ -64,6 +65,18 @@ pub fn pack_printed(answer: Printed) -> u64
     match answer {
         Printed::NotPrinted { why, offset } => refusal_number(why) as u64 + offset as u64 * 256,
         Printed::Rows(length) => length as u64 * 256,
+    }
+}
+
+// The locator's answer: the refusal's number with the offset above it, or the number of marks read above a byte that is
+// 0.
+pub fn pack_located(answer: Located) -> u64
+    requires { ⌜ LocatedFits answer ⌝ }
+    ensures { λ r. ⌜ r ≡ packedLocated answer ⌝ }
+{
+    match answer {
+        Located::NotLocated { why, offset } => refusal_number(why) as u64 + offset as u64 * 256,
+        Located::MarksRead(count) => count as u64 * 256,
     }
 }
 

@@ -1,4 +1,5 @@
 -- The lowest place where a test holds: no place before it passes the test, and it passes itself unless it is the end.
+-- The highest likewise: no place behind it passes the test.
 -- Assumes nothing.
 use mathlib.Core.Path.{_≡_, refl, subst}
 use mathlib.Core.Logic.{_⊎_, inl, inr}
@@ -10,7 +11,7 @@ use borrow.Author.Tests.{ltb-true, ltb-false, eqb-true, eq-eqb}
 use lib.Dec.{T, eqb, ltb}
 use native.Mathlib.Omega.{arith}
 use Rattle.prelude.specs.Choice.{pick}
-use Rattle.prelude.specs.First.{firstFrom}
+use Rattle.prelude.specs.First.{firstFrom, lastBefore}
 
 pub record First (test : ℕ → Bool) (i n j : ℕ) : Type 0 where
   pub at-most : j ≤ i + n
@@ -130,3 +131,36 @@ found-none test n h =
       before = λ k low high. h k high;
       found = λ inside. absurd (omega arith);
     }))
+
+-- ---- the highest place, by one more than it
+
+pub record Last (test : ℕ → Bool) (n j : ℕ) : Type 0 where
+  pub at-most : j ≤ n
+  pub found : (i : ℕ) → j ≡ suc i → test i ≡ true
+  pub after : (k : ℕ) → j ≤ k → k < n → test k ≡ false
+
+pub last-is : (test : ℕ → Bool) (n : ℕ) → Last test n (lastBefore test n)
+unfolding lastBefore
+last-is test zero = record {
+  at-most = omega arith;
+  found = λ i e. absurd (omega arith);
+  after = λ k low high. absurd (omega arith);
+}
+last-is test (suc n) = by (test n) refl (last-is test n)
+  where
+    more : test n ≡ false → (j : ℕ) → Last test n j → (k : ℕ) → j ≤ k → (k ≡ n) ⊎ (k < n) → test k ≡ false
+    more h j f k low (inl e) = rw e h
+    more h j f k low (inr below) = f .after k low below
+
+    by : (b : Bool) → test n ≡ b → Last test n (lastBefore test n)
+        → Last test (suc n) (pick b (suc n) (lastBefore test n))
+    by true h f = record {
+      at-most = omega arith;
+      found = λ i e. let same : i ≡ n = omega arith in rw same h;
+      after = λ k low high. absurd (omega arith);
+    }
+    by false h f = record {
+      at-most = omega (arith, f .at-most);
+      found = f .found;
+      after = λ k low high. more h (lastBefore test n) f k low (eq-or-lt-of-le (le-of-suc-le-suc high));
+    }

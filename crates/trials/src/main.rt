@@ -122,4 +122,6 @@ fn main() {
     try_files(Kind::Write, &mut write);
     let mut print = *b"print-00.bin";
     try_files(Kind::Print, &mut print);
+    let mut locate = *b"locate-00.bin";
+    try_files(Kind::Locate, &mut locate);
 }

@@ -7,6 +7,9 @@ ghost use lib.ListN.{length};
 // A list's length has at most five digits, and that of a buffer of the machine's is a u16.
 const SPACE: usize = 100_000;
 
+// More numbers than any list of addresses or places has.
+const WORDS: usize = 4_096;
+
 // A place past the end of every file.
 const NOWHERE: usize = usize::MAX;
 
@@ -25,6 +28,13 @@ pub(crate) fn page_space() -> [u8; PAGE_SPACE]
     ensures { λ r. ⌜ 589860 ≡ length r ⌝ }
 {
     [0; PAGE_SPACE]
+}
+
+// A space that lists of numbers are lent from.
+pub(crate) fn words() -> [u32; WORDS]
+    ensures { λ r. ⌜ 4096 ≡ length r ⌝ }
+{
+    [0; WORDS]
 }
 
 // The front of a space, to lend: so many bytes, or all that there are.
@@ -135,4 +145,49 @@ pub(crate) fn take_buffer(file: &[u8], at: &mut usize, lent: &mut [u8], after: &
     let mut again = *at;
     take_pieces(file, &mut again, after);
     take_pieces(file, at, lent);
+}
+
+// The front of a space of numbers, to lend: so many of them, or all that there are.
+pub(crate) fn front_words(space: &mut [u32], size: usize) -> &mut [u32] {
+    if space.len() < size {
+        return space;
+    }
+    &mut space[..size]
+}
+
+// Fills a list with a number.
+pub(crate) fn fill_words(list: &mut [u32], word: u32) {
+    let mut i = 0;
+    while i < list.len() {
+        list[i] = word;
+        i += 1;
+    }
+}
+
+// So many numbers of four bytes, which replace the first of a list. A list that is too short ends the file.
+pub(crate) fn take_words(file: &[u8], at: &mut usize, list: &mut [u32], size: usize) {
+    if list.len() < size {
+        *at = NOWHERE;
+        return;
+    }
+    let mut i = 0;
+    while i < size {
+        list[i] = take_u32(file, at);
+        i += 1;
+    }
+}
+
+// Whether two lists hold the same numbers.
+pub(crate) fn same_words(one: &[u32], other: &[u32]) -> bool {
+    if one.len() != other.len() {
+        return false;
+    }
+    let mut i = 0;
+    while i < one.len() {
+        if one[i] != other[i] {
+            return false;
+        }
+        i += 1;
+    }
+    true
 }

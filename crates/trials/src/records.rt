@@ -1,8 +1,11 @@
 // The records of the vector files (sim/README.md, 'Vector files'), a function each: it takes the parts in their order,
 // makes the call, and compares the answer and every byte of each lent buffer with what the record says.
 use crate::parts::fill;
+use crate::parts::fill_words;
 use crate::parts::front;
+use crate::parts::front_words;
 use crate::parts::page_space;
+use crate::parts::same_words;
 use crate::parts::space;
 use crate::parts::take_buffer;
 use crate::parts::take_bytes;
@@ -12,8 +15,11 @@ use crate::parts::take_pieces;
 use crate::parts::take_u16;
 use crate::parts::take_u32;
 use crate::parts::take_u64;
+use crate::parts::take_words;
+use crate::parts::words;
 use check::same;
 use loader::m7700_check;
+use loader::m7700_locate;
 use loader::m7700_print;
 use loader::m7700_read_list;
 use loader::m7700_run;
@@ -25,6 +31,9 @@ const UNREAD: u8 = 0x5A;
 
 const UNWRITTEN: u8 = 0xA5;
 
+// Of every place before addresses are located.
+const UNPLACED: u32 = 0xA5A5_A5A5;
+
 pub(crate) enum Kind {
     Check,
     Step,
@@ -32,6 +41,7 @@ pub(crate) enum Kind {
     Read,
     Write,
     Print,
+    Locate,
 }
 
 // What a record shows: the number of its answer, and whether the call did what it says.
@@ -49,6 +59,7 @@ pub(crate) fn trial_at(kind: Kind, file: &[u8], at: &mut usize) -> Trial {
         Kind::Read => try_read(file, at),
         Kind::Write => try_page(file, at, false),
         Kind::Print => try_page(file, at, true),
+        Kind::Locate => try_locate(file, at),
     }
 }
 
@@ -155,5 +166,33 @@ fn try_page(file: &[u8], at: &mut usize, printed: bool) -> Trial {
     Trial {
         number: (answer % 256) as usize,
         agrees: page.len() == size && given == answer && same(page, after),
+    }
+}
+
+// Addresses located, and the places that it leaves.
+fn try_locate(file: &[u8], at: &mut usize) -> Trial {
+    let base = take_u32(file, at);
+    let reset = take_u32(file, at);
+    let image = take_bytes(file, at);
+    let marks = take_bytes(file, at);
+    let count = take_u32(file, at) as usize;
+    let mut addresses_space = words();
+    let addresses = front_words(&mut addresses_space, count);
+    take_words(file, at, addresses, count);
+    let size = take_u32(file, at) as usize;
+    let answer = take_u64(file, at);
+    let mut places_space = words();
+    let mut after_space = words();
+    let places = front_words(&mut places_space, size);
+    let after = front_words(&mut after_space, size);
+    fill_words(places, UNPLACED);
+    fill_words(after, UNPLACED);
+    if answer % 256 == 0 {
+        take_words(file, at, after, count);
+    }
+    let given = m7700_locate(image, marks, base, reset, addresses, places);
+    Trial {
+        number: (answer % 256) as usize,
+        agrees: places.len() == size && given == answer && same_words(places, after),
     }
 }

@@ -5,6 +5,7 @@ pub mod code;
 pub mod lists;
 pub mod machine;
 pub mod pages;
+pub mod probes;
 pub mod refusals;
 pub mod rules;
 pub mod runs;

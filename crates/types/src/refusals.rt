@@ -1,8 +1,8 @@
-// Why a call is refused: document 01, 'Numbers', 1 to 15.
+// Why a call is refused: document 01, 'Numbers', 1 to 15, and document 02, R-4, 16.
 ghost use mathlib.Core.Path.{_≡_};
 ghost use Rattle.types.specs.Refusals as spec;
 
-// By the paper's words.
+// By the papers' words.
 pub enum Refusal {
     Length,
     Base,
@@ -19,9 +19,10 @@ pub enum Refusal {
     Steps,
     List,
     Page,
+    Addresses,
 }
 
-// The paper's number of a refusal.
+// The papers' number of a refusal.
 pub fn refusal_number(why: Refusal) -> u8
     ensures { λ r. ⌜ r ≡ spec.refusalNumber why ⌝ }
 {
@@ -41,6 +42,7 @@ pub fn refusal_number(why: Refusal) -> u8
         Refusal::Steps => 13,
         Refusal::List => 14,
         Refusal::Page => 15,
+        Refusal::Addresses => 16,
     }
 }
 

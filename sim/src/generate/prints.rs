@@ -68,7 +68,7 @@ pub fn print_by(rng: &mut Rng, number: u8) -> PrintCase {
 
 /// A program with the rule behind this number broken if it is the check's,
 /// half of these with another one too; else an accepted one.
-fn broken(rng: &mut Rng, number: u8) -> CheckCase {
+pub(super) fn broken(rng: &mut Rng, number: u8) -> CheckCase {
     let mut case = accepted(rng);
     if (LENGTH..=RETURN).contains(&number) {
         break_rule(rng, &mut case, number);
@@ -93,7 +93,11 @@ fn aimed(rng: &mut Rng, number: u8) -> PrintCase {
 }
 
 /// Some start of which this holds.
-fn a_start(rng: &mut Rng, case: &CheckCase, fits: impl Fn(usize) -> bool) -> Option<usize> {
+pub(super) fn a_start(
+    rng: &mut Rng,
+    case: &CheckCase,
+    fits: impl Fn(usize) -> bool,
+) -> Option<usize> {
     let starts: Vec<usize> = (0..case.marks.len())
         .filter(|&at| is_start(case.marks[at]) && fits(at))
         .collect();
@@ -171,7 +175,7 @@ fn break_start(rng: &mut Rng, case: &mut CheckCase, number: u8, at: usize) {
 }
 
 /// The length of the instruction at a start; 0 if it has none.
-fn length_at(case: &CheckCase, at: usize) -> usize {
+pub(super) fn length_at(case: &CheckCase, at: usize) -> usize {
     let page = page_of(case.image[at]);
     let Some(&code) = case.image.get(at + (page > 0) as usize) else {
         return 0;

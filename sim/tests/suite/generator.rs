@@ -17,6 +17,7 @@ fn the_seed_alone_decides() {
         assert_eq!(read_case(&mut a), read_case(&mut b));
         assert_eq!(write_case(&mut a), write_case(&mut b));
         assert_eq!(print_case(&mut a), print_case(&mut b));
+        assert_eq!(locate_case(&mut a), locate_case(&mut b));
         let mut other = Rng::new(seed + 1000);
         assert_ne!(Rng::new(seed).next_u64(), other.next_u64());
     }
@@ -170,6 +171,47 @@ fn prints_reach_every_number() {
     assert_eq!(seen, all);
 }
 
+/// Of every answer, places that are enough and such that are not; of refused
+/// ones no place is written, of others none past the addresses.
+#[test]
+fn locates_reach_every_number() {
+    let mut rng = Rng::new(7);
+    let mut seen = BTreeSet::new();
+    for _ in 0..40_000 {
+        let case = locate_case(&mut rng);
+        let (answer, places) = case.answer();
+        let number = answer as u8;
+        seen.insert((number, case.places_len < case.addresses.len()));
+        let written = if number == 0 { case.addresses.len() } else { 0 };
+        assert!(places[written..].iter().all(|&p| p == PLACE_BEFORE));
+    }
+    let refused = (1..=10).chain([16]);
+    let refused = refused.flat_map(|number| [(number, false), (number, true)]);
+    let all: BTreeSet<(u8, bool)> = refused.chain([(0, false), (15, true)]).collect();
+    assert_eq!(seen, all);
+}
+
+/// Located addresses lie below the first start, in instructions and in gaps,
+/// in lists of 0 to 256.
+#[test]
+fn located_addresses_lie_everywhere() {
+    let mut rng = Rng::new(8);
+    let mut lies = [0; 3];
+    let mut counts = BTreeSet::new();
+    for _ in 0..5_000 {
+        let case = locate_case(&mut rng);
+        let (answer, places) = case.answer();
+        if answer as u8 == 0 {
+            counts.insert(case.addresses.len());
+            for place in &places[..case.addresses.len()] {
+                lies[(place >> 24) as usize] += 1;
+            }
+        }
+    }
+    assert!(lies.iter().all(|&count| count > 300), "{lies:?}");
+    assert!(counts.contains(&0) && counts.contains(&256));
+}
+
 /// Aimed cases have their number, whatever the seed.
 #[test]
 fn aimed_cases_have_their_number() {
@@ -191,6 +233,9 @@ fn aimed_cases_have_their_number() {
             }
             for number in (0..=10).chain([15]) {
                 assert_eq!(print_by(&mut rng, number).answer().0 as u8, number);
+            }
+            for number in (0..=10).chain([15, 16]) {
+                assert_eq!(locate_by(&mut rng, number).answer().0 as u8, number);
             }
         }
     }

@@ -10,6 +10,7 @@ mod flags_and_bits;
 mod flow;
 mod generator;
 mod lists;
+mod locate;
 mod print;
 mod program;
 mod proved_set;

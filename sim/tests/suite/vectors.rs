@@ -4,7 +4,7 @@ use sim7700::codes::{entry_of, page_of, Register, Word};
 use sim7700::generate::VALUES;
 use sim7700::state::Registers;
 use sim7700::vectors::*;
-use sim7700::{check, print, read_list, run, write_list};
+use sim7700::{check, locate, print, read_list, run, write_list};
 use std::collections::{BTreeMap, BTreeSet};
 
 #[test]
@@ -17,14 +17,15 @@ fn the_same_seed_gives_the_same_bytes() {
     }
 }
 
-/// The check and print files hang on no machine and are kept elsewhere too: their
-/// bytes stay (FNV-1a, 64 bits, over names and bytes).
+/// The check, print and locate files hang on no machine and are kept elsewhere
+/// too: their bytes stay (FNV-1a, 64 bits, over names and bytes).
 #[test]
 fn kept_files_stay() {
     let files = files(DEFAULT_SEED);
     for (kind, kept) in [
         ("check", 0x609C_1CB5_EDEC_D7E0u64),
         ("print", 0xBFD2_0B57_B7A6_4DA3),
+        ("locate", 0x46BF_DD1B_E326_CC19),
     ] {
         let mut hash = 0xCBF2_9CE4_8422_2325u64;
         for (name, bytes) in files.iter().filter(|(name, _)| name.starts_with(kind)) {
@@ -112,6 +113,7 @@ fn try_record(kind: &str, r: &mut Reader) -> u64 {
             answer & 0xFF
         }
         "print" => try_print(r),
+        "locate" => try_locate(r),
         _ => try_run(r),
     }
 }
@@ -128,6 +130,24 @@ fn try_print(r: &mut Reader) -> u64 {
     }
     assert_eq!(print(image, marks, base, reset, &mut page), answer);
     assert!(page == expected, "{image:02X?} {marks:02X?}");
+    answer & 0xFF
+}
+
+fn try_locate(r: &mut Reader) -> u64 {
+    let (base, reset) = (r.number(4) as u32, r.number(4) as u32);
+    let (image, marks) = (r.bytes(), r.bytes());
+    let count = r.number(4) as usize;
+    let addresses: Vec<u32> = (0..count).map(|_| r.number(4) as u32).collect();
+    let mut places = vec![0xA5A5_A5A5; r.number(4) as usize];
+    assert!(places.len() <= 300);
+    let answer = r.number(8);
+    let mut expected = places.clone();
+    if answer & 0xFF == 0 {
+        expected[..count].fill_with(|| r.number(4) as u32);
+    }
+    let given = locate(image, marks, base, reset, &addresses, &mut places);
+    assert_eq!(given, answer);
+    assert!(places == expected, "{image:02X?} {marks:02X?}");
     answer & 0xFF
 }
 
@@ -183,6 +203,7 @@ fn records_agree_and_every_number_stands() {
     least("read", &all(&READ_NUMBERS), 100);
     least("write", &all(&WRITE_NUMBERS), 100);
     least("print", &all(&PRINT_NUMBERS), 100);
+    least("locate", &all(&LOCATE_NUMBERS), 100);
 }
 
 /// Every carried code is printed at each pair of widths.
@@ -196,6 +217,12 @@ fn carried_codes_are_printed() {
         }
     }
     assert_eq!(printed.len(), 4 * 380);
+}
+
+/// At most four files of locations.
+#[test]
+fn locations_take_four_files() {
+    assert_eq!(locate_files(DEFAULT_SEED).len(), 4);
 }
 
 /// Page, code and widths of each row in a record of a print file.

@@ -1,7 +1,8 @@
-//! bench check|lists|print|runs: times the library beside the simulator on the same
-//! inputs. Every ratio is library time over simulator time.
+//! bench check|lists|print|locate|runs: times the library beside the simulator on
+//! the same inputs. Every ratio is library time over simulator time.
 
 mod clock;
+mod locates;
 mod pages;
 mod runs;
 
@@ -16,7 +17,8 @@ use trial7700::lists::cases::{every_start, Marked};
 /// Calls in a batch, long beside the clock's own cost.
 const CALLS: usize = 20;
 const SEED: u64 = 7700;
-/// Bytes of code that the benchmarks of check and page go through in a call.
+/// Bytes of code that the benchmarks of check, page and location go through in a
+/// call.
 const BYTES: usize = 131_072;
 
 fn main() -> ExitCode {
@@ -25,9 +27,10 @@ fn main() -> ExitCode {
         ["check"] => check(),
         ["lists"] => lists(),
         ["print"] => print(),
+        ["locate"] => locate(),
         ["runs"] => runs::timed(),
         _ => {
-            eprintln!("usage: bench check|lists|print|runs");
+            eprintln!("usage: bench check|lists|print|locate|runs");
             return ExitCode::from(2);
         }
     }
@@ -65,6 +68,13 @@ fn print() {
     let whole = pages::printed("mixed, 16,384", CALLS, &drawn(mixed_code, 16_384));
     let half = pages::printed("mixed, 8,192", CALLS, &drawn(mixed_code, 8_192));
     linear("printed", whole, half);
+}
+
+fn locate() {
+    println!("256 addresses, ns per byte          library  simulator  ratio");
+    let whole = locates::located("mixed, 16,384", CALLS, drawn(mixed_code, 16_384));
+    let half = locates::located("mixed, 8,192", CALLS, drawn(mixed_code, 8_192));
+    linear("located", whole, half);
 }
 
 /// Near 2 is linear.
