@@ -22,7 +22,8 @@
  *   - A pointer is valid for its length: so many bytes may be read there, and
  *     written where the function writes. At length 0 any pointer will do.
  *   - A buffer that a function writes overlaps no other. Image and marks are
- *     only read by the check and for a page, and may overlap each other there.
+ *     only read by the check, for a page and for places, and may overlap each
+ *     other there.
  */
 #ifndef M7700_H
 #define M7700_H
@@ -34,18 +35,19 @@
 extern "C" {
 #endif
 
-#define M7700_VERSION "1.2.0"
+#define M7700_VERSION "2.0.0"
 
 /* SYSTEM
  *
- * The library is for Linux on x86-64. Of the C library it needs memcpy and
- * memset. It has no data of its own, so threads may call it at the same time,
- * each with its own buffers; those that are only read may be shared.
+ * The library is for Linux on x86-64. Of the C library it needs no more than
+ * memcpy and memset. It has no data of its own, so threads may call it at the
+ * same time, each with its own buffers; those that are only read may be shared.
  *
  * No call needs more stack than the bytes below. Measured, on a stack of
- * painted bytes and with the longest buffers: 8,568 for a page, 5,752 for a
- * run or a step, 4,088 for a check, 208 for a list, and some 3,200 more for a
- * call in which memcpy or memset is first bound by the dynamic linker. */
+ * painted bytes and with the longest buffers: 8,568 for a page, 8,008 for the
+ * places of addresses, 5,128 for a run or a step, 4,056 for a check, 208 for a
+ * list, and some 3,200 more for a call in which memcpy or memset is first bound
+ * by the dynamic linker. */
 #define M7700_STACK_BYTES 16384
 
 /* LIMITS
@@ -60,7 +62,7 @@ extern "C" {
 #define M7700_ADDRESSES 256
 #define M7700_RAM_BYTES 4096
 #define M7700_STEPS 1000000
-#define M7700_CALLS 64
+#define M7700_CALLS 24
 
 /* MARKS
  *

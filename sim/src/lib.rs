@@ -22,5 +22,5 @@ pub mod vectors;
 pub use check::{check, verdict};
 pub use list::{read_list, write_list};
 pub use locate::{locate, IN_GAP, IN_INSTRUCTION, NO_START};
-pub use machine::{run, step};
+pub use machine::{run, run_within, step};
 pub use print::{print, ROW_BYTES};

@@ -8,13 +8,26 @@ use crate::state::{self, Registers};
 /// The C interface's `m7700_run`: bits 0-7 refusal; on 0 bits 8-15 end, 16-39
 /// steps completed, 40-63 calls.
 pub fn run(image: &[u8], base: u32, state: &mut [u8], ram: &mut [u8], steps: u32) -> u64 {
-    if let Err(number) = accept(image, base, state, ram, steps) {
+    run_within(MAX_CALLS, image, base, state, ram, steps)
+}
+
+/// The same with room for `limit` open calls, so that the limits before and
+/// since R-5 can be compared.
+pub fn run_within(
+    limit: usize,
+    image: &[u8],
+    base: u32,
+    state: &mut [u8],
+    ram: &mut [u8],
+    steps: u32,
+) -> u64 {
+    if let Err(number) = accept(limit, image, base, state, ram, steps) {
         return number as u64;
     }
     let mut registers = Registers::read(state);
     let (mut end, mut done, mut calls) = (0, 0u64, 0u64);
     while done < steps as u64 {
-        let mut attempt = Step::new(image, base, ram, registers);
+        let mut attempt = Step::new(limit, image, base, ram, registers);
         match attempt.prepare(state) {
             Ok(()) => {
                 registers = attempt.registers;
@@ -40,12 +53,19 @@ pub fn step(image: &[u8], base: u32, state: &mut [u8], ram: &mut [u8]) -> u64 {
 }
 
 /// 1, 2, 11, 12, 13.
-fn accept(image: &[u8], base: u32, state: &[u8], ram: &[u8], steps: u32) -> Result<(), u8> {
+fn accept(
+    limit: usize,
+    image: &[u8],
+    base: u32,
+    state: &[u8],
+    ram: &[u8],
+    steps: u32,
+) -> Result<(), u8> {
     image_place(image.len(), base)?;
     if ram.is_empty() || ram.len() > MAX_RAM || ram.len() > base as usize {
         return Err(RAM);
     }
-    state::accept(state)?;
+    state::accept_within(limit, state)?;
     if steps > MAX_STEPS {
         return Err(STEPS);
     }
@@ -153,6 +173,7 @@ impl Instruction<'_> {
 
 /// A step under way: nothing outside it changes until it is completed.
 struct Step<'a> {
+    limit: usize,
     image: &'a [u8],
     base: u32,
     ram: &'a [u8],
@@ -162,8 +183,15 @@ struct Step<'a> {
 }
 
 impl<'a> Step<'a> {
-    fn new(image: &'a [u8], base: u32, ram: &'a [u8], registers: Registers) -> Step<'a> {
+    fn new(
+        limit: usize,
+        image: &'a [u8],
+        base: u32,
+        ram: &'a [u8],
+        registers: Registers,
+    ) -> Step<'a> {
         Step {
+            limit,
             image,
             base,
             ram,
@@ -474,7 +502,7 @@ impl<'a> Step<'a> {
 
     /// JSR: 25 goes before the pushes, which are stores.
     fn call(&mut self, i: &Instruction, state: &[u8]) -> Result<(), u8> {
-        if state::depth(state) == MAX_CALLS {
+        if state::depth(state) == self.limit {
             return Err(DEEP);
         }
         let address = self.registers.pc;

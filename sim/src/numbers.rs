@@ -30,7 +30,8 @@ pub const DECIMAL: u8 = 27;
 pub const MAX_IMAGE: usize = 16_384;
 pub const MAX_RAM: usize = 4_096;
 pub const MAX_STEPS: u32 = 1_000_000;
-pub const MAX_CALLS: usize = 64;
+/// 01 has 64; 02, R-5, makes it 24.
+pub const MAX_CALLS: usize = 24;
 /// Addresses that a probe delivers at most.
 pub const MAX_PROBE: usize = 256;
 pub const MAX_ADDRESS: u32 = 0xFF_FFFF;

@@ -6,7 +6,12 @@ use crate::numbers::{MAX_ADDRESS, MAX_CALLS, STATE};
 /// Bytes before the open calls, of one open call, and of a whole state.
 pub const HEAD_BYTES: usize = 20;
 pub const CALL_BYTES: usize = 8;
-pub const STATE_BYTES: usize = HEAD_BYTES + CALL_BYTES * MAX_CALLS;
+pub const STATE_BYTES: usize = bytes_for(MAX_CALLS);
+
+/// The bytes of a state with room for so many open calls.
+pub const fn bytes_for(calls: usize) -> usize {
+    HEAD_BYTES + CALL_BYTES * calls
+}
 
 /// The registers; PG and PC are one 24-bit number.
 #[derive(Clone, Copy, PartialEq, Eq, Debug, Default)]
@@ -104,12 +109,17 @@ pub fn set_call(state: &mut [u8], index: usize, address: u32, kind: u8) {
 /// 12: a buffer of another length, PS bits 11 to 15, or open calls that
 /// cannot be.
 pub fn accept(state: &[u8]) -> Result<(), u8> {
-    if state.len() != STATE_BYTES || Registers::read(state).ps > 0x7FF {
+    accept_within(MAX_CALLS, state)
+}
+
+/// 12 in a machine that has room for `limit` open calls.
+pub(crate) fn accept_within(limit: usize, state: &[u8]) -> Result<(), u8> {
+    if state.len() != bytes_for(limit) || Registers::read(state).ps > 0x7FF {
         return Err(STATE);
     }
     let depth = depth(state);
     let sound = |(address, kind)| address <= MAX_ADDRESS && (kind == 1 || kind == 2);
-    if depth > MAX_CALLS || !(0..depth).all(|index| sound(open_call(state, index))) {
+    if depth > limit || !(0..depth).all(|index| sound(open_call(state, index))) {
         return Err(STATE);
     }
     Ok(())

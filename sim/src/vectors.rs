@@ -27,8 +27,15 @@ pub const LOCATE_NUMBERS: [u8; 12] = [1, 2, 4, 3, 5, 6, 7, 10, 8, 9, 16, 15];
 /// Turns the seed into the printed pages' own, so that they stay what they
 /// are when others are drawn before them.
 const PRINT_SEED: u64 = 0x5052_494E_5400_0000;
+/// Likewise for the lists. They came behind steps and runs before these were
+/// drawn anew (02, R-5); this makes of the default seed the number that they
+/// had come to, so that its lists stay.
+const LIST_SEED: u64 = 0xDBFA_D19A_A365_A06B;
 /// Likewise for the transfers into X and Y, which came later.
 const TRANSFER_SEED: u64 = 0x5452_414E_5300_0000;
+
+/// Likewise for each number of open calls.
+const DEPTH_SEED: u64 = 0x4445_5054_4800_0000;
 /// Likewise for the locations.
 const LOCATE_SEED: u64 = 0x4C4F_4341_5445_0000;
 
@@ -38,11 +45,15 @@ pub fn files(seed: u64) -> Vec<(String, Vec<u8>)> {
     let checks = check_records(&mut rng);
     let mut steps = step_records(&mut rng);
     let mut runs = run_records(&mut rng);
-    let reads = read_records(&mut rng);
-    let writes = write_records(&mut rng);
+    let mut lists = Rng::new(seed ^ LIST_SEED);
+    let reads = read_records(&mut lists);
+    let writes = write_records(&mut lists);
     let mut own = Rng::new(seed ^ TRANSFER_SEED);
     steps.extend(transfer_steps(&mut own).iter().map(run_record));
     runs.extend(transfer_runs(&mut own).iter().map(run_record));
+    let mut own = Rng::new(seed ^ DEPTH_SEED);
+    steps.extend(depth_steps(&mut own).iter().map(run_record));
+    runs.extend(depth_runs(&mut own).iter().map(run_record));
     let kinds = [
         ("check", checks),
         ("step", steps),

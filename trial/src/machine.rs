@@ -5,15 +5,16 @@ use crate::faults;
 use crate::guard::Guarded;
 use crate::hex;
 use sim7700::codes::{entry_of, page_of, Entry, PREFIX_42, PREFIX_89};
-use sim7700::generate::RunCase;
+use sim7700::generate::{RunCase, FORMER_STATE_BYTES};
 use sim7700::numbers::MAX_IMAGE;
-use sim7700::state::{depth, Registers, HEAD_BYTES, STATE_BYTES};
+use sim7700::state::{depth, Registers, HEAD_BYTES};
 use std::fmt::{self, Display, Formatter};
 use std::sync::OnceLock;
 
-/// Buffers somewhat over 01's limits are lent too.
+/// Buffers somewhat over 01's limits are lent too, and states that were as long
+/// as before R-5.
 const IMAGE_CAPACITY: usize = MAX_IMAGE + 16;
-const STATE_CAPACITY: usize = 2 * STATE_BYTES;
+const STATE_CAPACITY: usize = FORMER_STATE_BYTES;
 const RAM_CAPACITY: usize = 65_536;
 
 /// A function with the shape of `m7700_step`.

@@ -35,9 +35,10 @@ use Rattle.prelude.specs.Choice.{bit}
 use Rattle.model.specs.Memory.{Memory, memory, byteAt, servedAt}
 use Rattle.model.specs.Addressing.{operandBy, dataOf}
 use Rattle.model.specs.Effects.{effectOf}
-use Rattle.model.specs.Step.{callLimit, callRecord, bytesFrom, operates, calls, returnsTo, planBy, stepped, step}
-use Rattle.model.specs.Run.{stepLimit, levelLimit, history, ramFits, callsFit, stateFits, admission}
-use Rattle.model.specs.Run.{executed, ran}
+use Rattle.model.specs.Step.{callLimit, callRecord, bytesFrom, operates, callsWithin, returnsTo, planByWithin, stepped}
+use Rattle.model.specs.Step.{stepWithin, step}
+use Rattle.model.specs.Run.{stepLimit, levelLimit, historyWithin, ramFits, callsFit, stateFitsWithin, stateFits}
+use Rattle.model.specs.Run.{admission, executed, ran}
 use Rattle.model.specs.StateBytes.{coreOf}
 use Rattle.model.specs.Guarantee.{Every}
 use Rattle.prelude.proofs.Choice.{both-true}
@@ -58,7 +59,7 @@ unfolding plain pages entryAt judged decodeOn decode isFormed lengthFits baseFit
     startsVerdict verdict digit digits digitValue value digitCount startsWith headerText kindLetter fields
     lengthDigitsShown headerShown isHeader bitShown kindShown fieldsMark isLine markShown lineSize marksShown linesLeft
     linesText marksOf leftOf isList readAs readList marksBy marksRead byteAt servedAt operandBy dataOf effectOf
-    bytesFrom operates calls returnsTo planBy step history ramFits callsFit stateFits
+    bytesFrom operates callsWithin returnsTo planByWithin stepWithin historyWithin ramFits callsFit stateFitsWithin
 computed = tt
 
 -- ---- from what computes to what is claimed

@@ -16,7 +16,7 @@ use Rattle.types.specs.declared.runs.RunAnswer.{RunAnswer}
 use Rattle.model.specs.Memory.{Memory}
 use Rattle.model.specs.Step.{Stepped, stepped, step}
 use Rattle.model.specs.Run.{stepLimit, isCompleted, Event, withRam, history, completedSteps, callsAmong, endOf}
-use Rattle.model.specs.Run.{stateLeft, ramLeft, admission, ran}
+use Rattle.model.specs.Run.{stateLeft, ramLeft, admission, ran, historyWithin}
 use Rattle.model.specs.Guarantee.{Every}
 use Rattle.model.proofs.Run.{goes-on, stops-there, admitted-ran}
 use Rattle.cases.specs.Rows.{Returns}
@@ -71,7 +71,7 @@ module _ (m : Memory) (s : State) where
 
   module _ (same : step m s ≡ stepped StepAnswer.Completed s (m .ram)) where
     repeated : (n : ℕ) → history m s n ≡ replicate n still
-    unfolding history
+    unfolding historyWithin
     repeated zero = refl
     repeated (suc n) =
         goes-by m s n (stepped StepAnswer.Completed s (m .ram)) same refl (replicate n still) (repeated n)

@@ -60,7 +60,7 @@ module _ (v : Unspecified) where
       (v .core .depth)
 
   -- 'Begun at C004, S=01FD': at an address, with an S and so many open calls. With one open, case 9's 24 would hang on
-  -- RAM and its entry; with 64, cases 6 and 7 would be 25.
+  -- RAM and its entry; with 24, cases 6 and 7 would be 25.
   abbrev pub begun : ℕ → ℕ → ℕ → State
   begun pc s depth = stateAt v (withS s (v .core .registers)) pc depth
 

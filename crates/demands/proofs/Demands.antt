@@ -31,8 +31,8 @@ use Rattle.model.specs.MarkList.{marksBy, marksRead, pageBy, pageWritten}
 use Rattle.model.specs.Memory.{memory}
 use Rattle.model.specs.Step.{stopNumber, step}
 use Rattle.model.specs.Run.{Event, withRam, history, endOf, endNumber, completedSteps, callsAmong, executed, ran}
-use Rattle.model.specs.Run.{oneStep}
-use Rattle.model.specs.Run.{admission, admittedHistory, runHistory, Run, runsFrom}
+use Rattle.model.specs.Run.{oneStep, runsFromWithin}
+use Rattle.model.specs.Run.{admission, admittedHistory, runHistory, Run, runsFrom, admittedHistoryWithin}
 use Rattle.model.specs.StateBytes.{stateSize, stateOf, stateBytes}
 use Rattle.model.specs.RunBytes.{asBytes}
 use Rattle.model.specs.Guarantee.{Every, EndsWell, done, stopped, RunOutcome, admitted, refused}
@@ -97,7 +97,7 @@ module _ (c : RunCall) where
       by (RunAnswer.Ended end steps calls) e told = absurd (omega (arith, ap (λ n. n .refusal) told))
 
   step-stopped : Every Undone (historyOf c)
-  unfolding admittedHistory
+  unfolding admittedHistoryWithin
   step-stopped = by (admission (memoryOf c) (stateGiven c) (c .steps))
     where
       by : (a : TestResult) → Every Undone (admittedHistory a (memoryOf c) (stateGiven c) (c .steps))
@@ -355,7 +355,7 @@ module _ (image : List ℕ) (base : ℕ) where
   listed : (calls : List RunCall) → Every Here calls → (state ram : List ℕ) → length state ≡ stateSize
       → PassedOn state ram calls
       → (runsOf calls ≡ runsFrom (memory ram image base) (stateOf state) (askedOf calls)) × Every Long calls
-  unfolding runsFrom
+  unfolding runsFromWithin
   listed [] here state ram long passed = (refl, tt)
   listed (c ∷ rest) here state ram long passed =
       let whole : Long c = rw (passed .0) long in

@@ -36,7 +36,7 @@ use Rattle.model.specs.Rules.{nextAddress, targetAddress, kindNumber}
 use Rattle.types.specs.Status.{statusOf}
 use Rattle.model.specs.Step as spec
 use Rattle.model.specs.Step.{Plan, stops, changes, change, callLimit, kindOf, returnOf, returnBytes, callRecord}
-use Rattle.model.specs.Step.{Stepped, returnsTo, planBy, widthsAfter}
+use Rattle.model.specs.Step.{Stepped, returnsTo, planBy, widthsAfter, planByWithin}
 use Rattle.model.proofs.Memory.{onDone, evaluate-bind}
 use Rattle.model.proofs.Step.{pulls-first}
 use Rattle.machine.specs.declared.commit.StepResult.{StepResult}
@@ -101,7 +101,7 @@ module _ (c : Core) (i : Instruction) where
   r = c .registers
 
   deep : (kind : Kind) → callLimit ≤ c .depth → stops Stop.Deep ≡ spec.calls c i kind
-  unfolding spec.calls
+  unfolding spec.callsWithin
   deep kind h = rw (le-ltb (c .depth) callLimit h) refl
 
   called : (kind : Kind) (place address : ℕ) (stores : Stores) → c .depth < callLimit → place ≡ spec.target c i
@@ -110,7 +110,7 @@ module _ (c : Core) (i : Instruction) where
       (change (withS (pushedAt r (returnBytes kind)) r) place (CallChange.Open address (kindNumber kind))
       (listed stores))
       ≡ spec.calls c i kind
-  unfolding spec.calls
+  unfolding spec.callsWithin
   called kind place address stores h e e′ e″ = rw (lt-ltb (c .depth) callLimit h, e, e′, e″) refl
 
   module _ (opened : ℕ) (kind : Kind) (address : ℕ) where
@@ -149,7 +149,7 @@ module _ (c : Core) (i : Instruction) where
 
     return-to : (address : ℕ) → w ≡ LongRead.Long address
         → returnsTo c i opened kind address ≡ planBy c i m opened (Flow.Return kind)
-    unfolding planBy
+    unfolding planByWithin
     return-to address e = rw (long-done (evaluate m (spec.pullsReturn c i kind)) w address read e) refl
 
 -- the steps, exit by exit

@@ -24,6 +24,7 @@ use Rattle.types.specs.Addresses.{addressLimit}
 use Rattle.model.specs.Memory.{Memory}
 use Rattle.model.specs.Rules.{nextAddress, targetAddress}
 use Rattle.model.specs.Step.{Plan, Stepped, stops, changes, change, operates, calls, planBy, fetched, onDecoded, step}
+use Rattle.model.specs.Step.{planByWithin, stepWithin}
 use Rattle.machine.specs.declared.commit.StepResult.{StepResult}
 use Rattle.machine.specs.declared.fetch.Fetched.{Fetched}
 use Rattle.machine.specs.declared.fetch.Fetch.{Fetch}
@@ -53,7 +54,7 @@ module _ (i : Fetched) (m : Memory) (place depth : ℕ) (file opens : List ℕ) 
     pub by-operation : OneOf (0 ∷ 1 ∷ []) (tagOf the-type flow) → (branches : Bool) → branches ≡ isBranch flow
         → after ≡ finished (operates c there m (goesBy branches i place)) i m place depth file opens
         → after ≡ onDecoded (Decoded.Whole there) m (state c opens)
-    unfolding planBy
+    unfolding planByWithin
     by-operation h branches e e′ =
         by-plan (operates c there m (goesBy branches i place)) e′ (by flow h branches e)
       where
@@ -77,7 +78,7 @@ module _ (i : Fetched) (m : Memory) (place depth : ℕ) (file opens : List ℕ) 
         ≡ finished (changes (change (registersOf file) (targetAddress there place) CallChange.Keep [])) i m place depth
         file opens
         → after ≡ onDecoded (Decoded.Whole there) m (state c opens)
-    unfolding planBy
+    unfolding planByWithin
     by-jump e e′ =
         by-plan (changes (change (registersOf file) (targetAddress there place) CallChange.Keep [])) e′ (rw e jumped)
       where
@@ -90,7 +91,7 @@ module _ (i : Fetched) (m : Memory) (place depth : ℕ) (file opens : List ℕ) 
     pub by-call : (kind : Kind) → flow ≡ Flow.Call kind
         → after ≡ finished (calls c there kind) i m place depth file opens
         → after ≡ onDecoded (Decoded.Whole there) m (state c opens)
-    unfolding planBy
+    unfolding planByWithin
     by-call kind e e′ = by-plan (calls c there kind) e′ (rw e called)
       where
         called : calls c there kind ≡ planBy c there m opened (Flow.Call kind)
@@ -104,7 +105,7 @@ module _ (i : Fetched) (m : Memory) (place depth : ℕ) (file opens : List ℕ) 
     pub by-halt : (t : StepResult) → flow ≡ Flow.Halt → t ≡ stepResult (StepAnswer.Stopped Stop.Halt) place depth
         → after ≡ left t file opens (m .ram)
         → after ≡ onDecoded (Decoded.Whole there) m (state c opens)
-    unfolding planBy
+    unfolding planByWithin
     by-halt t e e′ e″ = by-plan (stops Stop.Halt) (rw (e″, e′) refl) (rw e halted)
       where
         halted : stops Stop.Halt ≡ planBy c there m opened Flow.Halt
@@ -117,7 +118,7 @@ module _ (m : Memory) (place depth : ℕ) (file opens : List ℕ) (found : Fetch
   module _ (is-fetched : decodedAs found ≡ fetched m here) (after : Stepped) where
     by-fetch : after ≡ onDecoded (decodedAs found) m (state here opens)
         → after ≡ step m (state (coreAt place depth file) opens)
-    unfolding step
+    unfolding stepWithin
     by-fetch e =
         e ∙ ap (λ d. onDecoded d m (state here opens)) is-fetched
         ∙ ap (λ c. onDecoded (fetched m c) m (state c opens)) (core-kept place depth file)

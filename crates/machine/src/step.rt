@@ -103,7 +103,7 @@ fn perform(
 }
 
 // The step of a place, a register file and the open calls. Asks for the code pages and the tasks, lent, since a
-// constant array is copied at each use; for what a run tests once, an image within its limits and at most 64 open
+// constant array is copied at each use; for what a run tests once, an image within its limits and at most 24 open
 // calls; and for the file's length, which is not known of an array that is lent to be changed. Left open are the
 // place's bits above 24 and the upper byte of DT's number: no step hangs on them.
 pub fn step_in(

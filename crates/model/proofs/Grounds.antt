@@ -35,7 +35,7 @@ use Rattle.types.specs.Status.{levelUnit, numberOf}
 use Rattle.model.specs.Memory.{Memory}
 use Rattle.model.specs.Step.{callLimit, returnOf, kindOf}
 use Rattle.model.specs.Run.{ramLimit, stepLimit, ramFits, levelLimit, callFits, callsFit, stateFits, runTests}
-use Rattle.model.specs.Run.{admission, executed, ran}
+use Rattle.model.specs.Run.{admission, executed, ran, stateFitsWithin}
 use Rattle.model.specs.StateBytes.{stateSize, stateOf}
 use Rattle.model.specs.RunBytes.{bytesFit, ranBytesBy, ranBytes}
 use Rattle.model.specs.Grounds.{WrongSize, WrongLength, WrongBase, IsResetStart, WrongReset, IsMark, WrongMark}
@@ -261,7 +261,7 @@ wrong-level s =
     (λ e. omega (arith, d .0 e, level), λ h. d .1 (omega (arith, h, level)))
 
 wrong-state : (s : State) → FailsOn (stateFits s) (WrongState s)
-unfolding stateFits callsFit
+unfolding stateFitsWithin callsFit
 wrong-state s =
     of-three (ltb (s .core .registers .status .level) levelLimit) (leb (s .core .depth) callLimit)
     (callsFit (s .calls) (s .core .depth)) (wrong-level (s .core .registers .status))

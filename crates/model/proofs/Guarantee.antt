@@ -47,9 +47,10 @@ use Rattle.model.specs.Step.{callLimit, recordUnit, callRecord, returnOf
 use Rattle.model.specs.Step.{fetched, Change, change, Plan, stops, changes, onRead, isDecimal, next, target}
 use Rattle.model.specs.Step.{short, access, works, operates, pushesReturn, returnBytes, calls, pullsReturn}
 use Rattle.model.specs.Step.{isReturn, returnsTo, planBy, lastOpened, plan, depthAfter, callsAfter}
-use Rattle.model.specs.Step.{answerOf, stateAfter, onServed, finish, step}
+use Rattle.model.specs.Step.{answerOf, stateAfter, onServed, finish, step, callsWithin, planByWithin, stepWithin}
 use Rattle.model.specs.Run.{Event, event, withRam, history, completedSteps, endAfter, endOf, stateLeft, admission}
-use Rattle.model.specs.Run.{runHistory, ran, Run, runsFrom, joinedHistory}
+use Rattle.model.specs.Run.{runHistory, ran, Run, runsFrom, joinedHistory, historyWithin, runsFromWithin}
+use Rattle.model.specs.Run.{joinedHistoryWithin}
 use Rattle.model.specs.Guarantee.{Every, Marked, WholeInside, Safe, EndsWell, RunOutcome, Begins, Guarantee}
 use Rattle.model.specs.Guarantee.{OwnKind, OwnKinds}
 use Rattle.model.proofs.CodeMap.{call-keeps, return-keeps}
@@ -393,7 +394,7 @@ module _ (marks : List ℕ) (base : ℕ) (s : State) (i : Instruction) (st : Sta
       (requirement (target (s .core) i) (markOfRoutine kind mark (markAt marks base (target (s .core) i))))
       → Met marks base (requirement (next (s .core) i) (markOnReturn mark (markAt marks base (target (s .core) i))))
       → Good marks base s i (calls (s .core) i kind)
-  unfolding calls
+  unfolding callsWithin
   calls-good kind keeps into after = by (ltb (s .core .depth) callLimit)
     where
       by : (b : Bool) → Good marks base s i
@@ -456,7 +457,7 @@ module _ (marks : List ℕ) (base : ℕ) (s : State) (i : Instruction) (st : Sta
       → AllMet marks base (owedBy flow mark (markAfter (i .entry .effect) (i .operand) mark) (next (s .core) i)
       (target (s .core) i) (markAt marks base (target (s .core) i)))
       → Good marks base s i (planBy (s .core) i m (lastOpened s) flow)
-  unfolding planBy owedBy returnFits
+  unfolding planByWithin owedBy returnFits
   plan-good m Flow.Next call return fits met =
       operates-good marks base s i m (λ taken. next (s .core) i) (λ taken. owed-arrives (next (s .core) i) met)
   plan-good m Flow.Branch call return fits met =
@@ -595,7 +596,7 @@ module _ (image marks : List ℕ) (base reset : ℕ) (rules : Accepts image mark
 
   -- where the machine stands at its marks, its step is safe and keeps it there
   steps : Steps image marks base ram s
-  unfolding step returnFits
+  unfolding stepWithin returnFits
   steps =
       let marks-whole : base + length marks ≤ addressLimit = rw same-length in-bank in
       let after = finished marks base s instruction marks-whole m (plan m s instruction) st good in
@@ -613,6 +614,10 @@ module _ (image marks : List ℕ) (base reset : ℕ) (rules : Accepts image mark
 pub every-append : {A : Type 0} (P : A → Type 0) (xs ys : List A) → Every P xs → Every P ys → Every P (xs ++ ys)
 every-append P [] ys h k = k
 every-append P (x ∷ xs) ys h k = (h .0, every-append P xs ys (h .1) k)
+
+pub every-parts : {A : Type 0} (P : A → Type 0) (xs ys : List A) → Every P (xs ++ ys) → Every P xs × Every P ys
+every-parts P [] ys h = (tt, h)
+every-parts P (x ∷ xs) ys h = let parts = every-parts P xs ys (h .1) in ((h .0, parts .0), parts .1)
 
 pub every-map : {A : Type 0} (P Q : A → Type 0) → ((x : A) → P x → Q x) → (xs : List A) → Every P xs → Every Q xs
 every-map P Q f [] h = tt
@@ -639,7 +644,7 @@ module _ (image marks : List ℕ) (base reset : ℕ) (rules : Accepts image mark
     stands : Stands marks base (stateLeft s h)
 
   shown : (n : ℕ) (ram : List ℕ) (s : State) → Stands marks base s → Shown s (history (memory ram image base) s n)
-  unfolding history
+  unfolding historyWithin
   shown zero ram s st = record { every = tt; late = tt; stands = st }
   shown (suc n) ram s st =
       let before = memory ram image base in
@@ -716,7 +721,7 @@ module _ (image marks : List ℕ) (base reset : ℕ) (rules : Accepts image mark
 
   lists : (asked : List ℕ) (ram : List ℕ) (s : State) → Stands marks base s
       → Lists (runsFrom (memory ram image base) s asked)
-  unfolding runsFrom joinedHistory
+  unfolding runsFromWithin joinedHistoryWithin
   lists [] ram s st = record { every-step = tt; every-run = tt }
   lists (n ∷ rest) ram s st =
       let given = memory ram image base in

@@ -35,8 +35,8 @@ use Rattle.model.specs.Step.{callLimit, callRecord, fetched, Change, cha
 use Rattle.model.specs.Step.{isDecimal}
 use Rattle.model.specs.Step.{next, target, short, access, works, operates, pushesReturn, returnBytes, calls}
 use Rattle.model.specs.Step.{pullsReturn, isReturn, returnsTo, planBy, lastOpened, plan, depthAfter, callsAfter}
-use Rattle.model.specs.Step.{stateAfter, onServed, finish, onDecoded, step}
-use Rattle.model.specs.Run.{event, withRam, history, stateLeft, ramLeft, admission, ran}
+use Rattle.model.specs.Step.{stateAfter, onServed, finish, onDecoded, step, callsWithin, planByWithin, stepWithin}
+use Rattle.model.specs.Run.{event, withRam, history, stateLeft, ramLeft, admission, ran, historyWithin}
 use Rattle.model.specs.StateBytes.{headSize, recordSize, coreOf, stateOf, InWidth, Keeps}
 use Rattle.fields.specs.Fields.{parted}
 use Rattle.prelude.proofs.Bytes.{bytes-drop, bytes-take}
@@ -89,7 +89,7 @@ module _ (c : Core) (i : Instruction) (m : Memory) (h : InWidth (c .registers)) 
   return-small Kind.ByRtl = omega arith
 
   calls-fit : (kind : Kind) → Fits (c .depth) (calls c i kind)
-  unfolding calls
+  unfolding callsWithin
   calls-fit kind =
       pick-fits (c .depth) (ltb (c .depth) callLimit)
       (change (withS (pushedAt (c .registers) (returnBytes kind)) (c .registers)) (target c i)
@@ -113,7 +113,7 @@ module _ (c : Core) (i : Instruction) (m : Memory) (h : InWidth (c .registers)) 
           Stop.Astray (λ _. (in-s (c .registers) h _ (omega arith), tt, tt))
 
   plan-fits : (entry : ℕ) (flow : Flow) → Fits (c .depth) (planBy c i m entry flow)
-  unfolding planBy
+  unfolding planByWithin
   plan-fits entry Flow.Next = operates-fits (λ taken. next c i)
   plan-fits entry Flow.Branch = operates-fits (λ taken. pick taken (target c i) (next c i))
   plan-fits entry Flow.Jump = (h, tt, tt)
@@ -166,7 +166,7 @@ changed-keeps i s d fits h =
 
 pub step-keeps : (m : Memory) (s : State) → AllBytes (m .image) → InBytes s (m .ram)
     → InBytes (step m s .state) (step m s .ram)
-unfolding step
+unfolding stepWithin
 step-keeps m s image h = by (fetched m (s .core))
   where
     served-so : (i : Instruction) (d : Change) (v : Served) → Fits (s .core .depth) (changes d)
@@ -190,7 +190,7 @@ step-keeps m s image h = by (fetched m (s .core))
 
 history-keeps : (n : ℕ) (m : Memory) (s : State) → AllBytes (m .image) → InBytes s (m .ram)
     → InBytes (stateLeft s (history m s n)) (ramLeft (m .ram) (history m s n))
-unfolding history
+unfolding historyWithin
 history-keeps zero m s image h = h
 history-keeps (suc n) m s image h =
     by-first-step m s n (λ events. InBytes (stateLeft s events) (ramLeft (m .ram) events))

@@ -23,6 +23,7 @@ pub mod StatusBits
 pub mod StateBytes
 pub mod Run
 pub mod Guarantee
+pub mod CallDepth
 pub mod Keeps
 pub mod RunBytes
 pub mod FirstGround

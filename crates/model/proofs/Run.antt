@@ -29,10 +29,11 @@ use Rattle.types.specs.Refusals.{firstRefusal}
 use Rattle.prelude.specs.Choice.{bit}
 use Rattle.model.specs.Memory.{Memory, memory, served}
 use Rattle.model.specs.Step.{Change, Plan, stops, changes, answerOf, onServed, finish, plan, fetched, onDecoded}
-use Rattle.model.specs.Step.{step}
+use Rattle.model.specs.Step.{step, stepWithin}
 use Rattle.model.specs.Run.{isCompleted, isCall, Event, event, withRam, history, completedSteps}
-use Rattle.model.specs.Run.{endAfter, endOf, endNumber, stateLeft, ramLeft, Ran}
-use Rattle.model.specs.Run.{stepLimit, runTests, admission, admittedHistory, runHistory, executed, ran, oneStep}
+use Rattle.model.specs.Run.{endAfter, endOf, endNumber, stateLeft, ramLeft, Ran, historyWithin, ranWithin}
+use Rattle.model.specs.Run.{stepLimit, runTests, admission, admittedHistoryWithin, runHistory, executed, ran}
+use Rattle.model.specs.Run.{oneStep}
 use Rattle.model.specs.Guarantee.{Every}
 use Rattle.model.proofs.Image.{right-length, base-whole}
 use Rattle.model.proofs.TestResults.{shown}
@@ -46,12 +47,12 @@ module _ (m : Memory) (s : State) (n : ℕ) where
   onward = history (withRam (step m s .ram) m) (step m s .state) n
 
   pub goes-on : isCompleted (step m s .answer) ≡ true → history m s (suc n) ≡ event m s ∷ onward
-  unfolding history
-  goes-on h = rw (h, history)
+  unfolding historyWithin
+  goes-on h = rw (h, historyWithin)
 
   pub stops-there : isCompleted (step m s .answer) ≡ false → history m s (suc n) ≡ event m s ∷ []
-  unfolding history
-  stops-there h = rw (h, history)
+  unfolding historyWithin
+  stops-there h = rw (h, historyWithin)
 
   -- what holds of a history that goes on and of one that stops holds of a history
   pub by-first-step : (P : List Event → Type 0)
@@ -73,7 +74,7 @@ Linked image base ram s (e ∷ rest) =
     × Linked image base (e .result .ram) (e .result .state) rest
 
 pub linked : (m : Memory) (s : State) (n : ℕ) → Linked (m .image) (m .base) (m .ram) s (history m s n)
-unfolding history
+unfolding historyWithin
 linked m s zero = tt
 linked m s (suc n) =
     by-first-step m s n (λ h. Linked (m .image) (m .base) (m .ram) s h)
@@ -91,7 +92,7 @@ behind-completed e [] c l = tt
 behind-completed e (f ∷ rest) c l = (c, l)
 
 pub last-alone : (m : Memory) (s : State) (n : ℕ) → LastAlone (history m s n)
-unfolding history
+unfolding historyWithin
 last-alone m s zero = tt
 last-alone m s (suc n) =
     by-first-step m s n LastAlone
@@ -144,7 +145,7 @@ stopped-ends (StepAnswer.Stopped stop) end h e = let z : _≡_ {A = ℕ} 0 1 = c
 
 -- where the end is 0 as many steps are completed as were asked
 pub all-asked : (m : Memory) (s : State) (n : ℕ) → endOf (history m s n) ≡ End.Done → completedSteps (history m s n) ≡ n
-unfolding history
+unfolding historyWithin
 all-asked m s zero = λ _. refl
 all-asked m s (suc n) =
     by-first-step m s n (λ h. endOf h ≡ End.Done → completedSteps h ≡ suc n)
@@ -207,7 +208,7 @@ module _ (m : Memory) (s : State) where
 
   -- a run of 0 steps ends with 0
   pub run-ends : (steps calls : ℕ) → further steps calls (executed m s 0) ≡ ended End.Done steps calls s (m .ram)
-  unfolding history
+  unfolding historyWithin
   run-ends steps calls = simp add-zero
 
 -- ---- a run, refused or not
@@ -215,13 +216,13 @@ module _ (m : Memory) (s : State) where
 module _ (m : Memory) (s : State) (n : ℕ) where
   pub admitted-ran : admission m s n ≡ TestResult.Passed
       → (runHistory m s n ≡ history m s n) × (ran m s n ≡ executed m s n)
-  unfolding ran admittedHistory
+  unfolding ranWithin admittedHistoryWithin
   admitted-ran a = (rw a refl, rw a refl)
 
   -- a refused run makes no step, answers its refusal and leaves all as given
   pub refused-ran : (why : Refusal) → admission m s n ≡ TestResult.Failed why
       → (runHistory m s n ≡ []) × (ran m s n ≡ record { answer = RunAnswer.NotRun why; state = s; ram = m .ram })
-  unfolding ran admittedHistory
+  unfolding ranWithin admittedHistoryWithin
   refused-ran why a = (rw a refl, rw a refl)
 
 -- what a run that is not refused is given
@@ -254,7 +255,7 @@ module _ (m : Memory) (s : State) where
   changes-complete CallChange.Close = refl
 
   pub stopped-leaves : isCompleted (step m s .answer) ≡ false → (step m s .state ≡ s) × (step m s .ram ≡ m .ram)
-  unfolding step
+  unfolding stepWithin
   stopped-leaves = by (fetched m (s .core))
     where
       served-so : (i : Instruction) (d : Change) (v : Served) → isCompleted (onServed v i d m s .answer) ≡ false
@@ -275,7 +276,7 @@ module _ (m : Memory) (s : State) where
 
   -- a run of one step answers as the step ended, and leaves what it left
   pub executed-one : executed m s 1 ≡ oneStep (step m s)
-  unfolding history
+  unfolding historyWithin
   executed-one = by (isCompleted (step m s .answer)) refl
     where
       stays : (t : StepAnswer) → isCompleted t ≡ false → bit (isCall t) ≡ 0
@@ -293,7 +294,7 @@ module _ (m : Memory) (s : State) where
 pub stops-leave : (n : ℕ) (m : Memory) (s : State)
     → Every (λ e. isCompleted (e .result .answer) ≡ false → (e .result .state ≡ e .state) × (e .result .ram ≡ e .ram))
     (history m s n)
-unfolding history
+unfolding historyWithin
 stops-leave zero m s = tt
 stops-leave (suc n) m s =
     by-first-step m s n (Every _)

@@ -27,7 +27,7 @@ use Rattle.model.specs.Memory.{Memory}
 use Rattle.model.specs.Addressing.{operandPlaceOf, dataOf, operandBy}
 use Rattle.model.specs.Arithmetic.{withWidths, withFlagsSet, withFlagsCleared}
 use Rattle.model.specs.Effects.{effectOf}
-use Rattle.model.specs.Step.{bytesFrom, fetched, placeOf, operates, planBy, step}
+use Rattle.model.specs.Step.{bytesFrom, fetched, placeOf, operates, planByWithin, stepWithin}
 use Rattle.model.specs.StatusBits.{byteBehind, SepSets, ClpClears}
 use Rattle.model.proofs.CodeMap.{data-behind}
 use Rattle.model.proofs.Decode.{decoded-entry}
@@ -167,7 +167,7 @@ by-code m s i operation fetches is one =
     (decoded-entry bytes (bit (status .m)) (bit (status .x)) i fetches .0) is one
 
 pub sep-sets : SepSets
-unfolding step planBy operates dataOf operandBy effectOf mAfter xAfter
+unfolding stepWithin planByWithin operates dataOf operandBy effectOf mAfter xAfter
 sep-sets m s i fetches is =
     let status = s .core .registers .status in
     let by = by-code m s i Operation.SEP fetches is refl in
@@ -184,7 +184,7 @@ sep-sets m s i fetches is =
     (refl, set-number (byteBehind i) status (omega arith))
 
 pub clp-clears : ClpClears
-unfolding step planBy operates dataOf operandBy effectOf mAfter xAfter
+unfolding stepWithin planByWithin operates dataOf operandBy effectOf mAfter xAfter
 clp-clears m s i fetches is small =
     let status = s .core .registers .status in
     let by = by-code m s i Operation.CLP fetches is refl in

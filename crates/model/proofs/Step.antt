@@ -35,9 +35,10 @@ use Rattle.model.specs.Effects.{store, storesOf, pushOf, pushedAt}
 use Rattle.model.specs.Decode.{decode}
 use Rattle.prelude.specs.Choice.{bit}
 use Rattle.model.specs.Step.{callLimit, stopNumber, placeOf, bytesFrom, fetched, stops, isDecimal, operates}
-use Rattle.model.specs.Step.{calls, pullsReturn, planBy, stopped, returnsTo, returnBytes, next, target, short}
-use Rattle.model.specs.Step.{access, works, pushesReturn, isReturn, Change, change, changes, Plan, plan, onRead}
-use Rattle.model.specs.Step.{depthAfter, onServed, finish, onDecoded, lastOpened, step}
+use Rattle.model.specs.Step.{callsWithin, pullsReturn, planBy, planByWithin, stopped, returnsTo, returnBytes}
+use Rattle.model.specs.Step.{next, target, short, access, works, pushesReturn, isReturn, Change, change, changes}
+use Rattle.model.specs.Step.{Plan, planWithin, onRead, depthAfter, onServed, finish, onDecodedWithin, lastOpened}
+use Rattle.model.specs.Step.{stepWithin}
 use Rattle.model.proofs.Decode.{decode-nothing}
 
 module _ (m : Memory) where
@@ -133,13 +134,13 @@ decimal-first m c i goes h = rw h refl
 -- 24 only after the pulls: a byte that is not mapped decides before
 pub pulls-first : (m : Memory) (c : Core) (i : Instruction) (open-call : ℕ) (kind : Kind)
     → evaluate m (pullsReturn c i kind) ≡ unmapped → planBy c i m open-call (Flow.Return kind) ≡ stops Stop.Unmapped
-unfolding planBy
+unfolding planByWithin
 pulls-first m c i open-call kind h = rw h refl
 
 -- 25 before any push: whatever could be served
 pub deep-first : (m : Memory) (c : Core) (i : Instruction) (open-call : ℕ) (kind : Kind)
     → ltb (c .depth) callLimit ≡ false → planBy c i m open-call (Flow.Call kind) ≡ stops Stop.Deep
-unfolding planBy calls
+unfolding planByWithin callsWithin
 deep-first m c i open-call kind h = rw h refl
 
 -- the first store that can't be served decides
@@ -158,20 +159,20 @@ high-first v r = refl
 
 -- ---- the open calls stay within their limit
 
--- a change opens a call only where fewer than 64 are open
-abbrev pub Opens : CallChange → ℕ → Type 0
-Opens CallChange.Keep depth = Unit {0}
-Opens (CallChange.Open address kind) depth = depth < callLimit
-Opens CallChange.Close depth = Unit {0}
+-- a change opens a call only where fewer are open than the limit
+abbrev pub Opens : ℕ → CallChange → ℕ → Type 0
+Opens limit CallChange.Keep depth = Unit {0}
+Opens limit (CallChange.Open address kind) depth = depth < limit
+Opens limit CallChange.Close depth = Unit {0}
 
-abbrev pub PlanOpens : Plan → ℕ → Type 0
-PlanOpens (stops stop) depth = Unit {0}
-PlanOpens (changes d) depth = Opens (d .calls) depth
+abbrev pub PlanOpens : ℕ → Plan → ℕ → Type 0
+PlanOpens limit (stops stop) depth = Unit {0}
+PlanOpens limit (changes d) depth = Opens limit (d .calls) depth
 
-pub opens-below : (c : Core) (i : Instruction) (m : Memory) (opened : ℕ) (flow : Flow)
-    → PlanOpens (planBy c i m opened flow) (c .depth)
-unfolding planBy operates calls returnsTo
-opens-below c i m opened = by
+pub opens-below : (limit : ℕ) (c : Core) (i : Instruction) (m : Memory) (opened : ℕ) (flow : Flow)
+    → PlanOpens limit (planByWithin c i limit m opened flow) (c .depth)
+unfolding planByWithin operates callsWithin returnsTo
+opens-below limit c i m opened = by
   where
     decimal : Bool
     decimal = isDecimal (access c i) (c .registers)
@@ -182,63 +183,65 @@ opens-below c i m opened = by
         (i .operand))
 
     works-so : (b : Bool) (o : Outcome Data) (goes : Bool → ℕ)
-        → PlanOpens (pick b (stops Stop.Decimal) (onRead o (works c i goes))) (c .depth)
+        → PlanOpens limit (pick b (stops Stop.Decimal) (onRead o (works c i goes))) (c .depth)
     works-so true o goes = tt
     works-so false unmapped goes = tt
     works-so false (done d) goes = tt
 
-    calls-so : (kind : Kind) (b : Bool) → ltb (c .depth) callLimit ≡ b → (d : Change)
+    calls-so : (kind : Kind) (b : Bool) → ltb (c .depth) limit ≡ b → (d : Change)
         → d .calls ≡ CallChange.Open (next c i) (kindNumber kind)
-        → PlanOpens (pick b (changes d) (stops Stop.Deep)) (c .depth)
-    calls-so kind true e d same = rw same (ltb-true (c .depth) callLimit e)
+        → PlanOpens limit (pick b (changes d) (stops Stop.Deep)) (c .depth)
+    calls-so kind true e d same = rw same (ltb-true (c .depth) limit e)
     calls-so kind false e d same = tt
 
     returns-so : (b : Bool) (after : Registers) (address : ℕ)
-        → PlanOpens (pick b (changes (change after address CallChange.Close [])) (stops Stop.Astray)) (c .depth)
+        → PlanOpens limit (pick b (changes (change after address CallChange.Close [])) (stops Stop.Astray)) (c .depth)
     returns-so true after address = tt
     returns-so false after address = tt
 
-    pulls-so : (kind : Kind) (o : Outcome ℕ) → PlanOpens (onRead o (returnsTo c i opened kind)) (c .depth)
+    pulls-so : (kind : Kind) (o : Outcome ℕ) → PlanOpens limit (onRead o (returnsTo c i opened kind)) (c .depth)
     pulls-so kind unmapped = tt
     pulls-so kind (done address) =
         returns-so (isReturn c i opened kind address)
         (withS (pulledAt (c .registers) (returnBytes kind)) (c .registers)) address
 
-    by : (flow : Flow) → PlanOpens (planBy c i m opened flow) (c .depth)
+    by : (flow : Flow) → PlanOpens limit (planByWithin c i limit m opened flow) (c .depth)
     by Flow.Next = works-so decimal asked (λ taken. next c i)
     by Flow.Branch = works-so decimal asked (λ taken. pick taken (target c i) (next c i))
     by Flow.Jump = tt
     by (Flow.Call kind) =
-        calls-so kind (ltb (c .depth) callLimit) refl
+        calls-so kind (ltb (c .depth) limit) refl
         (change (withS (pushedAt (c .registers) (returnBytes kind)) (c .registers)) (target c i)
         (CallChange.Open (next c i) (kindNumber kind)) (pushesReturn c i kind)) refl
     by (Flow.Return kind) = pulls-so kind (evaluate m (pullsReturn c i kind))
     by Flow.Halt = tt
 
-depth-after : (change : CallChange) (depth : ℕ) → Opens change depth → depth ≤ callLimit
-    → depthAfter change depth ≤ callLimit
-depth-after CallChange.Keep depth o h = h
-depth-after (CallChange.Open address kind) depth o h = omega arith
-depth-after CallChange.Close depth o h = omega arith
+depth-after : (limit : ℕ) (change : CallChange) (depth : ℕ) → Opens limit change depth → depth ≤ limit
+    → depthAfter change depth ≤ limit
+depth-after limit CallChange.Keep depth o h = h
+depth-after limit (CallChange.Open address kind) depth o h = omega arith
+depth-after limit CallChange.Close depth o h = omega arith
 
-pub depth-kept : (m : Memory) (s : State) → s .core .depth ≤ callLimit → step m s .state .core .depth ≤ callLimit
-unfolding step
-depth-kept m s h = by (fetched m (s .core))
+pub depth-kept : {limit : ℕ} (m : Memory) (s : State) → s .core .depth ≤ limit
+    → stepWithin limit m s .state .core .depth ≤ limit
+unfolding stepWithin
+depth-kept {limit} m s h = by (fetched m (s .core))
   where
-    serves-so : (i : Instruction) (d : Change) (v : Served) → Opens (d .calls) (s .core .depth)
-        → onServed v i d m s .state .core .depth ≤ callLimit
-    serves-so i d Served.All o = depth-after (d .calls) (s .core .depth) o h
+    serves-so : (i : Instruction) (d : Change) (v : Served) → Opens limit (d .calls) (s .core .depth)
+        → onServed v i d m s .state .core .depth ≤ limit
+    serves-so i d Served.All o = depth-after limit (d .calls) (s .core .depth) o h
     serves-so i d (Served.Unserved stop) o = h
 
-    plans-so : (i : Instruction) (p : Plan) → PlanOpens p (s .core .depth)
-        → finish p i m s .state .core .depth ≤ callLimit
+    plans-so : (i : Instruction) (p : Plan) → PlanOpens limit p (s .core .depth)
+        → finish p i m s .state .core .depth ≤ limit
     plans-so i (stops stop) o = h
     plans-so i (changes d) o = serves-so i d (served m (d .stores)) o
 
-    by : (d : Decoded) → onDecoded d m s .state .core .depth ≤ callLimit
+    by : (d : Decoded) → onDecodedWithin limit d m s .state .core .depth ≤ limit
     by Decoded.CutOff = h
     by Decoded.NotCarried = h
-    by (Decoded.Whole i) = plans-so i (plan m s i) (opens-below (s .core) i m (lastOpened s) (i .entry .flow))
+    by (Decoded.Whole i) =
+        plans-so i (planWithin limit m s i) (opens-below limit (s .core) i m (lastOpened s) (i .entry .flow))
 
 -- a stop leaves state and RAM as given
 pub stop-leaves : (m : Memory) (s : State) (stop : Stop)

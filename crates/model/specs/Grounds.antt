@@ -94,7 +94,8 @@ WrongMark marks = (at : ℕ) × (at < length marks) × (IsMark (getD marks at 0)
 abbrev pub WrongRam : ℕ → ℕ → Type 0
 WrongRam ram base = (ram ≡ 0) ⊎ (ramLimit < ram) ⊎ (base < ram)
 
--- 12: 'PS bits 11 to 15 set, over 64 open calls, or among them a kind other than 1 or 2 or an address above FFFFFF'
+-- 12: 'PS bits 11 to 15 set, over 64 open calls, or among them a kind other than 1 or 2 or an address above FFFFFF';
+-- 02's R-5 has 24 for 64
 abbrev pub WrongCall : ℕ → Type 0
 WrongCall entry = ((kindOf entry ≡ 1 → ⊥) × (kindOf entry ≡ 2 → ⊥)) ⊎ (addressLimit ≤ returnOf entry)
 

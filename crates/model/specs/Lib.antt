@@ -23,5 +23,6 @@ pub mod StateBytes
 pub mod Run
 pub mod Guarantee
 pub mod ClearedBytes
+pub mod CallDepth
 pub mod RunBytes
 pub mod Grounds

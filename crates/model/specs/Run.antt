@@ -1,5 +1,6 @@
 -- Runs: 01, 'The machine', from 'A run takes ..' on. The history of a run comes first; its end, its counts and what it
--- leaves are functions of the history.
+-- leaves are functions of the history. Like a step, a run is defined within any limit of open calls (`..Within limit`);
+-- at the end stand the machine's own, within `callLimit`.
 -- Assumes nothing.
 use Prim.Native.Nat.{ℕ, zero, suc, _+_}
 use mathlib.Core.Bool.{Bool, true, false, not, _&&_, _||_}
@@ -21,7 +22,7 @@ use Rattle.prelude.specs.First.{firstFrom}
 use Rattle.model.specs.Verdict.{imageTests}
 use Rattle.prelude.specs.Choice.{bit}
 use Rattle.model.specs.Memory.{Memory, memory}
-use Rattle.model.specs.Step.{callLimit, returnOf, kindOf, stopNumber, Stepped, step}
+use Rattle.model.specs.Step.{callLimit, returnOf, kindOf, stopNumber, Stepped, stepWithin}
 
 -- 'RAM is 1 to 4,096 bytes'
 abbrev pub ramLimit : ℕ
@@ -51,8 +52,8 @@ pub record Event : Type 0 where
   pub state : State
   pub result : Stepped
 
-abbrev pub event : Memory → State → Event
-event m s = record { ram = m .ram; state = s; result = step m s }
+abbrev pub eventWithin : ℕ → Memory → State → Event
+eventWithin limit m s = record { ram = m .ram; state = s; result = stepWithin limit m s }
 
 -- the same image and base, and the RAM that a step or a run left
 abbrev pub withRam : List ℕ → Memory → Memory
@@ -61,12 +62,14 @@ withRam ram m = memory ram (m .image) (m .base)
 -- 'The history of a run is demand 2's steps, one after another: the first from the given state and RAM, each later one
 -- from what the step before left, until the asked number is completed or one stops. .. a stopped one is the last and
 -- belongs to the history too.'
-unfoldable pub history : Memory → State → ℕ → List Event
-history m s zero = []
-history m s (suc n) =
-    event m s
-    ∷ elim (isCompleted (step m s .answer))
-    [ true ↦ history (withRam (step m s .ram) m) (step m s .state) n | false ↦ [] ]
+unfoldable pub historyWithin : ℕ → Memory → State → ℕ → List Event
+historyWithin limit m s zero = []
+historyWithin limit m s (suc n) =
+    eventWithin limit m s
+    ∷ elim (isCompleted (stepWithin limit m s .answer)) [
+      | true ↦ historyWithin limit (withRam (stepWithin limit m s .ram) m) (stepWithin limit m s .state) n
+      | false ↦ []
+    ]
 
 -- ---- functions of a history
 
@@ -127,9 +130,10 @@ callBroken calls k = not (callFits (getD calls k 0))
 unfoldable pub callsFit : List ℕ → ℕ → Bool
 callsFit calls depth = eqb (firstFrom (callBroken calls) 0 depth) depth
 
-unfoldable pub stateFits : State → Bool
-stateFits s =
-    ltb (s .core .registers .status .level) levelLimit && leb (s .core .depth) callLimit
+-- 'over 64 open calls', 'a state holding more': over the limit
+unfoldable pub stateFitsWithin : ℕ → State → Bool
+stateFitsWithin limit s =
+    ltb (s .core .registers .status .level) levelLimit && leb (s .core .depth) limit
     && callsFit (s .calls) (s .core .depth)
 
 -- 'Run: 1, 2, 11, 12, 13.' A run takes no marks. Whether the state is one that a run takes is given.
@@ -141,18 +145,18 @@ runTests m fits asked =
     ∷ (leb asked stepLimit, Refusal.Steps)
     ∷ [])
 
-abbrev pub admission : Memory → State → ℕ → TestResult
-admission m s asked = firstRefusal (runTests m (stateFits s) asked)
+abbrev pub admissionWithin : ℕ → Memory → State → ℕ → TestResult
+admissionWithin limit m s asked = firstRefusal (runTests m (stateFitsWithin limit s) asked)
 
 -- ---- a run
 
 -- 'A run is refused exactly when one of the numbers tested for a run holds ..; its history is empty.'
-unfoldable pub admittedHistory : TestResult → Memory → State → ℕ → List Event
-admittedHistory TestResult.Passed m s asked = history m s asked
-admittedHistory (TestResult.Failed why) m s asked = []
+unfoldable pub admittedHistoryWithin : ℕ → TestResult → Memory → State → ℕ → List Event
+admittedHistoryWithin limit TestResult.Passed m s asked = historyWithin limit m s asked
+admittedHistoryWithin limit (TestResult.Failed why) m s asked = []
 
-abbrev pub runHistory : Memory → State → ℕ → List Event
-runHistory m s asked = admittedHistory (admission m s asked) m s asked
+abbrev pub runHistoryWithin : ℕ → Memory → State → ℕ → List Event
+runHistoryWithin limit m s asked = admittedHistoryWithin limit (admissionWithin limit m s asked) m s asked
 
 -- '.. and answers the first such number'; 'A run that is not refused answers exactly its history's end, its number of
 -- completed steps, and the number of its calls'
@@ -171,11 +175,11 @@ abbrev pub ranBy : TestResult → Memory → State → List Event → Ran
 ranBy a m s h = record { answer = answerBy a h; state = stateLeft s h; ram = ramLeft (m .ram) h }
 
 -- what a run comes to that is not refused
-abbrev pub executed : Memory → State → ℕ → Ran
-executed m s asked = ranBy TestResult.Passed m s (history m s asked)
+abbrev pub executedWithin : ℕ → Memory → State → ℕ → Ran
+executedWithin limit m s asked = ranBy TestResult.Passed m s (historyWithin limit m s asked)
 
-unfoldable pub ran : Memory → State → ℕ → Ran
-ran m s asked = ranBy (admission m s asked) m s (runHistory m s asked)
+unfoldable pub ranWithin : ℕ → Memory → State → ℕ → Ran
+ranWithin limit m s asked = ranBy (admissionWithin limit m s asked) m s (runHistoryWithin limit m s asked)
 
 -- What a step comes to as a run of one: completed, completed as a call, or stopped.
 abbrev pub oneStep : Stepped → Ran
@@ -195,14 +199,47 @@ pub record Run : Type 0 where
 
 -- 'A list's runs share image, base and RAM buffer': each later run begins from what the last left. A list of runs is
 -- given by the numbers of steps that are asked for.
-unfoldable pub runsFrom : Memory → State → List ℕ → List Run
-runsFrom m s [] = []
-runsFrom m s (asked ∷ rest) =
+unfoldable pub runsFromWithin : ℕ → Memory → State → List ℕ → List Run
+runsFromWithin limit m s [] = []
+runsFromWithin limit m s (asked ∷ rest) =
     record { ram = m .ram; state = s; asked = asked }
-    ∷ runsFrom (withRam (ran m s asked .ram) m) (ran m s asked .state) rest
+    ∷ runsFromWithin limit (withRam (ranWithin limit m s asked .ram) m) (ranWithin limit m s asked .state) rest
 
 -- '.. and its history is theirs joined in order'
-unfoldable pub joinedHistory : List ℕ → ℕ → List Run → List Event
-joinedHistory image base [] = []
-joinedHistory image base (r ∷ rest) =
-    runHistory (memory (r .ram) image base) (r .state) (r .asked) ++ joinedHistory image base rest
+unfoldable pub joinedHistoryWithin : ℕ → List ℕ → ℕ → List Run → List Event
+joinedHistoryWithin limit image base [] = []
+joinedHistoryWithin limit image base (r ∷ rest) =
+    runHistoryWithin limit (memory (r .ram) image base) (r .state) (r .asked)
+    ++ joinedHistoryWithin limit image base rest
+
+-- ---- the machine's own
+
+abbrev pub event : Memory → State → Event
+event m s = eventWithin callLimit m s
+
+abbrev pub history : Memory → State → ℕ → List Event
+history m s asked = historyWithin callLimit m s asked
+
+abbrev pub stateFits : State → Bool
+stateFits s = stateFitsWithin callLimit s
+
+abbrev pub admission : Memory → State → ℕ → TestResult
+admission m s asked = admissionWithin callLimit m s asked
+
+abbrev pub admittedHistory : TestResult → Memory → State → ℕ → List Event
+admittedHistory a m s asked = admittedHistoryWithin callLimit a m s asked
+
+abbrev pub runHistory : Memory → State → ℕ → List Event
+runHistory m s asked = runHistoryWithin callLimit m s asked
+
+abbrev pub executed : Memory → State → ℕ → Ran
+executed m s asked = executedWithin callLimit m s asked
+
+abbrev pub ran : Memory → State → ℕ → Ran
+ran m s asked = ranWithin callLimit m s asked
+
+abbrev pub runsFrom : Memory → State → List ℕ → List Run
+runsFrom m s asked = runsFromWithin callLimit m s asked
+
+abbrev pub joinedHistory : List ℕ → ℕ → List Run → List Event
+joinedHistory image base runs = joinedHistoryWithin callLimit image base runs

@@ -1,5 +1,6 @@
 -- One step: 01, 'A step tests: code bytes 20, 21, operand bytes 20, 22, 27, reads 23, then 24 or 25, then stores 23 or
--- 26. .. A stop undoes its whole step.'
+-- 26. .. A stop undoes its whole step.' A step is defined within any limit of open calls (`..Within limit`); at the end
+-- stands the machine's own, within `callLimit`.
 -- Assumes nothing.
 use Prim.Native.Nat.{ℕ, zero, suc, _+_, _-_, _*_, _/_, _%_}
 use mathlib.Core.Bool.{Bool, false, _&&_}
@@ -31,9 +32,10 @@ use Rattle.model.specs.Addressing.{operandUseOf, isShort, dataOf, pulled
 use Rattle.model.specs.Arithmetic.{withWidths, withStatus, withS}
 use Rattle.model.specs.Effects.{Effect, effectOf, store, pushedAt}
 
--- 'at most 64 open calls'
+-- 01: 'at most 64 open calls'; 02's R-5, which overrules it: 'Make 24 the limit: a call with 24 open stops with 25, a
+-- state holding more is refused with 12, and the state has room for 24.'
 abbrev pub callLimit : ℕ
-callLimit = 64
+callLimit = 24
 
 -- 'each with its 24-bit return address and kind': an open call is one number, the eight bytes of its record
 -- (StateBytes): four of the address, one of the kind, three that are 0 once a call is opened there
@@ -145,10 +147,10 @@ module _ (c : Core) (i : Instruction) where
   pushesReturn Kind.ByRtl =
       store (r .s) (next / bankSize) ∷ store (pushedAt r 1) (next / 256) ∷ store (pushedAt r 2) next ∷ []
 
-  -- 25, 'call with 64 open'
-  unfoldable pub calls : Kind → Plan
-  calls kind =
-      pick (ltb (c .depth) callLimit)
+  -- 25, 'call with 64 open', 'a call with 24 open': with as many open as the limit
+  unfoldable pub callsWithin : ℕ → Kind → Plan
+  callsWithin limit kind =
+      pick (ltb (c .depth) limit)
       (changes
       (change (withS (pushedAt r (returnBytes kind)) r) target (CallChange.Open next (kindNumber kind))
       (pushesReturn kind)))
@@ -173,20 +175,21 @@ module _ (c : Core) (i : Instruction) where
       (stops Stop.Astray)
 
   -- by flow; 22, 'STP or WIT'
-  unfoldable pub planBy : Memory → ℕ → Flow → Plan
-  planBy m open-call Flow.Next = operates m (λ taken. next)
-  planBy m open-call Flow.Branch = operates m (λ taken. pick taken target next)
-  planBy m open-call Flow.Jump = changes (change r target CallChange.Keep [])
-  planBy m open-call (Flow.Call kind) = calls kind
-  planBy m open-call (Flow.Return kind) = onRead (evaluate m (pullsReturn kind)) (returnsTo open-call kind)
-  planBy m open-call Flow.Halt = stops Stop.Halt
+  unfoldable pub planByWithin : ℕ → Memory → ℕ → Flow → Plan
+  planByWithin limit m open-call Flow.Next = operates m (λ taken. next)
+  planByWithin limit m open-call Flow.Branch = operates m (λ taken. pick taken target next)
+  planByWithin limit m open-call Flow.Jump = changes (change r target CallChange.Keep [])
+  planByWithin limit m open-call (Flow.Call kind) = callsWithin limit kind
+  planByWithin limit m open-call (Flow.Return kind) =
+      onRead (evaluate m (pullsReturn kind)) (returnsTo open-call kind)
+  planByWithin limit m open-call Flow.Halt = stops Stop.Halt
 
 -- the record of the call opened last
 abbrev pub lastOpened : State → ℕ
 lastOpened s = getD (s .calls) (s .core .depth - 1) 0
 
-abbrev pub plan : Memory → State → Instruction → Plan
-plan m s i = planBy (s .core) i m (lastOpened s) (i .entry .flow)
+abbrev pub planWithin : ℕ → Memory → State → Instruction → Plan
+planWithin limit m s i = planByWithin (s .core) i limit m (lastOpened s) (i .entry .flow)
 
 -- The step's answer, and state and RAM after it.
 pub record Stepped : Type 0 where
@@ -251,11 +254,28 @@ abbrev pub finish : Plan → Instruction → Memory → State → Stepped
 finish (stops stop) i m s = stopped stop m s
 finish (changes d) i m s = onServed (served m (d .stores)) i d m s
 
-abbrev pub onDecoded : Decoded → Memory → State → Stepped
-onDecoded Decoded.CutOff m s = stopped Stop.Outside m s
-onDecoded Decoded.NotCarried m s = stopped Stop.Uncarried m s
-onDecoded (Decoded.Whole i) m s = finish (plan m s i) i m s
+abbrev pub onDecodedWithin : ℕ → Decoded → Memory → State → Stepped
+onDecodedWithin limit Decoded.CutOff m s = stopped Stop.Outside m s
+onDecodedWithin limit Decoded.NotCarried m s = stopped Stop.Uncarried m s
+onDecodedWithin limit (Decoded.Whole i) m s = finish (planWithin limit m s i) i m s
 
 -- the step of a state
-unfoldable pub step : Memory → State → Stepped
-step m s = onDecoded (fetched m (s .core)) m s
+unfoldable pub stepWithin : ℕ → Memory → State → Stepped
+stepWithin limit m s = onDecodedWithin limit (fetched m (s .core)) m s
+
+-- ---- the machine's own
+
+abbrev pub calls : Core → Instruction → Kind → Plan
+calls c i kind = callsWithin c i callLimit kind
+
+abbrev pub planBy : Core → Instruction → Memory → ℕ → Flow → Plan
+planBy c i m open-call flow = planByWithin c i callLimit m open-call flow
+
+abbrev pub plan : Memory → State → Instruction → Plan
+plan m s i = planWithin callLimit m s i
+
+abbrev pub onDecoded : Decoded → Memory → State → Stepped
+onDecoded d m s = onDecodedWithin callLimit d m s
+
+abbrev pub step : Memory → State → Stepped
+step m s = stepWithin callLimit m s

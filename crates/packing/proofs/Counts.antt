@@ -13,7 +13,7 @@ use Rattle.prelude.specs.Choice.{bit}
 use Rattle.model.specs.Memory.{Memory}
 use Rattle.model.specs.Step.{step}
 use Rattle.model.specs.Run.{isCompleted, isCall, Event, withRam, history, completedSteps, callsAmong}
-use Rattle.model.specs.Run.{runTests}
+use Rattle.model.specs.Run.{runTests, historyWithin}
 use Rattle.model.specs.RunBytes.{bytesFit, ranBytesBy, ranBytes}
 use Rattle.model.specs.StateBytes.{stateOf}
 use Rattle.model.proofs.Run.{by-first-step, admitted}
@@ -33,7 +33,7 @@ one-step-at-most true = omega arith
 one-step-at-most false = omega arith
 
 steps-few : (m : Memory) (s : State) (n : ℕ) → completedSteps (history m s n) ≤ n
-unfolding history
+unfolding historyWithin
 steps-few m s zero = omega arith
 steps-few m s (suc n) =
     by-first-step m s n (λ h. completedSteps h ≤ suc n)

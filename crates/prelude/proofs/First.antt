@@ -1,7 +1,7 @@
 -- The lowest place where a test holds: no place before it passes the test, and it passes itself unless it is the end.
 -- The highest likewise: no place behind it passes the test.
 -- Assumes nothing.
-use mathlib.Core.Path.{_≡_, refl, subst}
+use mathlib.Core.Path.{_≡_, refl, sym, subst, _∙_}
 use mathlib.Core.Logic.{_⊎_, inl, inr}
 use mathlib.Core.Bool.{Bool, true, false}
 use Prim.Native.Nat.{ℕ, zero, suc, _+_, _≤_, _<_}
@@ -84,6 +84,20 @@ module _ (test : ℕ → Bool) where
       by true b h h′ = absurd (not-before i n j k f g (ltb-true j k h))
       by false true h h′ = absurd (not-before i n k j g f (ltb-true k j h′))
       by false false h h′ = le-antisymm (ltb-false k j h′) (ltb-false j k h)
+
+-- tests that agree at every place asked for find the same
+pub first-same : (test other : ℕ → Bool) (i n : ℕ) → ((k : ℕ) → i ≤ k → k < i + n → test k ≡ other k)
+    → firstFrom test i n ≡ firstFrom other i n
+first-same test other i n same =
+    let f = first-is test i n in
+    first-only other i n (firstFrom test i n) (firstFrom other i n)
+    (record {
+      at-most = f .at-most;
+      at-least = f .at-least;
+      before = λ k low high. sym (same k low (omega (arith, f .at-most))) ∙ f .before k low high;
+      found = λ inside. sym (same (firstFrom test i n) (f .at-least) inside) ∙ f .found inside;
+    })
+    (first-is other i n)
 
 -- A loop that goes up from a place: every place passed fails the test.
 module _ (test : ℕ → Bool) (from : ℕ) where

@@ -14,7 +14,7 @@ use Rattle.types.specs.declared.runs.RunAnswer.{RunAnswer}
 use Rattle.types.specs.Refusals.{firstRefusal}
 use Rattle.model.specs.Memory.{Memory}
 use Rattle.model.specs.Step.{callLimit}
-use Rattle.model.specs.Run.{levelLimit, callsFit, stateFits, runTests, Ran, executed}
+use Rattle.model.specs.Run.{levelLimit, callsFit, stateFits, runTests, Ran, executed, stateFitsWithin}
 use Rattle.model.specs.RunBytes.{bytesFit, asBytes, ranBytes}
 use Rattle.model.specs.StateBytes.{stateSize, stateOf}
 use Rattle.prelude.proofs.Choice.{both-true}
@@ -27,7 +27,7 @@ module _ (bytes : ℕ) (c : Core) (calls : List ℕ) (taken : (eqb bytes stateSi
     long = eqb-true bytes stateSize (both-true (eqb bytes stateSize) (stateFits (state c calls)) taken .0)
 
     pub shallow : c .depth ≤ callLimit
-    unfolding stateFits
+    unfolding stateFitsWithin
     shallow =
         let fits = both-true (eqb bytes stateSize) (stateFits (state c calls)) taken .1 in
         let level = ltb (c .registers .status .level) levelLimit in

@@ -150,7 +150,7 @@ fn calls_fit(calls: &[u64; CALL_LIMIT], depth: usize) -> bool
     true
 }
 
-// Number 12: PS within its eleven bits, at most 64 open calls, and each of them fits.
+// Number 12: PS within its eleven bits, at most 24 open calls, and each of them fits.
 pub fn state_fits(core: Core, calls: &[u64; CALL_LIMIT]) -> bool
     ensures { λ r. ⌜ r ≡ stateFits (record { core = core; calls = now (calls .entry) }) ⌝ }
 {

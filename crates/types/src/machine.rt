@@ -98,8 +98,8 @@ pub struct Core {
     pub depth: usize,
 }
 
-// At most so many calls are open.
-pub const CALL_LIMIT: usize = 64;
+// At most so many calls are open: 02's R-5.
+pub const CALL_LIMIT: usize = 24;
 
 // The place of an open call's kind in its record.
 pub const RECORD_UNIT: u64 = 4_294_967_296;

@@ -1,10 +1,10 @@
 //! Runs and steps aimed at one number, and runs of one program in a row.
 
 use super::steps::{filled, state_of};
-use super::{gentle, Rng, RunCase};
+use super::{gentle, Rng, RunCase, FORMER_CALLS, FORMER_STATE_BYTES};
 use crate::codes::{entry_of, Word};
 use crate::numbers::*;
-use crate::state::{set_call, set_depth, Registers, STATE_BYTES};
+use crate::state::{set_call, set_depth, Registers, CALL_BYTES, HEAD_BYTES, STATE_BYTES};
 
 /// The number of a run's answer: its refusal, else its end.
 fn number_of(answer: u64) -> u8 {
@@ -106,21 +106,55 @@ fn break_rule(rng: &mut Rng, case: &mut RunCase, rule: u8) {
     }
 }
 
-/// Another length, a bit of PS, too many open calls, a bad one among them.
+/// Lengths that no state has.
+const LENGTHS: [usize; 9] = [
+    0,
+    1,
+    HEAD_BYTES - 1,
+    HEAD_BYTES,
+    HEAD_BYTES + CALL_BYTES,
+    STATE_BYTES - 1,
+    STATE_BYTES + 1,
+    STATE_BYTES + CALL_BYTES,
+    FORMER_STATE_BYTES,
+];
+
+/// More open calls than there can be; of some the low byte is a sound number.
+const DEPTHS: [usize; 8] = [
+    MAX_CALLS + 1,
+    MAX_CALLS + 2,
+    FORMER_CALLS,
+    FORMER_CALLS + 1,
+    256,
+    256 + MAX_CALLS,
+    0x8000,
+    0xFFFF,
+];
+
+/// Opens sound calls.
+fn open_calls(rng: &mut Rng, state: &mut [u8], depth: usize) {
+    for index in 0..depth {
+        set_call(state, index, rng.byte() as u32, 1 + index as u8 % 2);
+    }
+    set_depth(state, depth);
+}
+
+/// Another length, a bit of PS, too many open calls, a bad one among them, or
+/// a state that was sound before R-5.
 fn break_state(rng: &mut Rng, state: &mut Vec<u8>) {
-    match rng.below(6) {
-        0 => state.resize(*rng.pick(&[0, 1, 19, 20, 28, 531, 533, 540, 1064]), 0),
+    match rng.below(7) {
+        0 => state.resize(*rng.pick(&LENGTHS), 0),
         1 => state[15] |= 8 << rng.below(5),
-        2 => set_depth(
-            state,
-            *rng.pick(&[65, 66, 127, 255, 256, 320, 0x8000, 0xFFFF]),
-        ),
+        2 => set_depth(state, *rng.pick(&DEPTHS)),
+        3 => {
+            state.resize(FORMER_STATE_BYTES, 0);
+            let depths = [0, 2, MAX_CALLS, MAX_CALLS + 1, FORMER_CALLS];
+            let depth = *rng.pick(&depths);
+            open_calls(rng, state, depth);
+        }
         _ => {
-            let depth = *rng.pick(&[1, 1, 2, 3, 8, 64]);
-            for index in 0..depth {
-                set_call(state, index, rng.byte() as u32, 1 + index as u8 % 2);
-            }
-            set_depth(state, depth);
+            let depth = *rng.pick(&[1, 1, 2, 3, 8, MAX_CALLS]);
+            open_calls(rng, state, depth);
             let bad = *rng.pick(&[0, depth - 1, depth / 2]);
             let fine = (rng.next_u64() as u32 & MAX_ADDRESS, *rng.pick(&[1, 2]));
             let (address, kind) = match rng.below(2) {
@@ -321,7 +355,8 @@ fn aim(
             }
         }
         DEEP => {
-            let open = *rng.pick(&[0, 50, 61, 62, 63, 64]);
+            let most = MAX_CALLS as u32;
+            let open = *rng.pick(&[0, most - 14, most - 3, most - 2, most - 1, most]);
             calls.extend((0..open).map(|k| (k << 8, 1 + k as u8 % 2)));
             r.s = *rng.pick(&[ram_len as u16 - 1, 40, 3]);
             code.call(rng.chance(1, 2), here);
@@ -414,7 +449,7 @@ fn refused_between(rng: &mut Rng, next: &RunCase) -> RunCase {
         match rng.below(3) {
             0 => case.state.resize(STATE_BYTES - 1, 0),
             1 => case.state[15] |= 0x08,
-            _ => set_depth(&mut case.state, 65),
+            _ => set_depth(&mut case.state, MAX_CALLS + 1),
         }
     }
     case

@@ -2,6 +2,7 @@
 
 mod aims;
 mod checks;
+mod depths;
 mod lists;
 mod locates;
 mod places;
@@ -15,6 +16,7 @@ mod values;
 
 pub use aims::{continued_runs, refused_by, stopped_by};
 pub use checks::{check_case, damaged, hostile_check};
+pub use depths::{depth_runs, depth_steps, FORMER_CALLS, FORMER_STATE_BYTES};
 pub use lists::{out_of_form, read_by, read_case, write_by, write_case, ReadCase, WriteCase};
 pub use locates::{crowd, locate_by, locate_case, LocateCase, PLACE_BEFORE};
 pub use places::placed_steps;

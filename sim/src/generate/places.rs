@@ -5,6 +5,7 @@ use super::values::stores;
 use super::{Rng, RunCase};
 use crate::alu;
 use crate::codes::{entry_of, Entry, Mode, Word};
+use crate::numbers::MAX_CALLS;
 use crate::state::{set_call, CALL_BYTES, HEAD_BYTES};
 
 const WIDTHS: [u16; 4] = [0, alu::X, alu::M, alu::M | alu::X];
@@ -296,7 +297,7 @@ fn pulling(rng: &mut Rng, (page, code): Code, layout: Layout, words: bool, s: u1
 }
 
 /// Puts an address where a return pulls it from, as far as there is memory.
-fn pulled(scene: &mut Scene, kind: u8) -> u32 {
+pub(super) fn pulled(scene: &mut Scene, kind: u8) -> u32 {
     let low = scene.rng.edge_word() as u32;
     let bank = match kind {
         1 => scene.instruction() & 0xFF_0000,
@@ -358,17 +359,20 @@ fn open_calls(rng: &mut Rng, way: u32, address: u32, kind: u8) -> Vec<(u32, u8)>
     }
 }
 
-/// Calls with 64 and with 63 open, wherever S is: 25 goes before the pushes.
+/// Calls with as many open as there can be and with one fewer, wherever S is:
+/// 25 goes before the pushes.
 fn deep_places(rng: &mut Rng) -> Vec<RunCase> {
     let mut cases = Vec::new();
     for code in [0x20, 0x22] {
         for layout in [GAP, BANK_END] {
             for s in [0x1FF, 0x200, 0, 1, 0xFFFF, layout.base as u16] {
-                for depth in [64, 63] {
+                for depth in [MAX_CALLS, MAX_CALLS - 1] {
                     let widths = *rng.pick(&WIDTHS);
                     let mut scene = Scene::new(rng, layout, 0, code, widths);
                     scene.r.s = s;
-                    scene.calls = (0..depth).map(|k| (k << 8, 1 + k as u8 % 2)).collect();
+                    scene.calls = (0..depth as u32)
+                        .map(|k| (k << 8, 1 + k as u8 % 2))
+                        .collect();
                     cases.push(scene.finish());
                 }
             }

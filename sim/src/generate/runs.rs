@@ -1,8 +1,9 @@
 //! Runs: programs that go on for a while, random bytes, and refused ones.
 
 use super::steps::filled;
-use super::{gentle, step_case, Rng, RunCase};
-use crate::state::{set_call, set_depth, Registers, STATE_BYTES};
+use super::{gentle, step_case, Rng, RunCase, FORMER_CALLS, FORMER_STATE_BYTES};
+use crate::numbers::MAX_CALLS;
+use crate::state::{set_call, set_depth, Registers, HEAD_BYTES, STATE_BYTES};
 
 /// A run: of a gentle accepted program from its reset, of random bytes, of
 /// calls without return, or a refused one.
@@ -62,9 +63,16 @@ fn program_run(rng: &mut Rng) -> RunCase {
     }
 }
 
-/// A call to itself: to the 64th open call, or to the end of RAM.
+/// A call to itself: until no more can be open, or to the end of RAM, which
+/// may just hold what they push.
 fn deep_run(rng: &mut Rng) -> RunCase {
-    let ram_len = *rng.pick(&[64, 128, 129, 192, 512]);
+    let ram_len = *rng.pick(&[
+        MAX_CALLS,
+        2 * MAX_CALLS,
+        2 * MAX_CALLS + 1,
+        3 * MAX_CALLS,
+        512,
+    ]);
     let base = *rng.pick(&[ram_len as u32, 0xC000, 0x12_FFF8]);
     let [low, middle, high, _] = base.to_le_bytes();
     let image = if rng.chance(1, 2) {
@@ -86,7 +94,8 @@ fn deep_run(rng: &mut Rng) -> RunCase {
         state,
         ram: filled(ram_len, fill),
         fill,
-        steps: 60 + rng.below(80) as u32,
+        // Some end before the last call that can be opened.
+        steps: MAX_CALLS as u32 - 4 + rng.below(40) as u32,
     }
 }
 
@@ -101,6 +110,16 @@ fn random_run(rng: &mut Rng) -> RunCase {
     case.steps = step_count(rng);
     case
 }
+
+/// Lengths that no state has.
+const LENGTHS: [usize; 6] = [
+    0,
+    1,
+    HEAD_BYTES,
+    STATE_BYTES - 1,
+    STATE_BYTES + 1,
+    FORMER_STATE_BYTES,
+];
 
 /// A run with something at or past a limit: mostly refused.
 pub fn refused_run(rng: &mut Rng) -> RunCase {
@@ -129,7 +148,7 @@ pub fn refused_run(rng: &mut Rng) -> RunCase {
             3 => ram_len = *rng.pick(&[0, 1, 4096, 4097]),
             4 => (case.base, ram_len) = *rng.pick(&[(0, 1), (16, 16), (16, 17), (1, 1), (0, 0)]),
             5 => case.steps = *rng.pick(&[0, 1, 1_000_001, u32::MAX]),
-            6 => case.state.resize(*rng.pick(&[0, 1, 20, 531, 533, 531]), 0),
+            6 => case.state.resize(*rng.pick(&LENGTHS), 0),
             _ => refuse_state(rng, &mut case.state),
         }
     }
@@ -144,9 +163,12 @@ fn refuse_state(rng: &mut Rng, state: &mut [u8]) {
     }
     match rng.below(4) {
         0 => state[15] = rng.byte(),
-        1 => set_depth(state, *rng.pick(&[65, 66, 256, 0xFFFF])),
+        1 => {
+            let depths = [MAX_CALLS + 1, FORMER_CALLS, 256, 0xFFFF];
+            set_depth(state, *rng.pick(&depths));
+        }
         _ => {
-            let depth = *rng.pick(&[1, 2, 63, 64]);
+            let depth = *rng.pick(&[1, 2, MAX_CALLS - 1, MAX_CALLS]);
             for index in 0..depth {
                 set_call(
                     state,

@@ -3,6 +3,7 @@
 use super::{refused_run, Rng};
 use crate::alu;
 use crate::codes::{entry_of, Entry, Mode, Word};
+use crate::numbers::MAX_CALLS;
 use crate::state::{set_call, set_depth, Registers, STATE_BYTES};
 
 /// Arguments of a run, with the rule that filled RAM before the patches:
@@ -356,7 +357,7 @@ impl Aim<'_> {
         let calls = match entry.word {
             Word::RTS => self.returning(1),
             Word::RTL => self.returning(2),
-            Word::JSR => self.open_calls(&[0, 0, 1, 62, 63, 64]),
+            Word::JSR => self.open_calls(&[0, 1, 2, MAX_CALLS - 2, MAX_CALLS - 1, MAX_CALLS]),
             _ => self.open_calls(&[0, 0, 0, 1]),
         };
         state_of(&self.r, &calls)
@@ -384,7 +385,7 @@ impl Aim<'_> {
             let place = self.r.s.wrapping_add(1 + k) as u32;
             self.patches.push((place, (address >> (8 * k)) as u8));
         }
-        let mut calls = self.open_calls(&[0, 1, 62]);
+        let mut calls = self.open_calls(&[0, 1, MAX_CALLS - 2, MAX_CALLS - 1]);
         match self.rng.below(10) {
             0 => calls.push((address, 3 - kind)),
             1 => calls.push((address ^ 1 << self.rng.below(24), kind)),

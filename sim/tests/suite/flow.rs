@@ -138,21 +138,21 @@ fn rts_at_a_bank_end_stays() {
     assert_eq!(rts.r.pc, 0x51234);
 }
 
-/// Calls of both kinds down to 64 and back, counted in the answer.
+/// Calls down to 24 and back, counted in the answer.
 #[test]
-fn calls_nest_to_64() {
+fn calls_nest_to_24() {
     // C000 DEX, C001 BEQ C006, C003 JSR C000, C006 RTS.
     let image = [0xCA, 0xF0, 0x03, 0x20, 0x00, 0xC0, 0x60];
     let mut bench = Bench::new(&image);
     bench.ram = vec![0; 0x400];
     bench.r.s = 0x3FF;
-    bench.r.x = 65;
-    // 64 rounds of three steps, then DEX and BEQ, then 64 returns.
-    assert_eq!(bench.run(64 * 3 + 2 + 64), (0, 258, 64));
+    bench.r.x = 25;
+    // 24 rounds of three steps, then DEX and BEQ, then 24 returns.
+    assert_eq!(bench.run(24 * 3 + 2 + 24), (0, 98, 24));
     assert_eq!((bench.r.s, bench.r.pc), (0x3FF, 0xC006));
     assert!(bench.calls.is_empty());
     bench.r.pc = 0xC000;
-    bench.r.x = 66;
-    assert_eq!(bench.run(1000), (25, 64 * 3 + 2, 64));
-    assert_eq!(bench.calls.len(), 64);
+    bench.r.x = 26;
+    assert_eq!(bench.run(1000), (25, 24 * 3 + 2, 24));
+    assert_eq!(bench.calls.len(), 24);
 }

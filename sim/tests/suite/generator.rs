@@ -331,7 +331,7 @@ fn placed_steps_stop_at_each_place() {
                     _ => 0,
                 };
                 for s in [0, 1, 2, 0xFFFE, 0xFFFF] {
-                    let at = stops(page, code, &|b| b.3 == s && b.4 < 63 && b.2 & by == 0);
+                    let at = stops(page, code, &|b| b.3 == s && b.4 < 23 && b.2 & by == 0);
                     // Past 0000 is FFFF: nothing, or the image's last byte.
                     let fails = s > 2 || s + 1 < bytes;
                     let wanted = BTreeSet::from(if fails { [23, 26] } else { [0, 0] });
@@ -345,8 +345,8 @@ fn placed_steps_stop_at_each_place() {
         }
         if entry.word == JSR && entry.carried {
             // 25 wherever S is; one call fewer, and S decides.
-            assert_eq!(stops(page, code, &|b| b.4 == 64), BTreeSet::from([25]));
-            let below = stops(page, code, &|b| b.4 == 63);
+            assert_eq!(stops(page, code, &|b| b.4 == 24), BTreeSet::from([25]));
+            let below = stops(page, code, &|b| b.4 == 23);
             assert_eq!(below, BTreeSet::from([0, 23, 26]));
         }
         if entry.word != Unassigned && entry.lengths[3] > 1 + (page > 0) as u8 {

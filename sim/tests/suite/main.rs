@@ -6,6 +6,7 @@ mod check_order;
 mod check_rules;
 mod codemap;
 mod common;
+mod depth;
 mod flags_and_bits;
 mod flow;
 mod generator;

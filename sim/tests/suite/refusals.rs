@@ -81,7 +81,9 @@ fn ram_is_11() {
 
 #[test]
 fn state_is_12() {
-    for length in [0, 1, STATE_BYTES - 1, STATE_BYTES + 1] {
+    // 212 bytes; 532 were a state's before R-5.
+    assert_eq!(refusal(|r| r.state.resize(212, 0)), 0);
+    for length in [0, 1, 20, 211, 213, 220, 531, 532, 533] {
         assert_eq!(refusal(|r| r.state.resize(length, 0)), 12);
     }
     for bit in 3..8 {
@@ -94,20 +96,22 @@ fn state_is_12() {
 #[test]
 fn open_calls_are_tested_by_12() {
     assert_eq!(
-        refusal(|r| (0..64).for_each(|k| open(r, k, 0xFFFFFF, 1))),
+        refusal(|r| (0..24).for_each(|k| open(r, k, 0xFFFFFF, 1))),
         0
     );
-    assert_eq!(refusal(|r| (0..64).for_each(|k| open(r, k, 0, 2))), 0);
-    assert_eq!(
-        refusal(|r| {
-            (0..64).for_each(|k| open(r, k, 0, 2));
-            r.state[18] = 65;
-        }),
-        12
-    );
+    assert_eq!(refusal(|r| (0..24).for_each(|k| open(r, k, 0, 2))), 0);
+    for depth in [25, 26, 63, 64, 65, 255] {
+        assert_eq!(
+            refusal(|r| {
+                (0..24).for_each(|k| open(r, k, 0, 2));
+                r.state[18] = depth;
+            }),
+            12
+        );
+    }
     assert_eq!(refusal(|r| r.state[19] = 1), 12);
     for (address, kind) in [(0, 0), (0, 3), (0, 0xFF), (0x1000000, 1), (u32::MAX, 2)] {
-        for index in [0, 1, 63] {
+        for index in [0, 1, 23] {
             assert_eq!(
                 refusal(|r| {
                     (0..=index).for_each(|k| open(r, k, 1, 1));

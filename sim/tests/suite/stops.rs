@@ -363,18 +363,18 @@ fn deep_is_25_before_stores() {
     for code in [&[0x20, 0x00, 0xC0][..], &[0x22, 0x00, 0xC0, 0x00]] {
         for s in [0x1FF, 0x000, 0xFFFF, 0xC000] {
             let mut bench = Bench::new(code);
-            bench.calls = vec![(0xC003, 1); 64];
+            bench.calls = vec![(0xC003, 1); 24];
             bench.r.s = s;
             bench.stops(25);
             bench.calls.pop();
             if s == 0x1FF {
                 bench.step();
-                assert_eq!(bench.calls.len(), 64);
+                assert_eq!(bench.calls.len(), 24);
             }
         }
         // Its operand bytes go before it.
         let mut cut = Bench::new(&code[..code.len() - 1]);
-        cut.calls = vec![(0xC003, 1); 64];
+        cut.calls = vec![(0xC003, 1); 24];
         cut.stops(20);
     }
 }

@@ -2,7 +2,7 @@
 
 use sim7700::codes::{entry_of, page_of, Register, Word};
 use sim7700::generate::VALUES;
-use sim7700::state::Registers;
+use sim7700::state::{depth, Registers};
 use sim7700::vectors::*;
 use sim7700::{check, locate, print, read_list, run, write_list};
 use std::collections::{BTreeMap, BTreeSet};
@@ -17,13 +17,15 @@ fn the_same_seed_gives_the_same_bytes() {
     }
 }
 
-/// The check, print and locate files hang on no machine and are kept elsewhere
-/// too: their bytes stay (FNV-1a, 64 bits, over names and bytes).
+/// The check, read, write, print and locate files hang on no machine and are kept
+/// elsewhere too: their bytes stay (FNV-1a, 64 bits, over names and bytes).
 #[test]
 fn kept_files_stay() {
     let files = files(DEFAULT_SEED);
     for (kind, kept) in [
         ("check", 0x609C_1CB5_EDEC_D7E0u64),
+        ("read", 0x8A72_0899_4990_ADA0),
+        ("write", 0x2715_9E08_4B43_DBF8),
         ("print", 0xBFD2_0B57_B7A6_4DA3),
         ("locate", 0x46BF_DD1B_E326_CC19),
     ] {
@@ -364,6 +366,39 @@ fn transfers_stand_with_upper_bytes() {
         }
     }
     assert_eq!(seen.len(), 14);
+}
+
+/// JSR, JSR long, RTS and RTL stand with each number of open calls, and are
+/// completed but for a call with 24 and a return with none. States with more
+/// are refused, and so are those of the former length.
+#[test]
+fn each_number_of_open_calls_stands() {
+    let mut stands = BTreeSet::new();
+    let (mut deeper, mut former) = (BTreeSet::new(), BTreeSet::new());
+    for step in ran("step") {
+        let end = (step.answer >> 8) as u8;
+        if let (0, Some((0, code @ (0x20 | 0x22 | 0x60 | 0x6B), _))) = (end, instruction(&step)) {
+            stands.insert((code, depth(&step.before)));
+        }
+        match step.before.len() {
+            212 if depth(&step.before) > 24 => {
+                assert!(step.answer < 20, "refused");
+                deeper.insert(depth(&step.before));
+            }
+            532 => {
+                assert!(step.answer < 20, "refused");
+                former.insert(depth(&step.before));
+            }
+            _ => {}
+        }
+    }
+    assert_eq!(stands.len(), 4 * 24);
+    assert!(stands.iter().all(|&(code, open)| match code {
+        0x20 | 0x22 => open < 24,
+        _ => open > 0,
+    }));
+    assert!((25..=65).all(|open| deeper.contains(&open)));
+    assert!(former.is_superset(&[0, 1, 23, 24, 25, 64].into()));
 }
 
 /// Among the runs are such that begin with image, state and RAM of the end

@@ -4,7 +4,7 @@ use crate::check::cases::mixed_code;
 use crate::steps::calls::litter;
 use crate::steps::noise::Noise;
 use sim7700::alu::{self, D};
-use sim7700::generate::{accepted, gentle, CheckCase, Rng, RunCase};
+use sim7700::generate::{accepted, gentle, CheckCase, Rng, RunCase, FORMER_STATE_BYTES};
 use sim7700::marks::{self, is_start};
 use sim7700::numbers::{MAX_CALLS, MAX_IMAGE, MAX_RAM, MAX_STEPS};
 use sim7700::state::{set_call, set_depth, Registers, STATE_BYTES};
@@ -157,7 +157,10 @@ impl Turn {
 impl Flaw {
     fn drawn(rng: &mut Rng) -> Flaw {
         match rng.below(5) {
-            0 => Flaw::Length(*rng.pick(&[0, STATE_BYTES - 1, STATE_BYTES + 1])),
+            0 => {
+                let lengths = [0, STATE_BYTES - 1, STATE_BYTES + 1, FORMER_STATE_BYTES];
+                Flaw::Length(*rng.pick(&lengths))
+            }
             1 => Flaw::Status(8 << rng.below(5)),
             2 => Flaw::Depth(*rng.pick(&[MAX_CALLS + 1, 0x100, 0xFFFF])),
             3 => Flaw::Call(rng.word() as u32, *rng.pick(&[0, 3, 0xFF])),

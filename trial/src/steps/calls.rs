@@ -7,7 +7,7 @@ use sim7700::generate::{Rng, RunCase};
 use sim7700::numbers::{MAX_ADDRESS, MAX_CALLS};
 use sim7700::state::{depth, set_call, set_depth, Registers, CALL_BYTES, HEAD_BYTES, STATE_BYTES};
 
-const DEPTHS: [usize; 6] = [0, 1, 2, 63, 64, 64];
+const DEPTHS: [usize; 6] = [0, 1, 2, MAX_CALLS - 1, MAX_CALLS, MAX_CALLS];
 /// Bytes of an entry that mean something.
 const USED: usize = 5;
 

@@ -8,19 +8,21 @@ use crate::machine::{carried, code_bytes, Code};
 use sim7700::alu::{D, M, X};
 use sim7700::codes::entry_of;
 use sim7700::generate::{
-    aimed_step, crossed_steps, edge_step, placed_steps, valued_steps, Rng, RunCase, EDGES,
+    aimed_step, crossed_steps, depth_steps, edge_step, placed_steps, valued_steps, Rng, RunCase,
+    EDGES,
 };
 use sim7700::state::{self, Registers, STATE_BYTES};
 
 const WIDTHS: [u16; 4] = [0, X, M, M | X];
 
 /// Hands each case of the sweeps to `visit`: refusals, stops at each of their
-/// places, pairs of edge values, and each code at each pair of widths with edge
+/// places, pairs of edge values, each number of open calls, and each code at each pair of widths with edge
 /// values and at each edge.
 pub fn swept(rng: &mut Rng, mut visit: impl FnMut(&RunCase)) {
     refusals::swept(rng, &mut visit);
     placed_steps(rng).iter().for_each(&mut visit);
     crossed_steps(rng).iter().for_each(&mut visit);
+    depth_steps(rng).iter().for_each(&mut visit);
     for page in 0..3 {
         for code in 0..=255 {
             for widths in WIDTHS {

@@ -1,13 +1,24 @@
 //! Refused steps: every length, base and state around its limit with every
 //! other, so that each order of tests is met.
 
-use sim7700::generate::{Rng, RunCase};
+use sim7700::generate::{Rng, RunCase, FORMER_CALLS, FORMER_STATE_BYTES};
 use sim7700::numbers::{MAX_CALLS, MAX_IMAGE, MAX_RAM};
 use sim7700::state::{set_call, set_depth, Registers, CALL_BYTES, HEAD_BYTES, STATE_BYTES};
 
 const NOP: u8 = 0xEA;
 const IMAGE_LENGTHS: [usize; 4] = [0, 1, MAX_IMAGE, MAX_IMAGE + 1];
 const RAM_LENGTHS: [usize; 5] = [0, 1, 16, MAX_RAM, MAX_RAM + 1];
+/// Open calls; those of before R-5 among them.
+const DEPTHS: [usize; 7] = [0, 1, MAX_CALLS, MAX_CALLS + 1, FORMER_CALLS, 0x100, 0xFFFF];
+/// Lengths that no state has.
+const LENGTHS: [usize; 6] = [
+    0,
+    1,
+    HEAD_BYTES,
+    STATE_BYTES - 1,
+    STATE_BYTES + 1,
+    FORMER_STATE_BYTES,
+];
 
 /// Hands each case to `visit`.
 pub fn swept(rng: &mut Rng, mut visit: impl FnMut(&RunCase)) {
@@ -81,10 +92,8 @@ fn open(rng: &mut Rng, depth: usize) -> Vec<u8> {
 
 /// Sound states, and those that break each of the state's rules.
 fn states(rng: &mut Rng) -> Vec<Vec<u8>> {
-    let mut states: Vec<Vec<u8>> = [0, 1, 64, 65, 0x100, 0xFFFF]
-        .map(|depth| open(rng, depth))
-        .into();
-    for length in [0, 1, HEAD_BYTES, STATE_BYTES - 1, STATE_BYTES + 1] {
+    let mut states: Vec<Vec<u8>> = DEPTHS.map(|depth| open(rng, depth)).into();
+    for length in LENGTHS {
         let mut state = open(rng, 2);
         state.resize(length, 0);
         states.push(state);
@@ -95,7 +104,7 @@ fn states(rng: &mut Rng) -> Vec<Vec<u8>> {
         states.push(state);
     }
     // The first, the last open one, and the first that is not open.
-    for (depth, index) in [(3, 0), (3, 2), (3, 3), (64, 63)] {
+    for (depth, index) in [(3, 0), (3, 2), (3, 3), (MAX_CALLS, MAX_CALLS - 1)] {
         for (address, kind) in [(0xFF_FFFF, 2), (0, 0), (0, 3), (0, 0x81), (0x100_0000, 1)] {
             let mut state = open(rng, depth);
             set_call(&mut state, index, address, kind);

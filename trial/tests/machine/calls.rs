@@ -5,7 +5,7 @@ use crate::stand_in::{Made, Twist};
 use sim7700::codes::Word;
 use sim7700::state::{self, set_depth, CALL_BYTES, HEAD_BYTES, STATE_BYTES};
 
-pub const FAULTS: [(&str, Twist); 21] = [
+pub const FAULTS: [(&str, Twist); 23] = [
     ("the address of a call's last byte pushed", last_byte_pushed),
     (
         "the address of a call's last byte in the entry",
@@ -21,7 +21,9 @@ pub const FAULTS: [(&str, Twist); 21] = [
     ("the bank of a return not compared", bank_not_compared),
     ("the kind of a return not compared", kind_not_compared),
     ("an old entry looked at", old_entry_refused),
-    ("64 open calls refused", full_refused),
+    ("24 open calls refused", full_refused),
+    ("25 open calls accepted", deeper_accepted),
+    ("a state of 532 bytes accepted", former_accepted),
     ("a longer state accepted", longer_accepted),
     ("a PS with bit 11 accepted", status_accepted),
     ("RAM up to the base refused", touching_refused),
@@ -110,7 +112,7 @@ fn refuse(made: &mut Made, number: u8) {
 }
 
 fn old_entry_refused(made: &mut Made) {
-    if matches!(made.number(), 0 | 20..) && made.open_calls() < 64 {
+    if matches!(made.number(), 0 | 20..) && made.open_calls() < 24 {
         let kind = HEAD_BYTES + CALL_BYTES * made.open_calls() + 4;
         if made.given[kind] > 2 {
             refuse(made, 12);
@@ -119,8 +121,23 @@ fn old_entry_refused(made: &mut Made) {
 }
 
 fn full_refused(made: &mut Made) {
-    if matches!(made.number(), 0 | 20..) && made.open_calls() == 64 {
+    if matches!(made.number(), 0 | 20..) && made.open_calls() == 24 {
         refuse(made, 12);
+    }
+}
+
+/// Its step is made without the 25th.
+fn deeper_accepted(made: &mut Made) {
+    if made.number() == 12 && made.state.len() == STATE_BYTES && made.open_calls() == 25 {
+        made.instead(|_, state| set_depth(state, 24));
+        set_depth(made.state, 25);
+    }
+}
+
+/// As by a machine with room for 64.
+fn former_accepted(made: &mut Made) {
+    if made.number() == 12 && made.state.len() == 532 {
+        made.answer = sim7700::run_within(64, made.image, made.base, made.state, made.ram, 1);
     }
 }
 

@@ -105,7 +105,7 @@ fn a_difference_shows_the_case() {
                   RAM after the call: 08\n  base 00C000, 1 steps asked\n  \
                   Registers { a: 12, b: 0, x: 0, y: 0, s: 0, dpr: 0, ps: 0, dt: 0, pc: C001 }, \
                   0 open calls\n  NOP IMP at offset 1\n  image, 2 bytes: EAEA\n  \
-                  state, 532 bytes: 1200000000000000000001C0";
+                  state, 212 bytes: 1200000000000000000001C0";
     let shown = shown.expect("a difference");
     assert_eq!(shown[..wanted.len()], *wanted);
     assert!(shown.ends_with("\n  RAM, 1 bytes: 07"), "{shown}");

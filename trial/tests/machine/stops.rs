@@ -5,7 +5,7 @@ use sim7700::alu::D;
 use sim7700::codes::Word;
 use sim7700::state::set_depth;
 
-pub const FAULTS: [(&str, Twist); 17] = [
+pub const FAULTS: [(&str, Twist); 18] = [
     ("halt early", halt_early),
     ("STP goes on", stp_goes_on),
     ("astray before the pulls", astray_early),
@@ -15,7 +15,8 @@ pub const FAULTS: [(&str, Twist); 17] = [
     ("an image store is 23", image_store_unmapped),
     ("27 after a read", decimal_after_read),
     ("25 after the pushes", deep_after_pushes),
-    ("25 with 63 open", deep_early),
+    ("a call with 24 open", deep_goes_on),
+    ("25 with 23 open", deep_early),
     ("operand bytes before 21", operand_before_code),
     ("a lone prefix is 21", lone_prefix),
     ("a stopped store's first byte kept", store_kept),
@@ -101,15 +102,25 @@ fn decimal_after_read(made: &mut Made) {
 
 fn deep_after_pushes(made: &mut Made) {
     if made.number() == 25 {
-        made.instead(|_, state| set_depth(state, 63));
+        made.instead(|_, state| set_depth(state, 23));
         if made.number() == 0 {
             made.stop_with(25);
         }
     }
 }
 
+/// There is no room for its entry.
+fn deep_goes_on(made: &mut Made) {
+    if made.number() == 25 {
+        made.instead(|_, state| set_depth(state, 23));
+        if made.number() == 0 {
+            set_depth(made.state, 25);
+        }
+    }
+}
+
 fn deep_early(made: &mut Made) {
-    if made.does(Word::JSR) && made.open_calls() == 63 {
+    if made.does(Word::JSR) && made.open_calls() == 23 {
         made.stop_with(25);
     }
 }

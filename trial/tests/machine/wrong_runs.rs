@@ -1,10 +1,11 @@
 //! Wrong machines: runs.
 
 use crate::stand_in::WrongRun;
-use sim7700::generate::RunCase;
+use sim7700::generate::{RunCase, FORMER_CALLS, FORMER_STATE_BYTES};
+use sim7700::run_within;
 use sim7700::state::accept;
 
-pub const FAULTS: [(&str, WrongRun); 20] = [
+pub const FAULTS: [(&str, WrongRun); 21] = [
     ("drops a step", drops_step),
     ("invents a step", invents_step),
     ("drops a call", drops_call),
@@ -25,6 +26,7 @@ pub const FAULTS: [(&str, WrongRun); 20] = [
     ("too many steps cut down", cut_down),
     ("13 before 12", steps_before_state),
     ("a refused run that steps", refused_steps),
+    ("room for 64 open calls", room_for_64),
 ];
 
 const STEP: u64 = 1 << 16;
@@ -185,5 +187,25 @@ fn refused_steps(lent: &mut RunCase) -> u64 {
     if answer == 13 {
         run(lent, 1);
     }
+    answer
+}
+
+/// As before R-5; what is past the lent state is lost.
+fn room_for_64(lent: &mut RunCase) -> u64 {
+    if refused(lent.answer().0) {
+        return right(lent);
+    }
+    let lent_bytes = lent.state.len();
+    lent.state.resize(FORMER_STATE_BYTES, 0);
+    let RunCase {
+        image,
+        base,
+        state,
+        ram,
+        steps,
+        ..
+    } = &mut *lent;
+    let answer = run_within(FORMER_CALLS, image, *base, state, ram, *steps);
+    lent.state.truncate(lent_bytes);
     answer
 }

@@ -2,19 +2,19 @@
 -- Assumes nothing.
 use borrow.Author.Needs.{needs}
 use borrow.Author.Tests.{lt-ltb, le-ltb, le-leb, lt-leb}
-use Rattle.model.specs.Run.{levelLimit, stateFits}
+use Rattle.model.specs.Run.{levelLimit, stateFitsWithin}
 use Rattle.model.specs.Step.{callLimit}
 use Rattle.statebytes.proofs.state_fits.Statement.{statement}
 use Rattle.statebytes.proofs.state_fits.Tie as tie
 
 returns : tie.Need-returns
-unfolding stateFits
+unfolding stateFitsWithin
 returns c =
     let core = c .before .before .before .before .args .core in
     rw (le-ltb (core .registers .status .level) levelLimit (c .if1 .taken))
 
 returns-2 : tie.Need-returns-2
-unfolding stateFits
+unfolding stateFitsWithin
 returns-2 c =
     let core = c .before .before .before .before .before .before .args .core in
     rw (
@@ -23,7 +23,7 @@ returns-2 c =
     )
 
 returns-3 : tie.Need-returns-3
-unfolding stateFits
+unfolding stateFitsWithin
 returns-3 c =
     let core = c .before .before .before .before .before .before .before .args .core in
     rw (
