@@ -1,7 +1,11 @@
-# What the tests of the commands share. A test sets the command's name and reads this file, then defines groups of cases
-# and ends by try_all GROUP..
+# What the tests of the commands share. A test sets these and reads this file, then defines groups of cases and ends by
+# try_all GROUP..
+#   name     the command's
+#   between  the words that stand between its two files, for the base and the reset of case 1
+#   list     the second file of case 1
 here=$(cd "$(dirname "${BASH_SOURCE[0]}")" && pwd)
 examples=$here/../examples
+case1=("$examples/case1.image" "${between[@]}" "$examples/$list")
 command=$here/../$name
 work=$(mktemp -d)
 path=$PATH
@@ -36,6 +40,11 @@ says() {
     local got=0
     PATH=$path "$command" "${@:4}" > "$work/said" 2> "$work/stderr" || got=$?
     judged "$1" "$2\\n" "$3" "$got" "$name ${*@Q}"
+}
+
+# says_of STATUS LINE WORDS IMAGE LIST: with two files.
+says_of() {
+    says "$1" "$2" "$3" "$4" "${between[@]}" "$5"
 }
 
 # bytes FILE HEX: writes a file of these bytes.
@@ -76,26 +85,31 @@ refused_ones() {
     checked 1 'R\t10\t1' "refused, 10 return: $at_1" 'DB 60' '00C000\t2\tC000' "$nop" 'C001 0 0 L 0 0'
 }
 
-# L, whatever the other file is.
-unread_ones() {
-    local none='No such file or directory' usage="usage: $name [--verbose] [--] IMAGE LIST"
-    : > "$work/empty"
-    ln -s loop "$work/loop"
+# L for more or fewer words than two files.
+two_files() {
+    local usage="usage: $name [--verbose] [--] IMAGE LIST"
     says 2 L "$usage"
     says 2 L "$name: two files are needed, not 0"
     says 2 L "$usage" "$examples/case1.image"
-    says 2 L "$name: two files are needed, not 3" "$examples/case1.image" "$examples/case1.list" more
-    says 2 L "$name: $work/none: $none" "$work/none" "$examples/case1.list"
-    says 2 L "$name: $work/none: $none" "$examples/case1.image" "$work/none"
-    says 2 L "$name: $work/none: $none" "$work/none" "$work/empty"
-    says 2 L "$name: '': $none" '' "$examples/case1.list"
-    says 2 L "$name: $work: Is a directory" "$work" "$examples/case1.list"
-    says 2 L "$name: $work: Is a directory" "$examples/case1.image" "$work"
-    says 2 L "$name: /proc/self/mem: Input/output error" "$examples/case1.image" /proc/self/mem
-    says 2 L "$name: $work/empty/none: Not a directory" "$examples/case1.image" "$work/empty/none"
-    says 2 L "$name: $work/loop: Too many levels of symbolic links" "$work/loop" "$examples/case1.list"
-    says 2 L "$name: /dev/zero: over 16,384 bytes, or can't be read to its end" /dev/zero "$examples/case1.list"
-    says 2 L "$name: /dev/stdin: Is a directory" /dev/stdin "$examples/case1.list" <&-
+    says 2 L "$name: two files are needed, not 3" "${case1[@]}" more
+}
+
+# L, whatever the other file is.
+unread_ones() {
+    local none='No such file or directory' image=${case1[0]} list=$examples/$list
+    : > "$work/empty"
+    ln -s loop "$work/loop"
+    says_of 2 L "$name: $work/none: $none" "$work/none" "$list"
+    says_of 2 L "$name: $work/none: $none" "$image" "$work/none"
+    says_of 2 L "$name: $work/none: $none" "$work/none" "$work/empty"
+    says_of 2 L "$name: '': $none" '' "$list"
+    says_of 2 L "$name: $work: Is a directory" "$work" "$list"
+    says_of 2 L "$name: $work: Is a directory" "$image" "$work"
+    says_of 2 L "$name: /proc/self/mem: Input/output error" "$image" /proc/self/mem
+    says_of 2 L "$name: $work/empty/none: Not a directory" "$image" "$work/empty/none"
+    says_of 2 L "$name: $work/loop: Too many levels of symbolic links" "$work/loop" "$list"
+    says_of 2 L "$name: /dev/zero: over 16,384 bytes, or can't be read to its end" /dev/zero "$list"
+    says_of 2 L "$name: /dev/stdin: Is a directory" /dev/stdin "$list" <&-
 }
 
 # unprinted WORDS STATUS: no line, status 2, and why.
@@ -107,17 +121,17 @@ unprinted() {
 # On outputs that take no line.
 outputs() {
     local got=0
-    "$command" "$examples/case1.image" "$examples/case1.list" > /dev/full 2> "$work/stderr" || got=$?
+    "$command" "${case1[@]}" > /dev/full 2> "$work/stderr" || got=$?
     unprinted 'No space left on device' "$got"
     got=0
-    "$command" "$examples/case1.image" "$examples/case1.list" >&- 2> "$work/stderr" || got=$?
+    "$command" "${case1[@]}" >&- 2> "$work/stderr" || got=$?
     unprinted 'Bad file descriptor' "$got"
     {
         until [ -e "$work/closed" ]; do
             sleep 0.1
         done
         got=0
-        "$command" "$examples/case1.image" "$examples/case1.list" 2> "$work/stderr" || got=$?
+        "$command" "${case1[@]}" 2> "$work/stderr" || got=$?
         echo "$got" > "$work/got"
     } | { exec <&-; : > "$work/closed"; }
     unprinted 'Broken pipe' "$(cat "$work/got")"
@@ -126,7 +140,7 @@ outputs() {
     unprinted 'No space left on device' "$got"
     got=0
     : > "$work/stderr"
-    "$command" "$examples/case1.image" "$work/none" > "$work/said" 2>&- || got=$?
+    "$command" "$examples/case1.image" "${between[@]}" "$work/none" > "$work/said" 2>&- || got=$?
     judged 2 'L\n' '' "$got" "$name without standard error"
 }
 
@@ -146,10 +160,37 @@ man_page_in_order() {
     ! command -v groff > /dev/null || [ -z "$(groff -man -t -ww -z "$page" 2>&1)" ] || differs "groff warns of $name.1"
 }
 
+# builds_in_copy TEXT: in a copy, where a script stands in for rt, and links the program where LINKED is set. Case 1 is
+# answered by the text; a build that another command has begun is waited for.
+builds_in_copy() {
+    local copy=$work/copy command=$work/copy/$name path=$work/rt:$PATH got=0 words="$name: proving and building" crate
+    crate=$(sed -n 's/^crate=//p' "$here/../$name")
+    export PROGRAM=$here/../target/bin/$crate
+    mkdir -p "$copy/crates/$crate" "$copy/target" "$work/rt"
+    cp "$here/../$name" "$here/../commands.bash" "$here/../words.bash" "$copy"
+    echo "$crate:" > "$copy/crates.txt"
+    printf '#!/bin/sh\nmkdir -p target/bin\n[ -z "${LINKED:-}" ] || cp "$PROGRAM" target/bin\n' > "$work/rt/rt"
+    chmod +x "$work/rt/rt"
+    PATH=$path "$command" "${case1[@]}" > "$work/said" 2> "$work/stderr" || got=$?
+    judged 3 '' "$name: rt check $crate failed; all that it said: " "$got" "$name that is not built"
+    export LINKED=yes
+    if command -v flock > /dev/null; then
+        echo another > "$copy/target/commands.lock"
+        flock "$copy/target/commands.lock" sleep 2 &
+        while flock -n "$copy/target/commands.lock" true; do
+            sleep 0.1
+        done
+        words="$name: waiting for another, which proves and builds the program"
+    fi
+    says 0 "$1" "$words" "${case1[@]}"
+    wait
+    says 0 "$1" '' "${case1[@]}"
+}
+
 # try_all GROUP..: the groups in turn, on a program that is built.
 try_all() {
     local group
-    "$command" "$examples/case1.image" "$examples/case1.list" > /dev/null ||
+    "$command" "${case1[@]}" > /dev/null ||
         { echo "$name: case 1 is not accepted"; exit 1; }
     for group in "$@"; do
         $group
