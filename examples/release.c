@@ -1,12 +1,15 @@
 /* release IMAGE LIST
+ * release IMAGE BASE RESET ROUTINES
  *
- * Reads an image and its mark list, checks them and, if the image is accepted,
- * runs it from its reset for some steps. The exit status is 0 if the image is
- * accepted and was run, 1 if it is refused, 2 if a file can't be read or the
- * answer can't be printed. */
+ * Reads an image and its mark list, or builds its marks from a routine list and
+ * two addresses in hexadecimal; checks them and, if the image is accepted, runs
+ * it from its reset for some steps. The exit status is 0 if the image is
+ * accepted and was run, 1 if it is refused, 2 if a file or an address can't be
+ * read or the answer can't be printed. */
 #include <errno.h>
 #include <m7700.h>
 #include <stdio.h>
+#include <stdlib.h>
 #include <string.h>
 
 enum { RELEASED = 0, REFUSED = 1, FAILED = 2 };
@@ -66,11 +69,25 @@ static int run(size_t image_len, uint32_t base, uint32_t reset)
     return RELEASED;
 }
 
-static int release(const char *image_name, const char *list_name)
+/* Checks the image against its marks and, if it is accepted, runs it. */
+static int release(size_t image_len, uint32_t base, uint32_t reset)
+{
+    m7700_verdict verdict = m7700_check_image(image, image_len, marks, image_len, base, reset);
+
+    if (verdict.refusal != 0) {
+        printf("image refused: %u %s, offset %u\n", verdict.refusal,
+               m7700_refusal_word(verdict.refusal), verdict.offset);
+        return REFUSED;
+    }
+    puts("image accepted");
+    return run(image_len, base, reset);
+}
+
+/* The marks are those of a mark list. */
+static int release_listed(const char *image_name, const char *list_name)
 {
     size_t image_len, list_len;
     m7700_list_read read;
-    m7700_verdict verdict;
 
     if (!read_file(image_name, image, sizeof image, &image_len) ||
         !read_file(list_name, list, sizeof list, &list_len))
@@ -78,25 +95,53 @@ static int release(const char *image_name, const char *list_name)
     read = m7700_read_mark_list(list, list_len, marks, image_len);
     if (read.refusal != 0)
         return refused("list", read.refusal);
-    verdict = m7700_check_image(image, image_len, marks, image_len, read.base, read.reset);
-    if (verdict.refusal != 0) {
-        printf("image refused: %u %s, offset %u\n", verdict.refusal,
-               m7700_refusal_word(verdict.refusal), verdict.offset);
-        return REFUSED;
+    return release(image_len, read.base, read.reset);
+}
+
+/* Reads an address; 0 if it can't. */
+static int read_address(const char *text, uint32_t *address)
+{
+    char *end;
+    unsigned long number;
+
+    errno = 0;
+    number = strtoul(text, &end, 16);
+    if (errno != 0 || end == text || *end != '\0' || number > 0xFFFFFF) {
+        fprintf(stderr, "release: '%s' is no address\n", text);
+        return 0;
     }
-    puts("image accepted");
-    return run(image_len, read.base, read.reset);
+    *address = number & 0xFFFFFF;
+    return 1;
+}
+
+/* The marks are built from a routine list. */
+static int release_built(char **arguments)
+{
+    size_t image_len, list_len;
+    uint32_t base, reset;
+    m7700_marks_built built;
+
+    if (!read_file(arguments[0], image, sizeof image, &image_len) ||
+        !read_address(arguments[1], &base) || !read_address(arguments[2], &reset) ||
+        !read_file(arguments[3], list, sizeof list, &list_len))
+        return FAILED;
+    built = m7700_build_image_marks(image, image_len, base, reset, list, list_len, marks, image_len);
+    if (built.refusal != 0)
+        return refused("routines", built.refusal);
+    return release(image_len, base, reset);
 }
 
 int main(int argc, char **argv)
 {
-    int status;
+    int status = FAILED;
 
-    if (argc != 3) {
-        fprintf(stderr, "usage: release IMAGE LIST\n");
-        return FAILED;
-    }
-    status = release(argv[1], argv[2]);
+    if (argc == 3)
+        status = release_listed(argv[1], argv[2]);
+    else if (argc == 5)
+        status = release_built(argv + 1);
+    else
+        fprintf(stderr, "usage: release IMAGE LIST\n"
+                        "       release IMAGE BASE RESET ROUTINES\n");
     if (fflush(stdout) != 0 || ferror(stdout)) {
         perror("release");
         return FAILED;

@@ -10,11 +10,12 @@
  *
  * DESCRIPTION
  *
- * Before it releases an image, a loader in C reads the image's mark list,
- * checks the image against the marks, and may print it and run it step by
- * step. Each of these functions gives a struct of its own type. Its member
- * `refusal` is 0, or the number that refuses the call; then the other members
- * are 0, but for the offset of the check, and every buffer is as given.
+ * Before it releases an image, a loader in C reads the image's mark list, or
+ * builds the marks from a list of its routines, checks the image against them,
+ * and may print it and run it step by step. Each of these functions gives a
+ * struct of its own type. Its member `refusal` is 0, or the number that refuses
+ * the call; then the other members are 0, but for the offset of the check, and
+ * every buffer is as given.
  *
  * Two conditions on pointers are left to the caller, since C can't express
  * them. Nothing else is asked:
@@ -35,7 +36,7 @@
 extern "C" {
 #endif
 
-#define M7700_VERSION "2.0.0"
+#define M7700_VERSION "2.1.0"
 
 /* SYSTEM
  *
@@ -43,20 +44,24 @@ extern "C" {
  * memcpy and memset. It has no data of its own, so threads may call it at the
  * same time, each with its own buffers; those that are only read may be shared.
  *
- * No call needs more stack than the bytes below. Measured, on a stack of
- * painted bytes and with the longest buffers: 8,568 for a page, 8,008 for the
- * places of addresses, 5,128 for a run or a step, 4,056 for a check, 208 for a
- * list, and some 3,200 more for a call in which memcpy or memset is first bound
- * by the dynamic linker. */
+ * No call needs more stack than the bytes below, the second number for the
+ * building of marks, the first for any other call. Measured, on a stack of
+ * painted bytes and with the longest buffers: 73,592 for marks, 8,536 for a
+ * page, 7,976 for addresses, 5,128 for a run or a step, 4,056 for a check, 208
+ * for a list, and some 3,200 more for a call in which memcpy or memset is first
+ * bound by the dynamic linker. */
 #define M7700_STACK_BYTES 16384
+#define M7700_BUILD_STACK_BYTES 81920
 
 /* LIMITS
  *
  * The longest image; the longest list, 20 bytes of a first line and 15 for
- * each start; a row of a page, and the longest page; the most addresses in one
- * reading; the most RAM, steps of a run, and open calls. */
+ * each start; the most routines that marks are built from; a row of a page, and
+ * the longest page; the most addresses in one reading; the most RAM, steps of a
+ * run, and open calls. */
 #define M7700_IMAGE_BYTES 16384
 #define M7700_LIST_BYTES (20 + 15 * M7700_IMAGE_BYTES)
+#define M7700_ROUTINES 256
 #define M7700_ROW_BYTES 36
 #define M7700_PAGE_BYTES (M7700_ROW_BYTES * M7700_IMAGE_BYTES)
 #define M7700_ADDRESSES 256
@@ -116,13 +121,17 @@ extern "C" {
                                    than 1 or 2 or an address above
                                    FFFFFF */
 #define M7700_REFUSED_STEPS 13  /* steps: over M7700_STEPS */
-#define M7700_REFUSED_LIST 14   /* list: text is not a mark list */
+#define M7700_REFUSED_LIST 14   /* list: text is not a mark list, or not
+                                   a routine list */
 #define M7700_REFUSED_PAGE 15   /* page: output buffer shorter than the
                                    list, or than the rows; fewer places
                                    than addresses */
 #define M7700_REFUSED_ADDRESSES 16 /* addresses: over M7700_ADDRESSES, not
                                       strictly ascending, or one outside
                                       the image */
+#define M7700_REFUSED_ROUTINES 17  /* routines: over M7700_ROUTINES, one
+                                      outside the image, or no marking
+                                      that fits them */
 
 /* Not carried are BRK, RTI, PLP, PSH, PUL, MVN, MVP, MPY, DIV, every JMP or JSR
  * through memory, and every unassigned code or prefix pair.
@@ -229,6 +238,46 @@ static inline m7700_list_written
 m7700_write_mark_list(const uint8_t *marks, size_t marks_len,
                       uint32_t base, uint32_t reset,
                       uint8_t *page, size_t page_len);
+
+/* BUILDING MARKS
+ *
+ * Builds the marks of an image whose supplier sends no marks but a routine
+ * list: lines of starts as a mark list has them, without the first line,
+ * strictly ascending, a line for each routine with its first address, m and x
+ * there, its kind, and m and x at its return. A text without lines is one too.
+ *
+ * What is looked for is a marking that
+ *
+ *   - the check accepts for the image with this base and reset,
+ *   - has a start for each routine, marked as listed,
+ *   - has all call targets on the list.
+ *
+ * The tests go in the order
+ *
+ *     14  the text is not a routine list
+ *      1  image empty or over M7700_IMAGE_BYTES, or marks_len is
+ *         another length
+ *      2  base above FFFFFF, or image crosses a bank end
+ *     17  a routine outside the image, over M7700_ROUTINES, or no
+ *         such marking
+ *
+ * and the first that fails decides. If the marks were built, every mark is
+ * written, and they are the least such marking: each start in them stands,
+ * equally marked, in every other one. A check of the image with these marks
+ * accepts it.
+ *
+ * Every length, base and reset and every byte of image and text is answered.
+ * The function reads only image and text, writes only the marks, and keeps no
+ * pointer. */
+typedef struct {
+    uint32_t refusal;
+} m7700_marks_built;
+
+static inline m7700_marks_built
+m7700_build_image_marks(const uint8_t *image, size_t image_len,
+                        uint32_t base, uint32_t reset,
+                        const uint8_t *routines, size_t routines_len,
+                        uint8_t *marks, size_t marks_len);
 
 /* PRINTING
  *
@@ -424,7 +473,7 @@ m7700_step_image(const uint8_t *image, size_t image_len, uint32_t base,
 
 /* OTHER LANGUAGES
  *
- * These seven functions are what the archive has. They take the arguments of
+ * These eight functions are what the archive has. They take the arguments of
  * those above and return the members as one number, each in its own way, so
  * that one function's number says something else if it is read as another's.
  * From C, call those above.
@@ -442,6 +491,12 @@ uint64_t m7700_read_list(const uint8_t *text, size_t text_len,
 uint64_t m7700_write_list(const uint8_t *marks, size_t marks_len,
                           uint32_t base, uint32_t reset,
                           uint8_t *page, size_t page_len);
+
+/* Bits 0 to 7 are the refusal: */
+uint64_t m7700_build_marks(const uint8_t *image, size_t image_len,
+                           uint32_t base, uint32_t reset,
+                           const uint8_t *routines, size_t routines_len,
+                           uint8_t *marks, size_t marks_len);
 
 /* Bits 0 to 7 are the refusal, bits 8 to 63 length or, if the call is refused,
  * the offset: */
@@ -472,7 +527,7 @@ uint64_t m7700_step(const uint8_t *image, size_t image_len,
 
 /* SEE ALSO
  *
- * check(1), print(1)
+ * check(1), marks(1), print(1)
  */
 
 /* ---- The text above is m7700(3) too. Here is what its functions do. ----
@@ -500,6 +555,7 @@ static inline const char *m7700_refusal_word(uint32_t number)
     case M7700_REFUSED_LIST: return "list";
     case M7700_REFUSED_PAGE: return "page";
     case M7700_REFUSED_ADDRESSES: return "addresses";
+    case M7700_REFUSED_ROUTINES: return "routines";
     default: return "unknown";
     }
 }
@@ -559,6 +615,21 @@ m7700_write_mark_list(const uint8_t *marks, size_t marks_len,
     written.refusal = packed & 0xFF;
     written.length = packed >> 8;
     return written;
+}
+
+static inline m7700_marks_built
+m7700_build_image_marks(const uint8_t *image, size_t image_len,
+                        uint32_t base, uint32_t reset,
+                        const uint8_t *routines, size_t routines_len,
+                        uint8_t *marks, size_t marks_len)
+{
+    const uint64_t packed = m7700_build_marks(image, image_len, base, reset,
+                                              routines, routines_len,
+                                              marks, marks_len);
+    m7700_marks_built built;
+
+    built.refusal = packed & 0xFF;
+    return built;
 }
 
 static inline m7700_page_printed

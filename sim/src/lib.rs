@@ -6,6 +6,7 @@
 
 pub mod alu;
 pub mod answer;
+mod build;
 mod check;
 pub mod codes;
 pub mod generate;
@@ -16,9 +17,11 @@ mod machine;
 pub mod marks;
 pub mod numbers;
 mod print;
+mod rules;
 pub mod state;
 pub mod vectors;
 
+pub use build::build_marks;
 pub use check::{check, verdict};
 pub use list::{read_list, write_list};
 pub use locate::{locate, IN_GAP, IN_INSTRUCTION, NO_START};

@@ -63,8 +63,8 @@ fn fill(text: &[u8], head: &Head, marks: &mut [u8]) {
 
 /// The rest of a list's text; each method takes one thing off its front, or
 /// says `None` when something else stands there.
-struct Cursor<'a> {
-    text: &'a [u8],
+pub struct Cursor<'a> {
+    pub text: &'a [u8],
 }
 
 impl Cursor<'_> {
@@ -135,7 +135,7 @@ impl Cursor<'_> {
     }
 
     /// A start's line: its address in the bank and its mark.
-    fn start(&mut self) -> Option<(usize, u8)> {
+    pub fn start(&mut self) -> Option<(usize, u8)> {
         let address = self.hex(4)? as usize;
         let mut mark = marks::START;
         self.tab()?;

@@ -17,6 +17,8 @@ pub const LIST: u8 = 14;
 pub const PAGE: u8 = 15;
 /// the list of addresses.
 pub const PROBE: u8 = 16;
+/// the routines.
+pub const ROUTINES: u8 = 17;
 
 pub const OUTSIDE: u8 = 20;
 pub const UNCARRIED: u8 = 21;
@@ -34,6 +36,8 @@ pub const MAX_STEPS: u32 = 1_000_000;
 pub const MAX_CALLS: usize = 24;
 /// Addresses that a probe delivers at most.
 pub const MAX_PROBE: usize = 256;
+/// Routines that a supplier lists at most.
+pub const MAX_ROUTINES: usize = 256;
 pub const MAX_ADDRESS: u32 = 0xFF_FFFF;
 pub const BANK: u32 = 0x1_0000;
 

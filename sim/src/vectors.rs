@@ -15,14 +15,15 @@ pub const MAX_FILE: usize = 65_536;
 /// Cases aimed at each number that a kind can give: so many stand at least.
 pub const LEAST: usize = 100;
 
-/// The numbers that a step, a run, a read, a write, a page and a location can
-/// give, besides 0.
+/// The numbers that a step, a run, a read, a write, a page, a location and a
+/// building can give, besides 0.
 pub const STEP_NUMBERS: [u8; 12] = [1, 2, 11, 12, 20, 21, 22, 23, 24, 25, 26, 27];
 pub const RUN_NUMBERS: [u8; 13] = [1, 2, 11, 12, 13, 20, 21, 22, 23, 24, 25, 26, 27];
 pub const READ_NUMBERS: [u8; 4] = [14, 1, 2, 3];
 pub const WRITE_NUMBERS: [u8; 5] = [1, 2, 4, 3, 15];
 pub const PRINT_NUMBERS: [u8; 11] = [1, 2, 4, 3, 5, 6, 7, 10, 8, 9, 15];
 pub const LOCATE_NUMBERS: [u8; 12] = [1, 2, 4, 3, 5, 6, 7, 10, 8, 9, 16, 15];
+pub const BUILD_NUMBERS: [u8; 4] = [14, 1, 2, 17];
 
 /// Turns the seed into the printed pages' own, so that they stay what they
 /// are when others are drawn before them.
@@ -38,6 +39,8 @@ const TRANSFER_SEED: u64 = 0x5452_414E_5300_0000;
 const DEPTH_SEED: u64 = 0x4445_5054_4800_0000;
 /// Likewise for the locations.
 const LOCATE_SEED: u64 = 0x4C4F_4341_5445_0000;
+/// Likewise for the marks that are built.
+const BUILD_SEED: u64 = 0x4255_494C_4400_0000;
 
 /// All files of a seed, by name.
 pub fn files(seed: u64) -> Vec<(String, Vec<u8>)> {
@@ -64,7 +67,8 @@ pub fn files(seed: u64) -> Vec<(String, Vec<u8>)> {
     let files = kinds.into_iter();
     let files = files.flat_map(|(kind, records)| pack(kind, records));
     let files = files.chain(print_files(seed));
-    files.chain(locate_files(seed)).collect()
+    let files = files.chain(locate_files(seed));
+    files.chain(build_files(seed)).collect()
 }
 
 /// The print files alone, which hang on no machine.
@@ -77,6 +81,12 @@ pub fn print_files(seed: u64) -> Vec<(String, Vec<u8>)> {
 pub fn locate_files(seed: u64) -> Vec<(String, Vec<u8>)> {
     let mut rng = Rng::new(seed ^ LOCATE_SEED);
     pack("locate", locate_records(&mut rng))
+}
+
+/// The files of marks that are built alone, likewise.
+pub fn build_files(seed: u64) -> Vec<(String, Vec<u8>)> {
+    let mut rng = Rng::new(seed ^ BUILD_SEED);
+    pack("build", build_records(&mut rng))
 }
 
 /// Puts records into numbered files: a count, then record after record.
@@ -233,6 +243,21 @@ fn locate_record(case: &LocateCase) -> Vec<u8> {
         for &place in &places[..case.addresses.len()] {
             put_u32(&mut out, place);
         }
+    }
+    out
+}
+
+fn build_record(case: &BuildCase) -> Vec<u8> {
+    let (answer, marks) = case.answer();
+    let mut out = Vec::new();
+    put_u32(&mut out, case.base);
+    put_u32(&mut out, case.reset);
+    put_bytes(&mut out, &case.image);
+    put_bytes(&mut out, &case.routines);
+    put_bytes(&mut out, &case.marks);
+    put_u64(&mut out, answer);
+    if answer & 0xFF == 0 {
+        out.extend_from_slice(&marks);
     }
     out
 }
@@ -600,4 +625,72 @@ fn longest_locate() -> LocateCase {
     let addresses = [0, 2, 3, 255, 256, 8_191, 8_192, 16_382, 16_383];
     let addresses = addresses.map(|at| checked.base + at);
     LocateCase::exact(checked, addresses.to_vec())
+}
+
+/// Hand-made cases; cases aimed at each number in small images, more of those
+/// that are built; each way not to fit; every carried code at every width; as
+/// many routines as go and one more; the longest image, and one that is a byte
+/// longer.
+fn build_records(rng: &mut Rng) -> Vec<Vec<u8>> {
+    let mut cases = vec![backwards(rng, 16_384)];
+    cases.extend(hand_made().iter().map(HandMade::case));
+    for (number, more) in [(0, LEAST / 2), (14, 0), (1, 0), (2, 0), (17, 0)] {
+        let aimed = std::iter::repeat_with(|| build_by(rng, number));
+        cases.extend(aimed.filter(is_short).take(LEAST + more));
+    }
+    for way in 0..MISFITS {
+        let broken = std::iter::repeat_with(|| misfit_by(rng, way));
+        let refused = broken.filter(|case| case.answer().0 == 17);
+        cases.extend(refused.filter(is_short).take(8));
+    }
+    for program in codes_in_a_row(rng) {
+        let listed = called(&program);
+        cases.push(BuildCase::listing(program, &listed));
+    }
+    for count in [255, 256, 256, 257, 257, 300] {
+        cases.push(many_routines(rng, count));
+    }
+    cases.extend(too_many_and_more(rng));
+    cases.push(too_long(rng));
+    cases.iter().map(build_record).collect()
+}
+
+fn is_short(case: &BuildCase) -> bool {
+    case.image.len() < 60 && case.marks.len() < 400 && case.routines.len() < 200
+}
+
+/// 257 routines and 300, which are too many, and something that is tested
+/// before: a last line with N and a return width, with an address below the
+/// others, without its 0A; marks of another length; a base past the last one.
+fn too_many_and_more(rng: &mut Rng) -> Vec<BuildCase> {
+    let mut cases = Vec::new();
+    for count in [257, 300] {
+        let case = many_routines(rng, count);
+        let lines = [
+            "FFFF\t0\t0\tN\t0\t1\n",
+            "0000\t0\t0\tN\t0\t0\n",
+            "FFFF\t0\t0\tN\t0\t0",
+        ];
+        for line in lines {
+            let mut case = case.clone();
+            case.routines.truncate(15 * (count - 1));
+            case.routines.extend_from_slice(line.as_bytes());
+            cases.push(case);
+        }
+        let (mut shorter, mut above) = (case.clone(), case);
+        shorter.marks.pop();
+        above.base += 0x100_0000;
+        cases.extend([shorter, above]);
+    }
+    cases
+}
+
+/// A byte more than an image may have, all else in form.
+fn too_long(rng: &mut Rng) -> BuildCase {
+    let mut case = straight(rng, 16_384);
+    case.image.push(0xDB);
+    case.marks.push(0);
+    case.base &= 0xFF_0000;
+    case.reset = 0;
+    case
 }

@@ -1,6 +1,7 @@
 /* driver IMAGE MARKS BASE RESET
  * driver write-list MARKS BASE RESET LENGTH LIST
  * driver read-list LIST LENGTH MARKS
+ * driver build IMAGE BASE RESET ROUTINES LENGTH MARKS
  * driver print IMAGE MARKS BASE RESET LENGTH PAGE
  * driver locate IMAGE MARKS BASE RESET LENGTH [ADDRESS]..
  * driver run IMAGE MARKS BASE RESET START S RAM STEPS [OPTION]..
@@ -11,16 +12,18 @@
  * The first form reads an image and its mark bytes from two files, checks them,
  * and prints one line. The second writes the list of a file's marks into a page
  * of LENGTH bytes and the whole page into the file LIST; the third reads the file
- * LIST into LENGTH marks and writes them into the file MARKS. The fourth prints an
- * image into a page of LENGTH bytes and writes the whole page into the file PAGE.
+ * LIST into LENGTH marks and writes them into the file MARKS. The fourth builds LENGTH
+ * marks of an image from the file ROUTINES and writes them into the file MARKS. The
+ * fifth prints an image into a page of LENGTH bytes and writes the whole page into the
+ * file PAGE.
  *
- * The fifth locates addresses of an image and prints all of LENGTH places in one line; a
+ * The sixth locates addresses of an image and prints all of LENGTH places in one line; a
  * call that is refused and changes one passes for located.
  *
- * The sixth checks an image and, if it is accepted, runs it for STEPS steps in
+ * The seventh checks an image and, if it is accepted, runs it for STEPS steps in
  * RAM bytes of RAM, and prints one line. It begins with PG and PC at the 24-bit
  * address START and with S; all else of the state is 0, so m=0, x=0 and no call is
- * open. The seventh does the same one step after the other, a line each. Options:
+ * open. The eighth does the same one step after the other, a line each. Options:
  *
  *   --unchecked              runs the image without the check
  *   --poke OFFSET BYTE       puts a byte into the state before the run
@@ -28,10 +31,10 @@
  *   --ram ADDRESS COUNT      prints so many bytes of RAM after it
  *   --state OFFSET COUNT     prints so many bytes of the state after it
  *
- * A page, marks that are read and RAM hold dots before. Every number given is
- * hexadecimal; counts and the check's offset are printed in decimal. The exit status
- * is 0 if accepted, written, read, printed, located or run, 1 if refused, 2 if there was nothing
- * to work on. */
+ * A page, marks that are read or built and RAM hold dots before. Every number given is
+ * hexadecimal; counts and the check's offset are printed in decimal. The exit status is
+ * 0 if accepted, written, read, built, printed, located or run, 1 if refused, 2 if there
+ * was nothing to work on. */
 #include <errno.h>
 #include <stdio.h>
 #include <string.h>
@@ -168,6 +171,24 @@ static int read_list(char **arguments)
     if (read.refusal != 0)
         return refused(read.refusal);
     printf("read: base %06X, reset %04X\n", (unsigned)read.base, (unsigned)read.reset);
+    return ACCEPTED;
+}
+
+static int build(char **arguments)
+{
+    uint32_t base, reset;
+    m7700_marks_built built;
+
+    if (!read_file(arguments[0], &image) || !read_hex(arguments[1], &base) ||
+        !read_hex(arguments[2], &reset) || !read_file(arguments[3], &list) || !lend(arguments[4], &marks))
+        return UNREAD;
+    built = m7700_build_image_marks(image.at, image.length, base, reset, list.at, list.length, marks.at,
+                                    marks.length);
+    if (!write_file(arguments[5], &marks))
+        return UNREAD;
+    if (built.refusal != 0)
+        return refused(built.refusal);
+    puts("built");
     return ACCEPTED;
 }
 
@@ -421,6 +442,8 @@ int main(int argc, char **argv)
         return write_list(argv + 2);
     if (argc == 5 && strcmp(argv[1], "read-list") == 0)
         return read_list(argv + 2);
+    if (argc == 8 && strcmp(argv[1], "build") == 0)
+        return build(argv + 2);
     if (argc == 8 && strcmp(argv[1], "print") == 0)
         return print(argv + 2);
     if (argc >= 7 && strcmp(argv[1], "locate") == 0)
@@ -434,6 +457,7 @@ int main(int argc, char **argv)
     fprintf(stderr, "usage: driver IMAGE MARKS BASE RESET\n"
                     "       driver write-list MARKS BASE RESET LENGTH LIST\n"
                     "       driver read-list LIST LENGTH MARKS\n"
+                    "       driver build IMAGE BASE RESET ROUTINES LENGTH MARKS\n"
                     "       driver print IMAGE MARKS BASE RESET LENGTH PAGE\n"
                     "       driver locate IMAGE MARKS BASE RESET LENGTH [ADDRESS]..\n"
                     "       driver run IMAGE MARKS BASE RESET START S RAM STEPS [OPTION]..\n"

@@ -109,6 +109,41 @@ static void mark_bits(void)
     same("both bits of a kind", M7700_MARK_KIND, M7700_KIND_RTS << 3 | M7700_KIND_RTL << 3);
 }
 
+/* The lines of so many routines from behind the reset on, each of the kind that RTS ends. */
+static size_t list_routines(uint32_t count)
+{
+    char line[32];
+    uint32_t i;
+
+    for (i = 0; i < count; i++) {
+        sprintf(line, "%04X\t0\t0\tS\t0\t0\n", RESET + 1 + i);
+        memcpy(list + 15 * i, line, 15);
+    }
+    return 15 * count;
+}
+
+/* STP at the reset and at each of so many routines. */
+static m7700_marks_built build(uint32_t count)
+{
+    memset(image, 0xDB, sizeof image);
+    memset(marks, 0xFF, sizeof marks);
+    return m7700_build_image_marks(image, count + 1, BASE, RESET, list, list_routines(count), marks, count + 1);
+}
+
+static void marks_built(void)
+{
+    same("no routines", build(0).refusal, 0);
+    same("the mark at the reset", marks[0], M7700_MARK_START);
+    same("a routine", build(1).refusal, 0);
+    same("its mark", marks[1], M7700_MARK_START | M7700_KIND_RTS << 3);
+    same("the mark behind it", marks[2], 0xFF);
+    same("the most routines", build(M7700_ROUTINES).refusal, 0);
+    same("more routines", build(M7700_ROUTINES + 1).refusal, M7700_REFUSED_ROUTINES);
+    same("the marks then", marks[0], 0xFF);
+    same("a list cut short", m7700_build_image_marks(image, 2, BASE, RESET, list, 14, marks, 2).refusal,
+         M7700_REFUSED_LIST);
+}
+
 static m7700_page_printed print(size_t image_len, size_t page_len)
 {
     return m7700_print_page(image, image_len, marks, image_len, BASE, RESET, page, page_len);
@@ -229,12 +264,12 @@ static void open_calls(void)
     same("the kind of JSR long", state[M7700_AT_ENTRY(0) + 4], M7700_KIND_RTL);
 }
 
-/* 01's table, and 02's number. */
+/* 01's table, and 02's numbers. */
 static void words(void)
 {
     static const char *const refusals[] = {"none", "length", "base", "reset", "mark", "code", "cut off", "overlap",
                                            "flow", "widths", "return", "RAM", "state", "steps", "list", "page",
-                                           "addresses", "unknown"};
+                                           "addresses", "routines", "unknown"};
     static const char *const stops[] = {"outside", "uncarried", "halt", "unmapped", "astray", "deep", "image store",
                                         "decimal", "unknown"};
     uint32_t i;
@@ -251,6 +286,7 @@ int main(void)
 {
     flags();
     mark_bits();
+    marks_built();
     pages();
     located_places();
     limits();

@@ -4,8 +4,9 @@
  * buffers of the greatest sizes. What it took reaches down to the lowest byte
  * that lost its paint; what entering and leaving such a stack takes by itself
  * is subtracted. Where the dynamic linker binds memcpy in the first call that
- * needs it, what that takes is counted there. Prints a line for each function
- * and the most; the exit status is 1 if that is over M7700_STACK_BYTES. */
+ * needs it, what that takes is counted there. Prints a line for each function,
+ * and the most; the exit status is 1 if the last, which builds marks, is over
+ * M7700_BUILD_STACK_BYTES or another is over M7700_STACK_BYTES. */
 #define _GNU_SOURCE
 #include <stdio.h>
 #include <stdlib.h>
@@ -14,7 +15,7 @@
 
 #include "m7700.h"
 
-enum { STACK = 4 * M7700_STACK_BYTES, BASE = 0x00C000, RESET = 0xC000, PAINT = 0xA5 };
+enum { STACK = 2 * M7700_BUILD_STACK_BYTES, BASE = 0x00C000, RESET = 0xC000, PAINT = 0xA5 };
 
 static uint8_t stack[STACK], image[M7700_IMAGE_BYTES], marks[M7700_IMAGE_BYTES];
 static uint8_t list[M7700_LIST_BYTES], page[M7700_PAGE_BYTES], state[M7700_STATE_BYTES], ram[M7700_RAM_BYTES];
@@ -59,6 +60,15 @@ static void call_write(void)
 static void call_read(void)
 {
     refusal = m7700_read_mark_list(list, length, marks, sizeof marks).refusal;
+}
+
+/* From the routine alone; the marks are as they were. */
+static void call_build(void)
+{
+    static const char routine[] = "C004\t0\t0\tS\t0\t0\n";
+
+    refusal = m7700_build_image_marks(image, sizeof image, BASE, RESET, (const uint8_t *)routine,
+                                      sizeof routine - 1, marks, sizeof marks).refusal;
 }
 
 static void call_print(void)
@@ -108,21 +118,21 @@ int main(void)
     } calls[] = {
         {"check", call_check}, {"write", call_write},   {"read", call_read},
         {"print", call_print}, {"locate", call_locate}, {"step", call_step},
-        {"run", call_run},
+        {"run", call_run},     {"build", call_build},
     };
-    size_t without = touched(call_nothing), most = 0, i;
+    size_t without = touched(call_nothing), most = 0, took = 0, i;
 
     make_program();
     for (i = 0; i < sizeof calls / sizeof calls[0]; i++) {
-        size_t took = touched(calls[i].call) - without;
-
         most = took > most ? took : most;
+        took = touched(calls[i].call) - without;
         printf("stack: %s %zu\n", calls[i].name, took);
         if (refusal != 0) {
             printf("stack: %s refused: %u %s\n", calls[i].name, refusal, m7700_refusal_word(refusal));
             return 1;
         }
     }
-    printf("stack: at most %zu of %d bytes\n", most, M7700_STACK_BYTES);
-    return most > M7700_STACK_BYTES;
+    printf("stack: at most %zu of %d bytes, to build marks %zu of %d\n", most, M7700_STACK_BYTES, took,
+           M7700_BUILD_STACK_BYTES);
+    return most > M7700_STACK_BYTES || took > M7700_BUILD_STACK_BYTES;
 }

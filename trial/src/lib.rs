@@ -1,6 +1,7 @@
 //! The proved library beside the simulator: the same cases to both, the
 //! answers and every byte of every lent buffer compared.
 
+pub mod build;
 pub mod check;
 pub mod faults;
 pub mod guard;

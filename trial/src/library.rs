@@ -50,6 +50,17 @@ extern "C" {
         places_len: usize,
     ) -> u64;
 
+    pub fn m7700_build_marks(
+        image: *const u8,
+        image_len: usize,
+        base: u32,
+        reset: u32,
+        routines: *const u8,
+        routines_len: usize,
+        marks: *mut u8,
+        marks_len: usize,
+    ) -> u64;
+
     pub fn m7700_step(
         image: *const u8,
         image_len: usize,

@@ -209,7 +209,9 @@ fn trial(args: &[&str]) -> Output {
 
 #[test]
 fn the_seed_alone_decides() {
-    for name in ["check", "lists", "print", "locate", "steps", "runs"] {
+    for name in [
+        "check", "lists", "print", "locate", "build", "steps", "runs",
+    ] {
         let once = trial(&[name, "5000", "1"]);
         assert!(once.status.success());
         assert_eq!(once.stdout, trial(&[name, "5000", "1"]).stdout);

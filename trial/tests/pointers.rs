@@ -3,8 +3,8 @@
 use sim7700::state::STATE_BYTES;
 use std::ptr::{null_mut, without_provenance_mut};
 use trial7700::library::{
-    m7700_check, m7700_locate, m7700_print, m7700_read_list, m7700_run, m7700_step,
-    m7700_write_list,
+    m7700_build_marks, m7700_check, m7700_locate, m7700_print, m7700_read_list, m7700_run,
+    m7700_step, m7700_write_list,
 };
 
 #[test]
@@ -71,6 +71,33 @@ fn at_length_0_any_pointer_will_do_for_addresses() {
         assert_eq!(answers, [1, 0, 0, 15, 16]);
     }
     assert_eq!(place, 0);
+}
+
+#[test]
+fn at_length_0_any_pointer_will_do_for_routines() {
+    let image = [0xDB];
+    let mut mark = [0];
+    let (i, m) = (image.as_ptr(), mark.as_mut_ptr());
+    let line = b"0000\t1\t0\tN\t0\t0\n";
+    for nowhere in [
+        null_mut(),
+        without_provenance_mut(1),
+        without_provenance_mut(usize::MAX),
+    ] {
+        // SAFETY: each pointer is valid for its length, and the mark overlaps
+        // nothing.
+        let answers = unsafe {
+            [
+                m7700_build_marks(nowhere, 0, 0, 0, nowhere, 0, nowhere, 0),
+                m7700_build_marks(i, 1, 0, 0, nowhere, 0, nowhere, 0),
+                m7700_build_marks(nowhere, 0, 0, 0, line.as_ptr(), 14, nowhere, 0),
+                m7700_build_marks(i, 1, 0, 0, line.as_ptr(), 15, m, 1),
+                m7700_build_marks(i, 1, 0, 0, nowhere, 0, m, 1),
+            ]
+        };
+        assert_eq!(answers, [1, 1, 14, 17, 0]);
+    }
+    assert_eq!(mark, [1]);
 }
 
 #[test]

@@ -4,7 +4,7 @@ use mathlib.Core.Path.{_≡_, refl, sym}
 use mathlib.Core.List.{List, [], _∷_, _++_}
 use Prim.Native.Nat.{ℕ, _+_, _-_, _≤_}
 use native.Mathlib.Omega.{arith}
-use lib.ListN.{length, take, drop, set}
+use lib.ListN.{length, take, drop, set, length-append}
 use lib.Seq.{length-take-le}
 use borrow.Rule.Slice.PartMut.{putMid}
 use Rattle.text.specs.Digits.{digits}
@@ -66,3 +66,10 @@ refused-put number offset k j given page part room p q =
     let front = front-next j (numberField offset lineEnd) part (put-front p (omega arith)) (q .same)
     (sym (q .size)) (omega (arith, p .most, q .most)) in
     record { size = sym (front .long); most = omega (arith, p .most, q .most); same = front .same }
+
+-- what is in front of a page is a part of it
+pub front-part : (bytes given page : List ℕ) (n : ℕ) → n ≡ length bytes → page ≡ bytes ++ drop n given
+    → (n ≤ length page) × (n ≡ length (take n page))
+front-part bytes given page n long same =
+    let inside : n ≤ length page = rw (same, length-append bytes (drop n given)) (omega arith) in
+    (inside, sym (length-take-le n page inside))

@@ -1,6 +1,6 @@
 // What the program check says of an image file and a list file: the answer, and the line that shows it.
 pub mod answers;
-mod lines;
+pub mod lines;
 
 use crate::answers::answer_for;
 use crate::lines::put_answer;

@@ -53,7 +53,7 @@ fn put_unread(page: &mut [u8]) -> usize
 }
 
 // Writes the line of an answer at the front of a page, and returns its length.
-pub(crate) fn put_answer(page: &mut [u8], answer: FileAnswer) -> usize
+pub fn put_answer(page: &mut [u8], answer: FileAnswer) -> usize
     requires { ⌜ spec.lineLimit ≤ length (now page) ⌝ }
     ensures { λ r. ⌜ spec.Put (spec.lineFor answer) spec.lineLimit r (now (page .entry)) (now (page .exit)) ⌝ }
 {

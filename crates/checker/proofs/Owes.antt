@@ -60,16 +60,16 @@ kept-mark number operand mark h e = rw (kept-effect number e) (same-fields mark 
 is-start : (m x kind rm rx : ℕ) → isStart (markOf m x kind rm rx) ≡ true
 is-start m x kind rm rx = eq-eqb (markOf m x kind rm rx % 2) 1 (omega arith)
 
-routine-start : (kind : Kind) (mark there : ℕ) → isStart (markOfRoutine kind mark there) ≡ true
+pub routine-start : (kind : Kind) (mark there : ℕ) → isStart (markOfRoutine kind mark there) ≡ true
 unfolding markOfRoutine
 routine-start kind mark there = is-start (markM mark) (markX mark) (kindNumber kind) (returnM there) (returnX there)
 
-return-start : (mark there : ℕ) → isStart (markOnReturn mark there) ≡ true
+pub return-start : (mark there : ℕ) → isStart (markOnReturn mark there) ≡ true
 unfolding markOnReturn
 return-start mark there =
     is-start (returnM there) (returnX there) (markKind mark) (returnM mark) (returnX mark)
 
-after-start : (effect : WidthEffect) (operand mark : ℕ) → isStart (markAfter effect operand mark) ≡ true
+pub after-start : (effect : WidthEffect) (operand mark : ℕ) → isStart (markAfter effect operand mark) ≡ true
 unfolding markAfter
 after-start effect operand mark =
     is-start (mAfter effect (markM mark) operand) (xAfter effect (markX mark) operand) (markKind mark) (returnM mark)

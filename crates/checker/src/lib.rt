@@ -1,5 +1,5 @@
 // The check: accepted, or the number and the place of the first rule that is broken.
-mod owed;
+pub mod owed;
 mod start;
 
 use crate::start::step_at;
@@ -8,6 +8,7 @@ use codepages::pages;
 use image::bad_mark;
 use image::is_start;
 use image::test_marks;
+use packing::pack;
 use types::refusals::Refusal;
 use types::refusals::TestResult;
 use types::refusals::refusal_number;
@@ -16,6 +17,7 @@ ghost use mathlib.Core.Path.{_≡_};
 ghost use Prim.Native.Nat.{_+_, _≤_, _<_};
 ghost use lib.ListN.{length};
 ghost use Rattle.codepages.specs.Packing.{packedPages};
+ghost use Rattle.packing.specs.Packed.{packedVerdict};
 ghost use Rattle.prelude.specs.Choice.{pick};
 ghost use Rattle.types.specs.Addresses.{addressLimit, bankSize};
 ghost use Rattle.model.specs.Image.{isStart, startCount};
@@ -62,6 +64,14 @@ pub fn check(image: &[u8], marks: &[u8], base: u32, reset: u32) -> Verdict
         return Verdict::Refused { why, offset };
     }
     starts_verdict(&pages(), image, marks, base)
+}
+
+// The check's answer as a number. Every function of an archive that asks the check asks it here, so that the check has
+// one caller, in which LLVM inlines it.
+pub fn packed_verdict(image: &[u8], marks: &[u8], base: u32, reset: u32) -> u32
+    ensures { λ r. ⌜ r ≡ packedVerdict (spec.verdict (now (image .entry)) (now (marks .entry)) base reset) ⌝ }
+{
+    pack(check(image, marks, base, reset))
 }
 
 // 1 for a start, 0 for no start.

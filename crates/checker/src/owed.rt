@@ -51,7 +51,7 @@ fn mark_kept(mark: u8) -> u8
 }
 
 // The mark with the widths after the instruction of a layout. Most keep them, and their operand need not be read.
-fn mark_after_layout(image: &[u8], at: usize, layout: Layout, mark: u8) -> u8
+pub fn mark_after_layout(image: &[u8], at: usize, layout: Layout, mark: u8) -> u8
     requires { ⌜ Fitting (length (now image) - at) layout ⌝ }
     ensures { λ r. ⌜
         r ≡ rules.markAfter (unpacked (layout .number) .effect)
@@ -66,7 +66,7 @@ fn mark_after_layout(image: &[u8], at: usize, layout: Layout, mark: u8) -> u8
 }
 
 // Where the instruction of a layout at an address goes by its target.
-fn target_of_layout(image: &[u8], at: usize, layout: Layout, address: u32) -> u32
+pub fn target_of_layout(image: &[u8], at: usize, layout: Layout, address: u32) -> u32
     requires { ⌜ Fitting (length (now image) - at) layout × (address < addressLimit) ⌝ }
     ensures { λ r. ⌜ r ≡ rules.targetAddress (instructionOf (drop at (now (image .entry))) layout) address ⌝ }
 {
@@ -81,7 +81,7 @@ fn target_of_layout(image: &[u8], at: usize, layout: Layout, address: u32) -> u3
 
 // The mark at an address, 0 outside the image. Below the base the difference wraps, so that one comparison is enough:
 // the marks end before the address limit, and no wrapped place is one of theirs.
-pub(crate) fn mark_in(marks: &[u8], base: u32, address: u32) -> u8
+pub fn mark_in(marks: &[u8], base: u32, address: u32) -> u8
     requires { ⌜ base + length (now marks) ≤ addressLimit ⌝ }
     ensures { λ r. ⌜ r ≡ markAt (now (marks .entry)) base address ⌝ }
 {
@@ -96,7 +96,7 @@ fn requirement(address: u32, mark: u8) -> Requirement
 }
 
 // The mark that a call requires at its target.
-fn mark_of_routine(kind: Kind, mark: u8, there: u8) -> u8
+pub fn mark_of_routine(kind: Kind, mark: u8, there: u8) -> u8
     ensures { λ r. ⌜ r ≡ rules.markOfRoutine kind mark there ⌝ }
 {
     mark_of(
@@ -109,7 +109,7 @@ fn mark_of_routine(kind: Kind, mark: u8, there: u8) -> u8
 }
 
 // The mark that a call requires at the address after it.
-fn mark_on_return(mark: u8, there: u8) -> u8
+pub fn mark_on_return(mark: u8, there: u8) -> u8
     ensures { λ r. ⌜ r ≡ rules.markOnReturn mark there ⌝ }
 {
     let m = return_m(there);

@@ -4,23 +4,25 @@
 use mathlib.Core.Path.{_≡_, ap, _∙_}
 use Rattle.packing.specs.Packed.{verdictNumbers, checkNumbers, listReadNumbers, readNumbers, listWrittenNumbers}
 use Rattle.packing.specs.Packed.{writtenNumbers, pagePrintedNumbers, printedNumbers, packedRun, answerNumbers}
-use Rattle.packing.specs.Packed.{addressesLocatedNumbers, locatedNumbers, runNumbers}
+use Rattle.packing.specs.Packed.{addressesLocatedNumbers, locatedNumbers, packedBuilt, builtNumber, runNumbers}
 use Rattle.packing.proofs.Answers.{verdict-fits, read-fits}
 use Rattle.packing.proofs.Counts.{run-fits}
 use Rattle.packing.proofs.Unpacked.{verdict-unpacked, read-unpacked, written-unpacked, printed-unpacked}
-use Rattle.packing.proofs.Unpacked.{located-unpacked, run-unpacked}
+use Rattle.packing.proofs.Unpacked.{located-unpacked, built-unpacked, run-unpacked}
 use Rattle.types.specs.declared.rules.Verdict.{Verdict}
 use Rattle.types.specs.declared.lists.ListRead.{ListRead}
 use Rattle.types.specs.declared.lists.ListWritten.{ListWritten}
 use Rattle.types.specs.declared.pages.Printed.{Printed}
 use Rattle.types.specs.declared.probes.Located.{Located}
+use Rattle.types.specs.declared.refusals.TestResult.{TestResult}
 use Rattle.model.specs.Verdict.{verdict}
 use Rattle.model.specs.MarkList.{readList, writeList}
 use Rattle.model.specs.PrintedPage.{printed}
 use Rattle.model.specs.Locate.{located}
+use Rattle.model.specs.Routines.{built}
 use Rattle.model.specs.RunBytes.{RanBytes, ranBytes}
 use Rattle.demands.specs.Calls.{holds, CheckCall, ReadCall, WriteCall, PrintCall, MachineContract, run, step}
-use Rattle.demands.specs.Calls.{RunCall, numbers, memoryOf, listed, LocateCall}
+use Rattle.demands.specs.Calls.{RunCall, numbers, memoryOf, listed, LocateCall, BuildCall}
 
 -- the answer of each function to what a call is given
 abbrev pub verdictOf : CheckCall → Verdict
@@ -38,6 +40,9 @@ printedOf c = printed (holds (c .image)) (holds (c .marks)) (c .base) (c .reset)
 abbrev pub locatedOf : LocateCall → Located
 locatedOf c =
     located (holds (c .image)) (holds (c .marks)) (c .base) (c .reset) (listed (c .addresses)) (listed (c .places))
+
+abbrev pub builtOf : BuildCall → TestResult
+builtOf c = built (holds (c .image)) (c .base) (c .reset) (holds (c .routines)) (holds (c .marks))
 
 abbrev pub ranOf : RunCall → RanBytes
 ranOf c = ranBytes (memoryOf c) (holds (c .state)) (c .steps)
@@ -73,6 +78,9 @@ print-numbers c = ap printedNumbers (c .kept .0) ∙ printed-unpacked (printedOf
 
 pub locate-numbers : (c : LocateCall) → locatedNumbers (c .result) ≡ addressesLocatedNumbers (locatedOf c)
 locate-numbers c = ap locatedNumbers (c .kept .0) ∙ located-unpacked (locatedOf c)
+
+pub build-number : (c : BuildCall) → builtNumber (c .result) ≡ packedBuilt (builtOf c)
+build-number c = ap builtNumber (c .kept .0) ∙ built-unpacked (builtOf c)
 
 pub run-numbers : (c : RunCall) → numbers c ≡ answerNumbers (ranOf c .answer)
 run-numbers c =

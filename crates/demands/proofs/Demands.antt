@@ -12,6 +12,7 @@ use lib.ListN.{length, take, drop}
 use Rattle.loader.proofs.m7700_check.Met as CheckMet
 use Rattle.loader.proofs.m7700_read_list.Met as ReadMet
 use Rattle.loader.proofs.m7700_write_list.Met as WriteMet
+use Rattle.loader.proofs.m7700_build_marks.Met as BuildMet
 use Rattle.loader.proofs.m7700_print.Met as PrintMet
 use Rattle.loader.proofs.m7700_locate.Met as LocateMet
 use Rattle.loader.proofs.m7700_run.Met as RunMet
@@ -121,6 +122,7 @@ demand-1 = record {
         check = λ κs given. tt;
         read = λ κs given. tt;
         write = λ κs given. tt;
+        build = λ κs given. tt;
         print = λ κs given. tt;
         locate = λ κs given. tt;
         run = λ κs given. tt;
@@ -131,6 +133,7 @@ demand-1 = record {
         check = λ κs given last. refl;
         read = λ κs given last. refl;
         write = λ κs given last. refl;
+        build = λ κs given last. (refl, refl);
         print = λ κs given last. (refl, refl);
         locate = λ κs given last. (refl, refl, refl);
         run = λ κs given last. refl;
@@ -150,6 +153,7 @@ demand-1 = record {
         check = CheckMet.met;
         read = ReadMet.met;
         write = WriteMet.met;
+        build = BuildMet.met;
         print = PrintMet.met;
         locate = LocateMet.met;
         run = RunMet.met;

@@ -3,3 +3,4 @@ pub mod Calls
 pub mod Demands
 pub mod Requests
 pub mod Locating
+pub mod Building

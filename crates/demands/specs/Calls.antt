@@ -1,4 +1,4 @@
--- The seven exported functions (loader/src/lib.rt) and their calls: what a call is given, its result, what it leaves,
+-- The eight exported functions (loader/src/lib.rt) and their calls: what a call is given, its result, what it leaves,
 -- and that it keeps its function's contract. Each contract is the function's own: `Learnt` is what a caller learns by
 -- the `ensures` that stand there, `Asked` what its `requires` ask, and `statement` the theorem that its code keeps
 -- it, all made by the toolchain from the text there. So whoever weakens a promise weakens what is known of a call
@@ -21,6 +21,9 @@ use Rattle.loader.proofs.m7700_read_list.Statement as ReadStatement
 use Rattle.loader.proofs.m7700_write_list as Write
 use Rattle.loader.proofs.m7700_write_list.Reads as WriteReads
 use Rattle.loader.proofs.m7700_write_list.Statement as WriteStatement
+use Rattle.loader.proofs.m7700_build_marks as Build
+use Rattle.loader.proofs.m7700_build_marks.Reads as BuildReads
+use Rattle.loader.proofs.m7700_build_marks.Statement as BuildStatement
 use Rattle.loader.proofs.m7700_print as Print
 use Rattle.loader.proofs.m7700_print.Reads as PrintReads
 use Rattle.loader.proofs.m7700_print.Statement as PrintStatement
@@ -48,6 +51,7 @@ pub record AllReturn : Type 2 where
   pub check : {M : Type 1} → CheckStatement.statement M
   pub read : {M : Type 1} → ReadStatement.statement M
   pub write : {M : Type 1} → WriteStatement.statement M
+  pub build : {M : Type 1} → BuildStatement.statement M
   pub print : {M : Type 1} → PrintStatement.statement M
   pub locate : {M : Type 1} → LocateStatement.statement M
   pub run : {M : Type 1} → RunStatement.statement M
@@ -58,14 +62,16 @@ pub record NothingAsked : Type 0 where
   pub check : (κs : Lfts 2) (given : Args Check.signature κs) → CheckReads.Asked κs given
   pub read : (κs : Lfts 2) (given : Args Read.signature κs) → ReadReads.Asked κs given
   pub write : (κs : Lfts 2) (given : Args Write.signature κs) → WriteReads.Asked κs given
+  pub build : (κs : Lfts 3) (given : Args Build.signature κs) → BuildReads.Asked κs given
   pub print : (κs : Lfts 3) (given : Args Print.signature κs) → PrintReads.Asked κs given
   pub locate : (κs : Lfts 4) (given : Args Locate.signature κs) → LocateReads.Asked κs given
   pub run : (κs : Lfts 3) (given : Args Run.signature κs) → RunReads.Asked κs given
   pub step : (κs : Lfts 3) (given : Args Step.signature κs) → StepReads.Asked κs given
 
 -- What is lent by `&` is after a call as it was given: all that the check is lent, the text of a list that is read, the
--- marks of one that is written, image and marks of a page that is printed, these and the addresses where addresses are
--- located, the image of the machine. `last` is what the buffers lent by `&mut` hold then.
+-- marks of one that is written, image and routine list where marks are built, image and marks of a page that is
+-- printed, these and the addresses where addresses are located, the image of the machine. `last` is what the buffers
+-- lent by `&mut` hold then.
 pub record SharedStays : Type 0 where
   pub check : (κs : Lfts 2) (given : Args Check.signature κs) (last : Lasts Check.ended κs given)
       → atExit Check.ended κs given last ≡ given
@@ -73,6 +79,9 @@ pub record SharedStays : Type 0 where
       → atExit Read.ended κs given last .0 ≡ given .0
   pub write : (κs : Lfts 2) (given : Args Write.signature κs) (last : Lasts Write.ended κs given)
       → atExit Write.ended κs given last .0 ≡ given .0
+  pub build : (κs : Lfts 3) (given : Args Build.signature κs) (last : Lasts Build.ended κs given)
+      → (atExit Build.ended κs given last .0 ≡ given .0)
+      × (atExit Build.ended κs given last .1 .1 .1 .0 ≡ given .1 .1 .1 .0)
   pub print : (κs : Lfts 3) (given : Args Print.signature κs) (last : Lasts Print.ended κs given)
       → (atExit Print.ended κs given last .0 ≡ given .0) × (atExit Print.ended κs given last .1 .0 ≡ given .1 .0)
   pub locate : (κs : Lfts 4) (given : Args Locate.signature κs) (last : Lasts Locate.ended κs given)
@@ -119,6 +128,12 @@ WriteContract marks base reset page result page-left =
     let κs : Lfts 2 = (marks .lifetime, (page .lifetime, tt)) in
     let given : Args Write.signature κs = (marks .lent, (base, (reset, (page .lent, tt)))) in
     WriteReads.Learnt κs given result (atExit Write.ended κs given (tt, (tt, (tt, (page-left, tt)))))
+
+abbrev pub BuildContract : Buffer → ℕ → ℕ → Buffer → Buffer → ℕ → List ℕ → Type 0
+BuildContract image base reset routines marks result marks-left =
+    let κs : Lfts 3 = (image .lifetime, (routines .lifetime, (marks .lifetime, tt))) in
+    let given : Args Build.signature κs = (image .lent, (base, (reset, (routines .lent, (marks .lent, tt))))) in
+    BuildReads.Learnt κs given result (atExit Build.ended κs given (tt, (tt, (tt, (tt, (marks-left, tt))))))
 
 abbrev pub PrintContract : Buffer → Buffer → ℕ → ℕ → Buffer → ℕ → List ℕ → Type 0
 PrintContract image marks base reset page result page-left =
@@ -173,6 +188,17 @@ pub record WriteCall : Type 0 where
   pub result : ℕ
   pub page-left : List ℕ
   pub kept : WriteContract marks base reset page result page-left
+
+-- of `m7700_build_marks`
+pub record BuildCall : Type 0 where
+  pub image : Buffer
+  pub base : ℕ
+  pub reset : ℕ
+  pub routines : Buffer
+  pub marks : Buffer
+  pub result : ℕ
+  pub marks-left : List ℕ
+  pub kept : BuildContract image base reset routines marks result marks-left
 
 -- of `m7700_print`
 pub record PrintCall : Type 0 where

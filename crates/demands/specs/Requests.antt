@@ -1,19 +1,22 @@
 -- What the requests of document 02 claim of calls of the exported functions, a proposition a request, in the notions of
--- Demands.antt. Their proofs stand in proofs/Requests.antt and, of R-4, in proofs/Locating.antt.
+-- Demands.antt. Their proofs stand in proofs/Requests.antt, of R-4 in proofs/Locating.antt and of R-6 in
+-- proofs/Building.antt.
 -- Assumes nothing.
 use mathlib.Core.Path.{_≡_}
+use mathlib.Core.Logic.{_↔_}
 use Prim.Native.Nat.{ℕ, _*_, _≤_, _<_}
 use mathlib.Core.List.{List, [], _∷_, _++_, map}
 use lib.ListN.{length, getD, take, drop}
-use Rattle.packing.specs.Packed.{checkNumbers, printedNumbers, locatedNumbers}
+use Rattle.packing.specs.Packed.{checkNumbers, printedNumbers, locatedNumbers, builtNumber}
 use Rattle.types.specs.Refusals.{refusalNumber}
 use Rattle.model.specs.Image.{startCount}
 use Rattle.model.specs.Rules.{Accepts}
 use Rattle.model.specs.PrintedPage.{rowSize, pageText}
 use Rattle.model.specs.PageReading.{bytesOnPage, startsOnPage, coveredBytes, startsShown}
-use Rattle.model.specs.Grounds.{AnswersBy, locateGrounds}
+use Rattle.model.specs.Grounds.{AnswersBy, locateGrounds, buildGrounds}
 use Rattle.model.specs.Locate.{placeNumber, placeOf, marksTo}
-use Rattle.demands.specs.Calls.{Buffer, holds, CheckCall, PrintCall, listed, LocateCall}
+use Rattle.model.specs.Routines.{routineMarks, Admitted, Least, WithinLimits}
+use Rattle.demands.specs.Calls.{Buffer, holds, CheckCall, PrintCall, listed, LocateCall, BuildCall}
 
 -- two calls are given the same image, marks, base and reset
 abbrev pub GivenAlike : Buffer → Buffer → ℕ → ℕ → Buffer → Buffer → ℕ → ℕ → Type 0
@@ -95,3 +98,38 @@ pub record LocatesAddresses : Type 0 where
       → k < length (listed (c .addresses)) → listed (d .addresses) ≡ getD (listed (c .addresses)) k 0 ∷ []
       → 1 ≤ length (listed (d .places))
       → (locatedNumbers (d .result) .number ≡ 0) × (getD (d .places-left) 0 0 ≡ getD (c .places-left) k 0)
+
+-- ---- R-6
+
+-- the listed routines beside the image of a call: at the place of each its mark
+abbrev pub routinesOf : BuildCall → List ℕ
+routinesOf c = routineMarks (c .base) (length (holds (c .image))) (holds (c .routines))
+
+-- a marking that 'passes the check, holds every listed routine as listed, and has all call targets on the list'
+abbrev pub AdmittedBy : BuildCall → List ℕ → Type 0
+AdmittedBy c marks = Admitted (holds (c .image)) (c .base) (c .reset) (routinesOf c) marks
+
+-- a call of the check on what the builder was given, and on the marks that it left
+abbrev pub ChecksBuilt : BuildCall → CheckCall → Type 0
+ChecksBuilt c d =
+    (holds (d .image) ≡ holds (c .image)) × (holds (d .marks) ≡ c .marks-left) × (d .base ≡ c .base)
+    × (d .reset ≡ c .reset)
+
+pub record BuildsMarks : Type 0 where
+  -- 'Malformed text gets 14, an address outside the image 17, and a wrong image, base or marks length is as in the
+  -- check. Answers: 17, for no such marking or too many routines, after 14, 1 and 2.'
+  pub refuses : (c : BuildCall)
+      → AnswersBy (buildGrounds (holds (c .image)) (c .base) (c .reset) (holds (c .routines)) (holds (c .marks)))
+      refusalNumber 0 (builtNumber (c .result))
+  -- 'Input in form and within these limits is refused exactly if no marking passes the check, holds every listed
+  -- routine as listed, and has all call targets on the list.'
+  pub refused-exactly : (c : BuildCall)
+      → WithinLimits (holds (c .image)) (c .base) (holds (c .routines)) (holds (c .marks))
+      → (builtNumber (c .result) ≡ 17) ↔ ((marks : List ℕ) → AdmittedBy c marks → ⊥)
+  -- 01: 'A refusal leaves every buffer .. as given'
+  pub refused : (c : BuildCall) → 0 < builtNumber (c .result) → c .marks-left ≡ holds (c .marks)
+  -- 'The marks delivered are the least: each start in them stands, equally marked, in every such marking.'
+  pub delivered : (c : BuildCall) → builtNumber (c .result) ≡ 0
+      → Least (holds (c .image)) (c .base) (c .reset) (routinesOf c) (c .marks-left)
+  -- so a check of them accepts
+  pub checked : (c : BuildCall) (d : CheckCall) → builtNumber (c .result) ≡ 0 → ChecksBuilt c d → d .result ≡ 0

@@ -1,9 +1,10 @@
 // The interface for loaders written in C (include/m7700.h): numbers and slices, each slice as a pointer and a length.
-use checker::check;
+use builder::build_marks;
+use checker::packed_verdict;
 use locator::locate;
 use marklist::reader::read_list;
 use marklist::writer::write_list;
-use packing::pack;
+use packing::pack_built;
 use packing::pack_located;
 use packing::pack_printed;
 use packing::pack_read;
@@ -17,17 +18,18 @@ ghost use Rattle.model.specs.Memory.{memory};
 ghost use Rattle.model.specs.RunBytes.{ranBytes};
 ghost use Rattle.model.specs.Verdict.{verdict};
 ghost use Rattle.model.specs.MarkList.{readList, marksRead, writeList, pageWritten};
+ghost use Rattle.model.specs.Routines.{built, marksBuilt};
 ghost use Rattle.model.specs.PrintedPage.{printed, pagePrinted};
 ghost use Rattle.model.specs.Locate.{located, placesLocated};
-ghost use Rattle.packing.specs.Packed.{packedVerdict, packedRead, packedWritten, packedPrinted, packedLocated};
-ghost use Rattle.packing.specs.Packed.{packedRun};
+ghost use Rattle.packing.specs.Packed.{packedVerdict, packedRead, packedWritten, packedBuilt, packedPrinted};
+ghost use Rattle.packing.specs.Packed.{packedLocated, packedRun};
 
 // The check: 0 where the image is accepted, else the number of the first broken rule and its offset.
 #[no_mangle]
 pub extern "C" fn m7700_check(image: &[u8], marks: &[u8], base: u32, reset: u32) -> u32
     ensures { λ r. ⌜ r ≡ packedVerdict (verdict (now (image .entry)) (now (marks .entry)) base reset) ⌝ }
 {
-    pack(check(image, marks, base, reset))
+    packed_verdict(image, marks, base, reset)
 }
 
 // The reader of mark lists: 0 in the low byte and the list's base and reset above it, or the number that refuses it.
@@ -48,8 +50,27 @@ pub extern "C" fn m7700_write_list(marks: &[u8], base: u32, reset: u32, page: &m
     pack_written(write_list(marks, base, reset, page))
 }
 
+// The builder of marks: 0 where they were built, or the number that refuses the routine list.
+#[no_mangle]
+pub extern "C" fn m7700_build_marks(
+    image: &[u8],
+    base: u32,
+    reset: u32,
+    routines: &[u8],
+    marks: &mut [u8],
+) -> u64
+    ensures answer { λ r. ⌜
+        r ≡ packedBuilt (built (now (image .entry)) base reset (now (routines .entry)) (now (marks .entry)))
+        ⌝ }
+    ensures marks { λ _. ⌜
+        now (marks .exit) ≡ marksBuilt (now (image .entry)) base reset (now (routines .entry)) (now (marks .entry))
+        ⌝ }
+{
+    pack_built(build_marks(image, base, reset, routines, marks))
+}
+
 // The printed page: 0 in the low byte and the length of the rows above it; or the number that refuses it, with the
-// check's offset above it. It calls the exported check, which so keeps the one call of the check that LLVM inlines.
+// check's offset above it.
 #[no_mangle]
 pub extern "C" fn m7700_print(
     image: &[u8],

@@ -3,4 +3,5 @@ pub mod HeaderLaws
 pub mod LineLaws
 pub mod Walks
 pub mod Reading
+pub mod RoutineLines
 pub mod Writing

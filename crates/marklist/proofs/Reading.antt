@@ -26,6 +26,15 @@ use Rattle.prelude.proofs.Choice.{both-true}
 
 -- ---- 14
 
+-- nothing is left of a text behind its end
+pub nothing-left : (text : List ℕ) (end : ℕ) → end ≤ length text
+    → eqb end (length text) ≡ eqb (length (drop end text)) 0
+nothing-left text end inside = rw (length-drop end text) (by (eqb end (length text)) refl)
+  where
+    by : (b : Bool) → eqb end (length text) ≡ b → b ≡ eqb (length text - end) 0
+    by true h = sym (eq-eqb (length text - end) 0 (omega (arith, eqb-true end (length text) h)))
+    by false h = sym (ne-eqb (length text - end) 0 (λ z. eqb-false end (length text) h (omega arith)))
+
 module _ (h : Header) (text : List ℕ) where
   pub record Headed : Type 0 where
     pub few : h .length < lengthLimit
@@ -49,11 +58,7 @@ module _ (h : Header) (text : List ℕ) where
       → drop end text ≡ linesLeft (h .base % bankSize) (h .length) (drop (length (headerText h)) text)
       → eqb end (length text) ≡ isList h text
   unfolding isList leftOf linesText
-  list-by-end end e inside left = rw (e, ← left, length-drop end text) (by (eqb end (length text)) refl)
-    where
-      by : (b : Bool) → eqb end (length text) ≡ b → b ≡ eqb (length text - end) 0
-      by true h = sym (eq-eqb (length text - end) 0 (omega (arith, eqb-true end (length text) h)))
-      by false h = sym (ne-eqb (length text - end) 0 (λ z. eqb-false end (length text) h (omega arith)))
+  list-by-end end e inside left = rw (e, ← left) (nothing-left text end inside)
 
 -- ---- the marks
 

@@ -13,9 +13,9 @@ ghost use Prim.Native.Nat.{_≤_};
 ghost use lib.ListN.{length, drop};
 ghost use Rattle.model.specs.MarkList as spec;
 
-const BASE_DIGITS: usize = 6;
+pub const BASE_DIGITS: usize = 6;
 
-const RESET_DIGITS: usize = 4;
+pub const RESET_DIGITS: usize = 4;
 
 const LENGTH_DIGITS: usize = 5;
 

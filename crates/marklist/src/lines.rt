@@ -25,7 +25,7 @@ pub const TAB: u8 = b'\t';
 
 pub const LINE_END: u8 = b'\n';
 
-const ADDRESS_DIGITS: usize = 4;
+pub(crate) const ADDRESS_DIGITS: usize = 4;
 
 const LINE_SIZE: usize = 15;
 

@@ -66,11 +66,15 @@ fn reset_shown(text: &[u8], h: Header) -> bool
     mark_shown(&text[place..], first + before) == 1
 }
 
-// Fills marks with those that the lines of a text from a place on show, 00 where they show none.
-fn fill_marks(text: &[u8], at: usize, address: u32, marks: &mut [u8])
+// Fills marks with those that the lines of a text from a place on show, 00 where they show none; returns where the text
+// goes on behind its lines.
+pub fn fill_marks(text: &[u8], at: usize, address: u32, marks: &mut [u8]) -> usize
     requires { ⌜ (at ≤ length (now text)) × (address + length (now marks) < 4_294_967_296) ⌝ }
-    ensures { λ _. ⌜ now (marks .exit)
-        ≡ spec.marksShown address (length (now (marks .entry))) (drop at (now (text .entry))) ⌝ }
+    ensures { λ r. ⌜ (now (marks .exit)
+        ≡ spec.marksShown address (length (now (marks .entry))) (drop at (now (text .entry))))
+        × (r ≤ length (now (text .entry)))
+        × (drop r (now (text .entry))
+        ≡ spec.linesLeft address (length (now (marks .entry))) (drop at (now (text .entry)))) ⌝ }
 {
     let mut place = at;
     let mut i = 0;
@@ -80,6 +84,7 @@ fn fill_marks(text: &[u8], at: usize, address: u32, marks: &mut [u8])
         place += line_size(mark);
         i += 1;
     }
+    place
 }
 
 // 14, 1, 2, 3: what is tested of a text that shows a first line, for so many marks.

@@ -40,7 +40,7 @@ pub record Passed (page : ℕ) (bytes : List ℕ) (m x : ℕ) (i : Instruction) 
   pub inside : i .length ≤ length bytes
   pub operand : i .operand ≡ operandOf bytes (prefixBytes page) (i .length)
 
-same-whole : (i j : Instruction) → Decoded.Whole i ≡ Decoded.Whole j → i ≡ j
+pub same-whole : (i j : Instruction) → Decoded.Whole i ≡ Decoded.Whole j → i ≡ j
 same-whole i j h = cc
 
 made : (page : ℕ) (bytes : List ℕ) (m x : ℕ) (e : Entry) (n : ℕ) → e ≡ entryAt page (getD bytes (prefixBytes page) 0)

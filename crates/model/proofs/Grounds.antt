@@ -25,7 +25,7 @@ use Rattle.prelude.specs.Choice.{pick}
 use Rattle.types.specs.Addresses.{bankSize, addressLimit}
 use Rattle.model.specs.Image.{imageLimit, isStart, markKind, returnM, returnX, markOf}
 use Rattle.types.specs.Addresses.{inBankOf}
-use Rattle.model.specs.Image.{isFormed, lengthFits, baseFits, markAt, resetFits}
+use Rattle.model.specs.Image.{isFormed, lengthFits, baseFits, markAt, resetFits, startCount}
 use Rattle.types.specs.Refusals.{firstRefusal, answered}
 use Rattle.prelude.specs.First.{firstFrom}
 use Rattle.model.specs.Verdict.{badMark, allFormed}
@@ -44,6 +44,9 @@ use Rattle.model.specs.Grounds.{RunBytesAnswers, readGrounds, ReadAnswer
 use Rattle.model.specs.Grounds.{Unordered, HoldsOutside, WrongAddresses, locateGrounds, LocateAnswers}
 use Rattle.model.specs.Locate.{passOver, addressCount, isAscending, allInside, addressesFit, locateTests}
 use Rattle.model.specs.Locate.{locatedBy, located}
+use Rattle.model.specs.Grounds.{WrongRoutines, buildGrounds, BuildAnswers}
+use Rattle.model.specs.Routines.{isRoutineList, routineMarks, routinesInside, routineLimit, routinesFit, Admitted}
+use Rattle.model.specs.Routines.{hasMarking, buildTests, built}
 use Rattle.prelude.proofs.Choice.{both-true}
 use Rattle.prelude.proofs.First.{none-found}
 use Rattle.model.proofs.Verdict.{accepts-exactly, formed-all}
@@ -53,6 +56,9 @@ use Rattle.model.proofs.RoundTrips.{formed-marks}
 use Rattle.model.proofs.ListForm.{list-exactly}
 use Rattle.model.proofs.Run.{admitted-ran, refused-ran}
 use Rattle.model.proofs.Status.{number-status}
+use Rattle.model.proofs.TestResults.{failed-passed, same-why}
+use Rattle.model.proofs.LeastMarks.{has-marking, none-had}
+use Rattle.model.proofs.RoutineList.{routines-exactly, inside-exactly}
 use Rattle.model.proofs.Widths.{same-fields}
 
 -- ---- tests and what they fail on
@@ -416,3 +422,44 @@ locate-answers image marks base reset addresses places rules =
     (locateGrounds base (length image) addresses (length places))
     (locateTests base (length image) addresses (length places)) refl
     (wrong-addresses base (length image) addresses, λ _. (above (length addresses) (length places), λ _. tt)))
+
+-- ---- 17
+
+has-none : (image : List ℕ) (base reset : ℕ) (routines : List ℕ) → FailsOn (hasMarking image base reset routines)
+    ((marks : List ℕ) → Admitted image base reset routines marks → ⊥)
+has-none image base reset routines = (
+  λ e marks v. true≢false (sym (has-marking image base reset routines marks v) ∙ e),
+  none-had image base reset routines,
+)
+
+wrong-routines : (image : List ℕ) (base reset : ℕ) (text : List ℕ)
+    → FailsOn (routinesFit base (length image) text
+    && hasMarking image base reset (routineMarks base (length image) text)) (WrongRoutines image base reset text)
+unfolding routinesFit
+wrong-routines image base reset text =
+    let n = length image in
+    let routines = routineMarks base n text in
+    of-three (routinesInside base n text) (leb (startCount routines) routineLimit)
+    (hasMarking image base reset routines)
+    (not-holding (routinesInside base n text) (inside-exactly base n text)) (above (startCount routines) routineLimit)
+    (has-none image base reset routines)
+
+same-answer : (so : TestResult) → answered so TestResult.Failed TestResult.Passed ≡ so
+same-answer TestResult.Passed = refl
+same-answer (TestResult.Failed why) = refl
+
+-- 14, 1, 2, 17
+pub build-answers : BuildAnswers
+unfolding built
+build-answers image base reset text marks =
+    let tests = buildTests image base reset text (length marks) in
+    rw (← same-answer (firstRefusal tests))
+    (answers-by TestResult.Failed TestResult.Passed
+    (record { one = λ why other e. same-why e; none = λ why e. failed-passed e })
+    (buildGrounds image base reset text marks) tests refl (
+      not-holding (isRoutineList text) (routines-exactly text),
+      λ _. (
+        wrong-length (length image) (length marks),
+        λ _. (wrong-base base (length image), λ _. (wrong-routines image base reset text, λ _. tt)),
+      ),
+    ))

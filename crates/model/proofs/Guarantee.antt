@@ -54,7 +54,7 @@ use Rattle.model.specs.Run.{joinedHistoryWithin}
 use Rattle.model.specs.Guarantee.{Every, Marked, WholeInside, Safe, EndsWell, RunOutcome, Begins, Guarantee}
 use Rattle.model.specs.Guarantee.{OwnKind, OwnKinds}
 use Rattle.model.proofs.CodeMap.{call-keeps, return-keeps}
-use Rattle.model.proofs.Decode.{decodes, decoded-entry}
+use Rattle.model.proofs.Decode.{same-whole, decodes, decoded-entry}
 use Rattle.model.proofs.Widths.{m-after-bit, x-after-bit, kind-bits}
 use Rattle.prelude.proofs.Choice.{both-true}
 use Rattle.model.proofs.Verdict.{accepted-rules}
@@ -491,9 +491,6 @@ module _ (bytes : List ℕ) (m x : ℕ) (i : Instruction) (whole : decode bytes 
   return-kept h =
       let e : i .entry ≡ entryAt page code = decoded-entry bytes m x i whole .0 in
       rw e (return-keeps page code kind (rw e at h))
-
-same-whole : (i j : Instruction) → Decoded.Whole i ≡ Decoded.Whole j → i ≡ j
-same-whole i j h = cc
 
 -- what a step shows
 record Steps (image marks : List ℕ) (base : ℕ) (ram : List ℕ) (s : State) : Type 0 where

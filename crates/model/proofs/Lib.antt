@@ -14,6 +14,9 @@ pub mod PrintedPage
 pub mod PageReading
 pub mod PrintedAnswers
 pub mod Locate
+pub mod Routines
+pub mod LeastMarks
+pub mod RoutineList
 pub mod Memory
 pub mod Status
 pub mod Step

@@ -41,7 +41,7 @@ lower end low high text h (start above address mark rest from below inside start
     start low address mark rest (omega arith) below inside started formed more
 
 -- what the addresses in turn take whole is lines of starts
-taken-lines : (end address n : ℕ) (text : List ℕ) → address + n ≡ end → linesLeft address n text ≡ []
+pub taken-lines : (end address n : ℕ) (text : List ℕ) → address + n ≡ end → linesLeft address n text ≡ []
     → StartLines end address text
 unfolding linesLeft markShown lineSize
 taken-lines end address zero text e left = rw left (none address)
@@ -71,7 +71,7 @@ taken-own address n mark rest inside started formed =
     (ap (linesLeft (address + 1) n) (drop-at (line address mark) rest 15 (length-line address mark)))
 
 -- the addresses in turn take lines of starts whole
-lines-taken : (end address n : ℕ) (text : List ℕ) → address + n ≡ end → StartLines end address text
+pub lines-taken : (end address n : ℕ) (text : List ℕ) → address + n ≡ end → StartLines end address text
     → linesLeft address n text ≡ []
 unfolding linesLeft markShown lineSize
 lines-taken end address zero text e (none low) = refl

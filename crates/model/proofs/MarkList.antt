@@ -150,7 +150,7 @@ unfolding shownAgain fieldsMark fields bitShown kindShown digit kindLetter isFor
 all-again = tt
 
 -- a mark in form is 0 or a start, and has seven bits
-formed-mark : (mark : ℕ) → isFormed mark ≡ true → (mark ≡ 0) ⊎ ((isStart mark ≡ true) × (mark < 128))
+pub formed-mark : (mark : ℕ) → isFormed mark ≡ true → (mark ≡ 0) ⊎ ((isStart mark ≡ true) × (mark < 128))
 unfolding isFormed
 formed-mark mark h = by (eqb mark 0) (isStart mark) (ltb mark 128) refl refl refl h
   where

@@ -102,7 +102,7 @@ abbrev refusals : List Refusal
 refusals =
     Refusal.Length ∷ Refusal.Length ∷ Refusal.Base ∷ Refusal.Reset ∷ Refusal.Mark ∷ Refusal.Code ∷ Refusal.CutOff
     ∷ Refusal.Overlap ∷ Refusal.Flow ∷ Refusal.Widths ∷ Refusal.Return ∷ Refusal.Ram ∷ Refusal.State ∷ Refusal.Steps
-    ∷ Refusal.List ∷ Refusal.Page ∷ Refusal.Addresses ∷ []
+    ∷ Refusal.List ∷ Refusal.Page ∷ Refusal.Addresses ∷ Refusal.Routines ∷ []
 
 abbrev refusalAt : ℕ → Refusal
 refusalAt n = getD refusals n Refusal.Length
@@ -125,6 +125,7 @@ numbered Refusal.Steps = (omega arith, omega arith, refl)
 numbered Refusal.List = (omega arith, omega arith, refl)
 numbered Refusal.Page = (omega arith, omega arith, refl)
 numbered Refusal.Addresses = (omega arith, omega arith, refl)
+numbered Refusal.Routines = (omega arith, omega arith, refl)
 
 -- a refusal's number is one of a byte, not 0, and no other refusal's
 pub refusal-range : (why : Refusal) → (0 < refusalNumber why) × (refusalNumber why < 256)

@@ -1,7 +1,7 @@
 -- 01, 'Numbers': on which grounds a run, the reader and the writer refuse, in the words of the table, 'Given when'; and
--- 02, R-4: on which a list of addresses is refused. The number given is that of the first ground that holds: 'A run is
--- refused exactly when one of the numbers tested for a run holds .., and answers the first such number'. Nothing here
--- says how a ground is tested.
+-- 02, R-4 and R-6: on which a list of addresses and one of routines are. The number given is that of the first ground
+-- that holds: 'A run is refused exactly when one of the numbers tested for a run holds .., and answers the first such
+-- number'. Nothing here says how a ground is tested.
 -- Assumes nothing.
 use mathlib.Core.Path.{_≡_}
 use mathlib.Core.Logic.{_↔_, _⊎_}
@@ -15,15 +15,16 @@ use Rattle.types.specs.declared.lists.ListRead.{ListRead}
 use Rattle.types.specs.declared.lists.ListWritten.{ListWritten}
 use Rattle.types.specs.declared.machine.State.{State}
 use Rattle.types.specs.declared.refusals.Refusal.{Refusal}
+use Rattle.types.specs.declared.refusals.TestResult.{TestResult}
 use Rattle.types.specs.declared.probes.Located.{Located}
 use Rattle.types.specs.declared.runs.RunAnswer.{RunAnswer}
 use Rattle.types.specs.Refusals.{refusalNumber}
 use Rattle.types.specs.Addresses.{bankSize, addressLimit}
 use Rattle.model.specs.Image.{imageLimit, isStart, markM, markX, markKind, returnM}
 use Rattle.types.specs.Addresses.{inBankOf}
-use Rattle.model.specs.Image.{returnX, markAt}
+use Rattle.model.specs.Image.{returnX, markAt, startCount}
 use Rattle.model.specs.MarkList.{listText, headerShown, marksOf, readList, writeList}
-use Rattle.model.specs.ListForm.{IsMarkList}
+use Rattle.model.specs.ListForm.{StartLines, IsMarkList}
 use Rattle.model.specs.StatusBits.{ps}
 use Rattle.model.specs.Memory.{Memory}
 use Rattle.model.specs.Step.{callLimit, returnOf, kindOf}
@@ -32,6 +33,7 @@ use Rattle.model.specs.StateBytes.{stateSize, stateOf}
 use Rattle.model.specs.RunBytes.{ranBytes}
 use Rattle.model.specs.Rules.{Accepts}
 use Rattle.model.specs.Locate.{passOver, addressCount, located}
+use Rattle.model.specs.Routines.{IsRoutineList, routineMarks, routineLimit, Admitted, built}
 
 -- ---- the first ground that holds
 
@@ -209,3 +211,31 @@ LocateAnswers =
     → AnswersBy (locateGrounds base (length image) addresses (length places)) (λ why. Located.NotLocated why 0)
     (Located.MarksRead (passOver image marks base addresses .read))
     (located image marks base reset addresses places)
+
+-- ---- marks built from a routine list
+
+-- 14: 'Malformed text'
+abbrev pub WrongRoutineList : List ℕ → Type 0
+WrongRoutineList text = IsRoutineList text → ⊥
+
+-- 17: 'an address outside the image', 'too many routines', 'no such marking'
+abbrev pub WrongRoutines : List ℕ → ℕ → ℕ → List ℕ → Type 0
+WrongRoutines image base reset text =
+    (StartLines (base % bankSize + length image) (base % bankSize) text → ⊥)
+    ⊎ (routineLimit < startCount (routineMarks base (length image) text))
+    ⊎ ((marks : List ℕ) → Admitted image base reset (routineMarks base (length image) text) marks → ⊥)
+
+-- '17 .. after 14, 1 and 2'
+abbrev pub buildGrounds : List ℕ → ℕ → ℕ → List ℕ → List ℕ → Grounds
+buildGrounds image base reset text marks =
+    (WrongRoutineList text, Refusal.List)
+    ∷ (WrongLength (length image) (length marks), Refusal.Length)
+    ∷ (WrongBase base (length image), Refusal.Base)
+    ∷ (WrongRoutines image base reset text, Refusal.Routines)
+    ∷ []
+
+abbrev pub BuildAnswers : Type 0
+BuildAnswers =
+    (image : List ℕ) (base reset : ℕ) (text marks : List ℕ)
+    → AnswersBy (buildGrounds image base reset text marks) TestResult.Failed TestResult.Passed
+    (built image base reset text marks)

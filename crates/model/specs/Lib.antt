@@ -13,6 +13,7 @@ pub mod ListForm
 pub mod PrintedPage
 pub mod PageReading
 pub mod Locate
+pub mod Routines
 pub mod Memory
 pub mod Addressing
 pub mod Arithmetic

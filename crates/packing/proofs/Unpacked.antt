@@ -13,6 +13,7 @@ use Rattle.types.specs.declared.lists.ListWritten.{ListWritten}
 use Rattle.types.specs.declared.pages.Printed.{Printed}
 use Rattle.types.specs.declared.probes.Located.{Located}
 use Rattle.types.specs.declared.refusals.Refusal.{Refusal}
+use Rattle.types.specs.declared.refusals.TestResult.{TestResult}
 use Rattle.types.specs.declared.runs.End.{End}
 use Rattle.types.specs.declared.runs.RunAnswer.{RunAnswer}
 use Rattle.types.specs.Addresses.{addressLimit}
@@ -26,7 +27,7 @@ use Rattle.packing.specs.Packed.{packedRead, ReadFits, listReadNumbers, 
 use Rattle.packing.specs.Packed.{packedWritten, listWrittenNumbers, writtenNumbers}
 use Rattle.packing.specs.Packed.{passedOn, packedPrinted, pagePrintedNumbers, printedNumbers}
 use Rattle.packing.specs.Packed.{packedLocated, addressesLocatedNumbers, locatedNumbers}
-use Rattle.packing.specs.Packed.{placeStart, placeKind}
+use Rattle.packing.specs.Packed.{placeStart, placeKind, packedBuilt, builtNumber}
 use Rattle.packing.specs.Packed.{packedRun, RunFits, answerNumbers, runNumbers}
 
 pub verdict-unpacked : (v : Verdict) → Fits v → checkNumbers (packedVerdict v) ≡ verdictNumbers v
@@ -110,6 +111,10 @@ pub place-parts : (start : ℕ) → start < addressLimit
     → (placeStart (placeNumber (within start)) ≡ start) × (placeKind (placeNumber (within start)) ≡ 1)
     × (placeStart (placeNumber (behind start)) ≡ start) × (placeKind (placeNumber (behind start)) ≡ 2)
 place-parts start small = (omega arith, omega arith, omega arith, omega arith)
+
+pub built-unpacked : (a : TestResult) → builtNumber (packedBuilt a) ≡ packedBuilt a
+built-unpacked (TestResult.Failed why) = omega (arith, refusal-range why .1)
+built-unpacked TestResult.Passed = refl
 
 end-below : (end : End) → endNumber end < 256
 end-below End.Done = omega arith

@@ -9,6 +9,7 @@ use Rattle.types.specs.declared.lists.ListRead.{ListRead}
 use Rattle.types.specs.declared.lists.ListWritten.{ListWritten}
 use Rattle.types.specs.declared.pages.Printed.{Printed}
 use Rattle.types.specs.declared.probes.Located.{Located}
+use Rattle.types.specs.declared.refusals.TestResult.{TestResult}
 use Rattle.types.specs.declared.runs.RunAnswer.{RunAnswer}
 use Rattle.types.specs.Addresses.{addressLimit, bankSize}
 use Rattle.types.specs.Refusals.{refusalNumber}
@@ -153,6 +154,16 @@ placeStart place = place % 2 ^ 24
 
 abbrev pub placeKind : ℕ → ℕ
 placeKind place = place / 2 ^ 24
+
+-- ---- marks built from a routine list: the number in bits 0 to 7, and nothing above it
+
+abbrev pub packedBuilt : TestResult → ℕ
+packedBuilt (TestResult.Failed why) = refusalNumber why
+packedBuilt TestResult.Passed = 0
+
+-- as `m7700_build_image_marks` takes it
+abbrev pub builtNumber : ℕ → ℕ
+builtNumber result = result % 2 ^ 8
 
 -- ---- a run: the refusal in bits 0 to 7; where that is 0, the end in bits 8 to 15, the steps in bits 16 to 39 and the
 -- calls in bits 40 to 63

@@ -5,6 +5,7 @@ use types::lists::ListWritten;
 use types::machine::Stop;
 use types::pages::Printed;
 use types::probes::Located;
+use types::refusals::TestResult;
 use types::refusals::refusal_number;
 use types::rules::Verdict;
 use types::runs::End;
@@ -14,7 +15,7 @@ ghost use Rattle.model.specs.Run.{endNumber};
 ghost use Rattle.model.specs.Step.{stopNumber};
 ghost use Rattle.packing.specs.Packed.{packedVerdict, Fits, packedRead, ReadFits, packedWritten, WrittenFits};
 ghost use Rattle.packing.specs.Packed.{passedOn, packedPrinted, PrintedFits, packedLocated, LocatedFits};
-ghost use Rattle.packing.specs.Packed.{packedRun, RunFits};
+ghost use Rattle.packing.specs.Packed.{packedBuilt, packedRun, RunFits};
 
 // The check's answer: the number above the offset, 0 where the image is accepted.
 pub fn pack(answer: Verdict) -> u32
@@ -77,6 +78,16 @@ pub fn pack_located(answer: Located) -> u64
     match answer {
         Located::NotLocated { why, offset } => refusal_number(why) as u64 + offset as u64 * 256,
         Located::MarksRead(count) => count as u64 * 256,
+    }
+}
+
+// The answer of the builder of marks: the refusal's number, or 0.
+pub fn pack_built(answer: TestResult) -> u64
+    ensures { λ r. ⌜ r ≡ packedBuilt answer ⌝ }
+{
+    match answer {
+        TestResult::Failed(why) => refusal_number(why) as u64,
+        TestResult::Passed => 0,
     }
 }
 

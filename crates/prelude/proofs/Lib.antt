@@ -3,5 +3,6 @@ pub mod Choice
 pub mod First
 pub mod Concat
 pub mod Bytes
+pub mod Lists
 pub mod Table
 pub mod Match

@@ -3,3 +3,4 @@ pub mod Choice
 pub mod First
 pub mod Concat
 pub mod Bytes
+pub mod Lists

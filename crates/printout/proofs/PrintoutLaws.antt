@@ -2,11 +2,10 @@
 -- image's rows, one for each of at most 16,384 starts, have room, so the page is not refused for its length.
 -- Assumes nothing.
 use mathlib.Core.Path.{_≡_, refl, sym, ap, _∙_}
-use mathlib.Core.List.{List, _++_}
+use mathlib.Core.List.{List}
 use Prim.Native.Nat.{ℕ, _+_, _≤_}
 use native.Mathlib.Omega.{arith}
-use lib.ListN.{length, take, drop, length-append}
-use lib.Seq.{length-take-le}
+use lib.ListN.{length}
 use Rattle.types.specs.declared.lists.Header.{Header}
 use Rattle.types.specs.declared.lists.ListRead.{ListRead}
 use Rattle.types.specs.declared.pages.Printed.{Printed}
@@ -99,10 +98,3 @@ module _ (image text : List ℕ) where
       → printout image text ≡ printoutBy (listAnswer image text) image text
   unfolding printout
   within-limits short few = rw (← both-short image text short (listAnswer image text) refl few)
-
--- what is in front of a page is a part of it
-pub front-part : (bytes given page : List ℕ) (n : ℕ) → n ≡ length bytes → page ≡ bytes ++ drop n given
-    → (n ≤ length page) × (n ≡ length (take n page))
-front-part bytes given page n long same =
-    let inside : n ≤ length page = rw (same, length-append bytes (drop n given)) (omega arith) in
-    (inside, sym (length-take-le n page inside))

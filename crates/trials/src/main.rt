@@ -124,4 +124,6 @@ fn main() {
     try_files(Kind::Print, &mut print);
     let mut locate = *b"locate-00.bin";
     try_files(Kind::Locate, &mut locate);
+    let mut build = *b"build-00.bin";
+    try_files(Kind::Build, &mut build);
 }

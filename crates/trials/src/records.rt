@@ -18,6 +18,7 @@ use crate::parts::take_u64;
 use crate::parts::take_words;
 use crate::parts::words;
 use check::same;
+use loader::m7700_build_marks;
 use loader::m7700_check;
 use loader::m7700_locate;
 use loader::m7700_print;
@@ -42,6 +43,7 @@ pub(crate) enum Kind {
     Write,
     Print,
     Locate,
+    Build,
 }
 
 // What a record shows: the number of its answer, and whether the call did what it says.
@@ -60,6 +62,7 @@ pub(crate) fn trial_at(kind: Kind, file: &[u8], at: &mut usize) -> Trial {
         Kind::Write => try_page(file, at, false),
         Kind::Print => try_page(file, at, true),
         Kind::Locate => try_locate(file, at),
+        Kind::Build => try_build(file, at),
     }
 }
 
@@ -194,5 +197,30 @@ fn try_locate(file: &[u8], at: &mut usize) -> Trial {
     Trial {
         number: (answer % 256) as usize,
         agrees: places.len() == size && given == answer && same_words(places, after),
+    }
+}
+
+// Marks built from a routine list, and those that it leaves.
+fn try_build(file: &[u8], at: &mut usize) -> Trial {
+    let base = take_u32(file, at);
+    let reset = take_u32(file, at);
+    let image = take_bytes(file, at);
+    let routines = take_bytes(file, at);
+    let size = take_u32(file, at) as usize;
+    let mut marks_space = space();
+    let mut after_space = space();
+    let marks = front(&mut marks_space, size);
+    let after = front(&mut after_space, size);
+    let mut again = *at;
+    take_over(file, &mut again, after, 0, size);
+    take_over(file, at, marks, 0, size);
+    let answer = take_u64(file, at);
+    if answer % 256 == 0 {
+        take_over(file, at, after, 0, size);
+    }
+    let given = m7700_build_marks(image, base, reset, routines, marks);
+    Trial {
+        number: (answer % 256) as usize,
+        agrees: marks.len() == size && given == answer && same(marks, after),
     }
 }

@@ -7,7 +7,7 @@ use mathlib.Core.List.{List, [], _∷_}
 use Rattle.types.specs.declared.refusals.Refusal.{Refusal}
 use Rattle.types.specs.declared.refusals.TestResult.{TestResult}
 
--- the table's numbers, by its words; 02, R-4: 'Answers: 16'
+-- the table's numbers, by its words; 02, R-4: 'Answers: 16', R-6: 'Answers: 17'
 abbrev pub refusalNumber : Refusal → ℕ
 refusalNumber Refusal.Length = 1
 refusalNumber Refusal.Base = 2
@@ -25,6 +25,7 @@ refusalNumber Refusal.Steps = 13
 refusalNumber Refusal.List = 14
 refusalNumber Refusal.Page = 15
 refusalNumber Refusal.Addresses = 16
+refusalNumber Refusal.Routines = 17
 
 -- tests in their order, each with what refuses where it fails
 abbrev pub Tests : Type 0

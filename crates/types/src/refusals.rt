@@ -1,4 +1,4 @@
-// Why a call is refused: document 01, 'Numbers', 1 to 15, and document 02, R-4, 16.
+// Why a call is refused: document 01, 'Numbers', 1 to 15, and document 02, R-4, 16, R-6, 17.
 ghost use mathlib.Core.Path.{_≡_};
 ghost use Rattle.types.specs.Refusals as spec;
 
@@ -20,6 +20,7 @@ pub enum Refusal {
     List,
     Page,
     Addresses,
+    Routines,
 }
 
 // The papers' number of a refusal.
@@ -43,6 +44,7 @@ pub fn refusal_number(why: Refusal) -> u8
         Refusal::List => 14,
         Refusal::Page => 15,
         Refusal::Addresses => 16,
+        Refusal::Routines => 17,
     }
 }
 

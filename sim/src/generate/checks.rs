@@ -13,7 +13,7 @@ pub fn check_case(rng: &mut Rng) -> CheckCase {
 }
 
 /// A mark byte of good form.
-fn good_mark(rng: &mut Rng) -> u8 {
+pub(super) fn good_mark(rng: &mut Rng) -> u8 {
     loop {
         let mark = rng.byte() | 1;
         if well_formed(mark) {

@@ -55,7 +55,7 @@ pub fn read_case(rng: &mut Rng) -> ReadCase {
 
 const TEXT_BYTES: [u8; 16] = *b"01279AFIJNSLac\t\n";
 
-fn damage_byte(rng: &mut Rng, text: &mut Vec<u8>) {
+pub(super) fn damage_byte(rng: &mut Rng, text: &mut Vec<u8>) {
     let at = rng.index(text.len());
     let byte = match rng.below(4) {
         0 => rng.byte(),
@@ -71,7 +71,7 @@ fn damage_byte(rng: &mut Rng, text: &mut Vec<u8>) {
 }
 
 /// One more digit in a field: at its front or at its end.
-fn overlong(rng: &mut Rng, text: &mut Vec<u8>) {
+pub(super) fn overlong(rng: &mut Rng, text: &mut Vec<u8>) {
     let fields: Vec<usize> = (1..text.len())
         .filter(|&k| matches!(text[k], b'\t' | b'\n'))
         .collect();
@@ -83,7 +83,7 @@ fn overlong(rng: &mut Rng, text: &mut Vec<u8>) {
 }
 
 /// Swaps two lines, or says one twice.
-fn reorder(rng: &mut Rng, text: &mut Vec<u8>) {
+pub(super) fn reorder(rng: &mut Rng, text: &mut Vec<u8>) {
     let mut lines: Vec<Vec<u8>> = text
         .split_inclusive(|&b| b == b'\n')
         .map(<[u8]>::to_vec)
@@ -280,16 +280,18 @@ fn aimed_text(rng: &mut Rng, number: u8) -> ReadCase {
 }
 
 /// The lines of the starts among marks.
-fn starts_of(marks: &[u8], base: u32) -> String {
-    let mut text = String::new();
-    for (k, &mark) in marks.iter().enumerate().filter(|(_, m)| **m != 0) {
-        let bit = |mask: u8| (mark & mask != 0) as u8;
-        let kind = ['N', 'S', 'L'][(mark >> 3 & 3) as usize];
-        let address = (base & 0xFFFF) + k as u32;
-        let (m, x, rm, rx) = (bit(2), bit(4), bit(0x20), bit(0x40));
-        text += &format!("{address:04X}\t{m}\t{x}\t{kind}\t{rm}\t{rx}\n");
-    }
-    text
+pub(super) fn starts_of(marks: &[u8], base: u32) -> String {
+    let starts = marks.iter().enumerate().filter(|(_, m)| **m != 0);
+    let line = |(k, &mark): (usize, &u8)| start_line((base & 0xFFFF) + k as u32, mark);
+    starts.map(line).collect()
+}
+
+/// The line of a start at an address in the bank.
+pub fn start_line(address: u32, mark: u8) -> String {
+    let bit = |mask: u8| (mark & mask != 0) as u8;
+    let kind = ['N', 'S', 'L'][(mark >> 3 & 3) as usize];
+    let (m, x, rm, rx) = (bit(2), bit(4), bit(0x20), bit(0x40));
+    format!("{address:04X}\t{m}\t{x}\t{kind}\t{rm}\t{rx}\n")
 }
 
 /// One list in form and many that are not quite: lines in wrong order, twice

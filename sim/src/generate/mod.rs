@@ -1,8 +1,11 @@
 //! Cases drawn by seed: the same seed gives the same cases everywhere.
 
 mod aims;
+mod builds;
 mod checks;
 mod depths;
+mod flows;
+mod hand_made;
 mod lists;
 mod locates;
 mod places;
@@ -15,13 +18,20 @@ mod transfers;
 mod values;
 
 pub use aims::{continued_runs, refused_by, stopped_by};
+pub use builds::{
+    build_by, build_case, called, fitting, many_routines, misfit_by, BuildCase, MISFITS,
+};
 pub use checks::{check_case, damaged, hostile_check};
 pub use depths::{depth_runs, depth_steps, FORMER_CALLS, FORMER_STATE_BYTES};
-pub use lists::{out_of_form, read_by, read_case, write_by, write_case, ReadCase, WriteCase};
+pub use flows::{backwards, calling, straight};
+pub use hand_made::{hand_made, HandMade};
+pub use lists::{
+    out_of_form, read_by, read_case, start_line, write_by, write_case, ReadCase, WriteCase,
+};
 pub use locates::{crowd, locate_by, locate_case, LocateCase, PLACE_BEFORE};
 pub use places::placed_steps;
 pub use prints::{print_by, print_case, PrintCase};
-pub use programs::{accepted, every_code, gentle, Program};
+pub use programs::{accepted, codes_in_a_row, every_code, gentle, Program};
 pub use runs::{refused_run, run_case};
 pub use steps::{aimed_step, edge_step, step_case, RunCase, EDGES};
 pub use transfers::{transfer_runs, transfer_steps};

@@ -43,6 +43,8 @@ enum To {
     Routine(usize),
     /// A start with the same mark as the instruction's own.
     Alike,
+    /// The instruction behind.
+    Next,
 }
 
 struct Fixup {
@@ -55,11 +57,11 @@ struct Fixup {
 }
 
 /// A code with its page.
-type Code = (usize, u8);
+pub(super) type Code = (usize, u8);
 
 /// The carried codes that only go on to the next address at the same widths,
 /// and those of them that a gentle program uses.
-fn straight_codes() -> &'static (Vec<Code>, Vec<Code>) {
+pub(super) fn straight_codes() -> &'static (Vec<Code>, Vec<Code>) {
     static CODES: OnceLock<(Vec<Code>, Vec<Code>)> = OnceLock::new();
     CODES.get_or_init(|| {
         let all = (0..3).flat_map(|page| (0..=255).map(move |code| (page, code)));
@@ -333,11 +335,39 @@ impl<'a> Builder<'a> {
         }
     }
 
+    /// A routine that returns at once, at the widths in force.
+    fn returning(&mut self, long: bool) {
+        let (kind, code) = if long {
+            (KIND_RTL, 0x6B)
+        } else {
+            (KIND_RTS, 0x60)
+        };
+        self.returns = kind | self.widths << 4;
+        self.entries.push(self.image.len());
+        self.emit(&[code]);
+    }
+
+    /// The program at a drawn base, its targets written; the reset is the
+    /// start at this offset.
+    fn finish(mut self, lowest: u32, reset: usize) -> CheckCase {
+        let base = sound_base(self.rng, self.image.len(), lowest);
+        for fixup in std::mem::take(&mut self.fixups) {
+            self.resolve(&fixup, base);
+        }
+        CheckCase {
+            image: self.image,
+            marks: self.marks,
+            base,
+            reset: (base & 0xFFFF) + reset as u32,
+        }
+    }
+
     /// Chooses a target and writes it into the operand.
     fn resolve(&mut self, fixup: &Fixup, base: u32) {
         let target = match fixup.to {
             To::Routine(index) => self.entries[index],
             To::Alike => self.alike(fixup),
+            To::Next => fixup.after,
         };
         let distance = target as i64 - fixup.after as i64;
         let address = base + target as u32;
@@ -406,17 +436,8 @@ fn build(rng: &mut Rng, plan: Plan) -> CheckCase {
         builder.routine(current);
     }
     let lowest = if plan.gentle { plan.ram as u32 } else { 0 };
-    let base = sound_base(builder.rng, builder.image.len(), lowest);
-    for fixup in std::mem::take(&mut builder.fixups) {
-        builder.resolve(&fixup, base);
-    }
-    let reset = (base & 0xFFFF) + builder.entries[0] as u32;
-    CheckCase {
-        image: builder.image,
-        marks: builder.marks,
-        base,
-        reset,
-    }
+    let main = builder.entries[0];
+    builder.finish(lowest, main)
 }
 
 /// An accepted program, mostly small; seldom one with branches out of the
@@ -464,41 +485,73 @@ pub fn every_code(rng: &mut Rng) -> Vec<CheckCase> {
     cases
 }
 
-fn one_code(rng: &mut Rng, code: Code, widths: u8) -> CheckCase {
-    let word = entry_of(code.0, code.1).word;
-    let kind = match word {
-        Word::RTS => KIND_RTS,
-        Word::RTL => KIND_RTL,
-        _ => 0,
-    };
-    let plan = Plan {
-        routines: 1,
-        items: 0,
-        gentle: false,
-        ram: 0,
-    };
-    let mut builder = Builder::new(rng, plan, Vec::new());
-    builder.bring(widths);
-    if kind != 0 {
-        // A return stands in a routine of its own, behind the main one.
-        builder.emit(&[0xDB]);
-        builder.returns = kind | widths << 4;
-    }
-    place_code(&mut builder, code, word);
-    let base = sound_base(builder.rng, builder.image.len(), 0);
-    for fixup in std::mem::take(&mut builder.fixups) {
-        builder.resolve(&fixup, base);
-    }
-    CheckCase {
-        image: builder.image,
-        marks: builder.marks,
-        base,
-        reset: base & 0xFFFF,
-    }
+/// For each pair of widths an accepted program that comes to every carried
+/// code there, one behind another.
+pub fn codes_in_a_row(rng: &mut Rng) -> Vec<CheckCase> {
+    let widths = [0, marks::M, marks::X, marks::M | marks::X];
+    widths.map(|widths| in_a_row(rng, widths)).into()
 }
 
-/// The instruction itself with its targets and an end behind it.
-fn place_code(builder: &mut Builder, code: Code, word: Word) {
+fn in_a_row(rng: &mut Rng, widths: u8) -> CheckCase {
+    let mut builder = Builder::new(rng, NO_PLAN, Vec::new());
+    builder.bring(widths);
+    for (page, code) in (0..3).flat_map(|page| (0..=255).map(move |code| (page, code))) {
+        let entry = entry_of(page, code);
+        if entry.carried && !ends(entry.word) {
+            let long = entry.mode == Mode::ABL;
+            place(
+                &mut builder,
+                (page, code),
+                To::Next,
+                To::Routine(long as usize),
+            );
+            builder.bring(widths);
+        }
+    }
+    // BEQ goes to STP and over it to WIT.
+    builder.emit(&[0xF0, 0x01]);
+    builder.emit(&[0xDB]);
+    builder.emit(&[0xCB]);
+    for long in [false, true] {
+        builder.returning(long);
+    }
+    builder.finish(0, 0)
+}
+
+fn ends(word: Word) -> bool {
+    matches!(word, Word::RTS | Word::RTL | Word::STP | Word::WIT)
+}
+
+/// For a program that is put together by hand.
+const NO_PLAN: Plan = Plan {
+    routines: 1,
+    items: 0,
+    gentle: false,
+    ram: 0,
+};
+
+fn one_code(rng: &mut Rng, code: Code, widths: u8) -> CheckCase {
+    let word = entry_of(code.0, code.1).word;
+    let mut builder = Builder::new(rng, NO_PLAN, Vec::new());
+    builder.bring(widths);
+    if matches!(word, Word::RTS | Word::RTL) {
+        // A return stands in a routine of its own, behind the main one.
+        builder.emit(&[0xDB]);
+        builder.returning(word == Word::RTL);
+        return builder.finish(0, 0);
+    }
+    place(&mut builder, code, To::Alike, To::Routine(0));
+    if !ends(word) {
+        builder.emit(&[0xDB]);
+    }
+    if word == Word::JSR {
+        builder.returning(entry_of(code.0, code.1).mode == Mode::ABL);
+    }
+    builder.finish(0, 0)
+}
+
+/// An instruction with its targets; the widths are those after it.
+fn place(builder: &mut Builder, code: Code, jump: To, call: To) {
     let at = builder.code(code);
     let entry = entry_of(code.0, code.1);
     let form = match (entry.mode, builder.image.len() - at) {
@@ -508,32 +561,18 @@ fn place_code(builder: &mut Builder, code: Code, word: Word) {
         _ => Form::Near,
     };
     let operand = *builder.image.last().unwrap_or(&0);
-    match word {
-        Word::RTS | Word::RTL | Word::STP | Word::WIT => return,
-        Word::BRA | Word::JMP => builder.fix(at, form, To::Alike, true),
-        Word::JSR => {
-            builder.fix(at, form, To::Routine(0), false);
-            builder.emit(&[0xDB]);
-            let long = matches!(form, Form::Long);
-            builder.returns = (if long { KIND_RTL } else { KIND_RTS }) | builder.widths << 4;
-            builder.entries.push(builder.image.len());
-            builder.emit(&[if long { 0x6B } else { 0x60 }]);
-            return;
-        }
+    let m = if operand & 0x20 != 0 { marks::M } else { 0 };
+    let x = if operand & 0x10 != 0 { marks::X } else { 0 };
+    match entry.word {
+        Word::BRA | Word::JMP => builder.fix(at, form, jump, true),
+        Word::JSR => builder.fix(at, form, call, false),
         Word::SEM => builder.widths |= marks::M,
         Word::CLM => builder.widths &= !marks::M,
-        Word::SEP | Word::CLP => {
-            let m = if operand & 0x20 != 0 { marks::M } else { 0 };
-            let x = if operand & 0x10 != 0 { marks::X } else { 0 };
-            builder.widths = match word {
-                Word::SEP => builder.widths | m | x,
-                _ => builder.widths & !(m | x),
-            };
-        }
+        Word::SEP => builder.widths |= m | x,
+        Word::CLP => builder.widths &= !(m | x),
         _ if matches!(entry.mode, Mode::REL | Mode::DIR_b_REL | Mode::ABS_b_REL) => {
             builder.fix(at, Form::Near, To::Alike, true);
         }
         _ => {}
     }
-    builder.emit(&[0xDB]);
 }

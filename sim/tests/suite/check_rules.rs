@@ -7,14 +7,14 @@ use sim7700::generate::{self, Rng};
 use std::collections::BTreeSet;
 
 /// A line of the stored listing.
-struct Line {
+pub struct Line {
     word: String,
     mode: String,
     lengths: [usize; 4],
     carried: bool,
 }
 
-fn code_map() -> Vec<Line> {
+pub fn code_map() -> Vec<Line> {
     let line = |text: &str| {
         let f: Vec<&str> = text.split(' ').collect();
         Line {
@@ -66,11 +66,11 @@ fn widths_after(word: &str, bytes: &[u8], (m, x): (u8, u8)) -> (u8, u8) {
     }
 }
 
-struct Case<'a> {
-    map: &'a [Line],
-    image: &'a [u8],
-    marks: &'a [u8],
-    base: u32,
+pub struct Case<'a> {
+    pub map: &'a [Line],
+    pub image: &'a [u8],
+    pub marks: &'a [u8],
+    pub base: u32,
 }
 
 impl Case<'_> {
@@ -125,22 +125,40 @@ impl Case<'_> {
         }
     }
 
-    /// The broken rules of the start at an offset.
-    fn broken_at(&self, offset: usize, here: Mark) -> Vec<u8> {
+    /// The carried code of a start, and its length; else 6 or 5.
+    fn code_at(&self, offset: usize, here: Mark) -> Result<(&Line, usize), u8> {
         let first = self.image[offset];
         let (page, behind) = match first {
             0x42 => (1, self.image.get(offset + 1)),
             0x89 => (2, self.image.get(offset + 1)),
             _ => (0, Some(&first)),
         };
-        let Some(&code) = behind else {
-            return vec![6];
-        };
-        let line = &self.map[page * 256 + code as usize];
-        if !line.carried {
-            return vec![5];
-        }
+        let line = &self.map[page * 256 + *behind.ok_or(6)? as usize];
         let length = line.lengths[(here.widths.0 * 2 + here.widths.1) as usize];
+        if line.carried {
+            Ok((line, length))
+        } else {
+            Err(5)
+        }
+    }
+
+    /// The addresses that the start at an offset of an accepted image looks
+    /// at.
+    pub fn looks_at(&self, offset: usize) -> Vec<i64> {
+        let here = mark(self.marks[offset]).unwrap();
+        let (line, length) = self.code_at(offset, here).unwrap();
+        let end = offset + length;
+        let next = self.base as i64 + end as i64;
+        let asked = self.obligations(line, &self.image[offset..end], here, next);
+        asked.into_iter().map(|(address, _)| address).collect()
+    }
+
+    /// The broken rules of the start at an offset.
+    fn broken_at(&self, offset: usize, here: Mark) -> Vec<u8> {
+        let (line, length) = match self.code_at(offset, here) {
+            Ok(code) => code,
+            Err(number) => return vec![number],
+        };
         let mut broken = vec![];
         if (1..length).any(|k| self.marks.get(offset + k).is_some_and(|b| b & 1 == 1)) {
             broken.push(7);
@@ -223,7 +241,7 @@ fn agree(map: &[Line], image: &[u8], marks: &[u8], base: u32, reset: u32) -> u32
 }
 
 /// The 37 marks of good form.
-fn good_marks() -> Vec<u8> {
+pub fn good_marks() -> Vec<u8> {
     (0..=255).filter(|&b| !bad_form(b)).collect()
 }
 

@@ -18,6 +18,7 @@ fn the_seed_alone_decides() {
         assert_eq!(write_case(&mut a), write_case(&mut b));
         assert_eq!(print_case(&mut a), print_case(&mut b));
         assert_eq!(locate_case(&mut a), locate_case(&mut b));
+        assert_eq!(build_case(&mut a), build_case(&mut b));
         let mut other = Rng::new(seed + 1000);
         assert_ne!(Rng::new(seed).next_u64(), other.next_u64());
     }
@@ -212,6 +213,54 @@ fn located_addresses_lie_everywhere() {
     assert!(counts.contains(&0) && counts.contains(&256));
 }
 
+/// Of marks that are built a good part has calls; refused ones stay.
+#[test]
+fn builds_reach_every_number() {
+    let mut rng = Rng::new(9);
+    let mut count = BTreeMap::new();
+    let mut calls = 0;
+    for _ in 0..20_000 {
+        let case = build_case(&mut rng);
+        let (answer, marks) = case.answer();
+        *count.entry(answer).or_insert(0) += 1;
+        if answer == 0 {
+            let starts = (0..marks.len()).filter(|&at| marks[at] != 0);
+            calls += starts
+                .into_iter()
+                .any(|at| matches!(case.image[at], 0x20 | 0x22)) as u32;
+        } else {
+            assert_eq!(marks, case.marks);
+        }
+    }
+    assert!(count.keys().eq(&[0, 1, 2, 14, 17]), "{count:?}");
+    assert!(count.values().all(|&n| n >= 100), "{count:?}");
+    assert!(count[&0] > 7_000 && calls > 3_000, "{count:?}, {calls}");
+}
+
+/// A list of a program's own starts fits, whatever the marks before.
+#[test]
+fn fitting_lists_fit() {
+    let mut rng = Rng::new(10);
+    let mut before = BTreeSet::new();
+    for _ in 0..3_000 {
+        let case = fitting(&mut rng);
+        assert_eq!(case.answer().0, 0, "{case:02X?}");
+        before.extend(case.marks);
+    }
+    assert_eq!(before.len(), 256);
+}
+
+/// Each way to break a list or its image is found.
+#[test]
+fn misfits_do_not_fit() {
+    let mut rng = Rng::new(11);
+    for way in 0..MISFITS {
+        let refused = |_: &u32| misfit_by(&mut rng, way).answer().0 == 17;
+        let count = (0..400).filter(refused).count();
+        assert!(count > 50, "{way}: {count}");
+    }
+}
+
 /// Aimed cases have their number, whatever the seed.
 #[test]
 fn aimed_cases_have_their_number() {
@@ -236,6 +285,9 @@ fn aimed_cases_have_their_number() {
             }
             for number in (0..=10).chain([15, 16]) {
                 assert_eq!(locate_by(&mut rng, number).answer().0 as u8, number);
+            }
+            for number in [0, 1, 2, 14, 17] {
+                assert_eq!(build_by(&mut rng, number).answer().0, number as u64);
             }
         }
     }

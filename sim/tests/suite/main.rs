@@ -2,6 +2,7 @@
 
 mod addressing;
 mod arithmetic;
+mod build;
 mod check_order;
 mod check_rules;
 mod codemap;
@@ -10,6 +11,7 @@ mod depth;
 mod flags_and_bits;
 mod flow;
 mod generator;
+mod least;
 mod lists;
 mod locate;
 mod print;

@@ -4,7 +4,7 @@ use sim7700::codes::{entry_of, page_of, Register, Word};
 use sim7700::generate::VALUES;
 use sim7700::state::{depth, Registers};
 use sim7700::vectors::*;
-use sim7700::{check, locate, print, read_list, run, write_list};
+use sim7700::{build_marks, check, locate, print, read_list, run, write_list};
 use std::collections::{BTreeMap, BTreeSet};
 
 #[test]
@@ -17,8 +17,9 @@ fn the_same_seed_gives_the_same_bytes() {
     }
 }
 
-/// The check, read, write, print and locate files hang on no machine and are kept
-/// elsewhere too: their bytes stay (FNV-1a, 64 bits, over names and bytes).
+/// The check, read, write, print, locate and build files hang on no machine and
+/// are kept elsewhere too: their bytes stay (FNV-1a, 64 bits, over names and
+/// bytes).
 #[test]
 fn kept_files_stay() {
     let files = files(DEFAULT_SEED);
@@ -28,6 +29,7 @@ fn kept_files_stay() {
         ("write", 0x2715_9E08_4B43_DBF8),
         ("print", 0xBFD2_0B57_B7A6_4DA3),
         ("locate", 0x46BF_DD1B_E326_CC19),
+        ("build", 0x5074_28B2_0E1E_33AA),
     ] {
         let mut hash = 0xCBF2_9CE4_8422_2325u64;
         for (name, bytes) in files.iter().filter(|(name, _)| name.starts_with(kind)) {
@@ -116,6 +118,7 @@ fn try_record(kind: &str, r: &mut Reader) -> u64 {
         }
         "print" => try_print(r),
         "locate" => try_locate(r),
+        "build" => try_build(r),
         _ => try_run(r),
     }
 }
@@ -151,6 +154,21 @@ fn try_locate(r: &mut Reader) -> u64 {
     assert_eq!(given, answer);
     assert!(places == expected, "{image:02X?} {marks:02X?}");
     answer & 0xFF
+}
+
+fn try_build(r: &mut Reader) -> u64 {
+    let (base, reset) = (r.number(4) as u32, r.number(4) as u32);
+    let (image, routines) = (r.bytes(), r.bytes());
+    let mut marks = r.bytes().to_vec();
+    let answer = r.number(8);
+    let mut expected = marks.clone();
+    if answer & 0xFF == 0 {
+        expected = r.take(marks.len()).to_vec();
+    }
+    let given = build_marks(image, base, reset, routines, &mut marks);
+    assert_eq!(given, answer);
+    assert!(marks == expected, "{image:02X?}");
+    answer
 }
 
 fn try_run(r: &mut Reader) -> u64 {
@@ -206,6 +224,7 @@ fn records_agree_and_every_number_stands() {
     least("write", &all(&WRITE_NUMBERS), 100);
     least("print", &all(&PRINT_NUMBERS), 100);
     least("locate", &all(&LOCATE_NUMBERS), 100);
+    least("build", &all(&BUILD_NUMBERS), 100);
 }
 
 /// Every carried code is printed at each pair of widths.
@@ -225,6 +244,48 @@ fn carried_codes_are_printed() {
 #[test]
 fn locations_take_four_files() {
     assert_eq!(locate_files(DEFAULT_SEED).len(), 4);
+}
+
+/// What a record of a build file has, its answer last.
+fn build_parts<'a>(r: &mut Reader<'a>) -> (&'a [u8], &'a [u8], u64) {
+    r.take(8);
+    let (image, routines) = (r.bytes(), r.bytes());
+    let marks = r.bytes();
+    let answer = r.number(8);
+    if answer & 0xFF == 0 {
+        r.take(marks.len());
+    }
+    (image, routines, answer)
+}
+
+/// At most 800 records, few of them long: with the longest image, with 256
+/// routines and with one more, with a malformed line behind 299 others.
+#[test]
+fn build_records_are_few() {
+    let (mut records, mut long) = (0, 0);
+    let mut seen = BTreeSet::new();
+    for (_, bytes) in build_files(DEFAULT_SEED) {
+        let mut r = Reader(&bytes);
+        for _ in 0..r.number(4) {
+            let (image, routines, answer) = build_parts(&mut r);
+            records += 1;
+            long += (image.len() + routines.len() > 300) as u32;
+            let lines = routines.iter().filter(|&&b| b == b'\n').count();
+            seen.insert((image.len().max(16_383), lines.clamp(256, 300), answer));
+        }
+    }
+    assert!((400..=800).contains(&records), "{records}");
+    assert!(long < 30, "{long}");
+    for wanted in [
+        (16_384, 256, 0),
+        (16_385, 256, 1),
+        (16_383, 256, 0),
+        (16_383, 257, 17),
+        (16_383, 300, 17),
+        (16_383, 300, 14),
+    ] {
+        assert!(seen.contains(&wanted), "{wanted:?}");
+    }
 }
 
 /// Page, code and widths of each row in a record of a print file.

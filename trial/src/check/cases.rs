@@ -152,7 +152,7 @@ fn every_form(visit: &mut impl FnMut(&CheckCase)) {
 
 /// Instructions whose rule looks at marks. Those with a target have it a byte
 /// behind the next address, from offset 1 at 00C000.
-const FLOWS: [&[u8]; 24] = [
+pub const FLOWS: [&[u8]; 24] = [
     &[NOP],
     &[STP],
     &[0xCB],       // WIT

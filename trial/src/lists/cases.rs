@@ -118,8 +118,9 @@ fn short() -> Vec<Marked> {
 pub fn read_sweeps(mut visit: impl FnMut(&ReadCase)) {
     for marked in short() {
         let (text, marks_len) = (marked.list(), marked.marks.len());
-        every_damage(&text, marks_len, &mut visit);
-        every_order(&text, marks_len, &mut visit);
+        let mut visit_text = |text| visit(&ReadCase { text, marks_len });
+        every_damage(&text, &mut visit_text);
+        every_order(&text, &mut visit_text);
         for marks_len in (0..marks_len + 3).chain(MAX_IMAGE - 1..MAX_IMAGE + 2) {
             visit(&ReadCase {
                 text: text.clone(),
@@ -133,13 +134,8 @@ pub fn read_sweeps(mut visit: impl FnMut(&ReadCase)) {
 
 /// Each byte changed to each other, each put in at each place, and the text
 /// without a byte, cut off there, or beginning there.
-fn every_damage(text: &[u8], marks_len: usize, visit: &mut impl FnMut(&ReadCase)) {
-    let mut visit = |parts: &[&[u8]]| {
-        visit(&ReadCase {
-            text: parts.concat(),
-            marks_len,
-        })
-    };
+pub fn every_damage(text: &[u8], visit: &mut impl FnMut(Vec<u8>)) {
+    let mut visit = |parts: &[&[u8]]| visit(parts.concat());
     for at in 0..=text.len() {
         let (front, rest) = text.split_at(at);
         let behind = rest.get(1..).unwrap_or_default();
@@ -154,14 +150,9 @@ fn every_damage(text: &[u8], marks_len: usize, visit: &mut impl FnMut(&ReadCase)
 }
 
 /// Each two lines exchanged, and each line once more at each place.
-fn every_order(text: &[u8], marks_len: usize, visit: &mut impl FnMut(&ReadCase)) {
+pub fn every_order(text: &[u8], visit: &mut impl FnMut(Vec<u8>)) {
     let lines: Vec<&[u8]> = text.split_inclusive(|&byte| byte == b'\n').collect();
-    let mut visit = |lines: &[&[u8]]| {
-        visit(&ReadCase {
-            text: lines.concat(),
-            marks_len,
-        })
-    };
+    let mut visit = |lines: &[&[u8]]| visit(lines.concat());
     for (one, &line) in lines.iter().enumerate() {
         for other in 0..lines.len() {
             let mut exchanged = lines.clone();

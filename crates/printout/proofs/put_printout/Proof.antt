@@ -1,6 +1,7 @@
 -- Over a limit, and where nothing is printed, the line is that of the program check; else the rows are the page.
 -- Assumes nothing.
-use Rattle.printout.proofs.PrintoutLaws.{rows-taken, none-taken, over-limit, within-limits, front-part}
+use Rattle.printout.proofs.PrintoutLaws.{rows-taken, none-taken, over-limit, within-limits}
+use Rattle.answer.proofs.PutLaws.{front-part}
 use Rattle.answer.proofs.AnswerLaws.{long-list, long-image}
 use Rattle.model.specs.PrintedPage.{pageAfter}
 use Rattle.printout.specs.Printout as spec

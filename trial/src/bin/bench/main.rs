@@ -1,13 +1,14 @@
-//! bench check|lists|print|locate|runs: times the library beside the simulator on
-//! the same inputs. Every ratio is library time over simulator time.
+//! bench check|lists|print|locate|build|runs: times the library beside the
+//! simulator on the same inputs. Every ratio is library time over simulator time.
 
+mod builds;
 mod clock;
 mod locates;
 mod pages;
 mod runs;
 
 use clock::{row, Input};
-use sim7700::generate::{CheckCase, Rng};
+use sim7700::generate::{backwards, calling, straight, BuildCase, CheckCase, Rng};
 use std::env;
 use std::process::ExitCode;
 use trial7700::check::cases::{mixed_code, one_byte_codes};
@@ -17,8 +18,8 @@ use trial7700::lists::cases::{every_start, Marked};
 /// Calls in a batch, long beside the clock's own cost.
 const CALLS: usize = 20;
 const SEED: u64 = 7700;
-/// Bytes of code that the benchmarks of check, page and location go through in a
-/// call.
+/// Bytes of code that the benchmarks of check, page, location and building go
+/// through in a call.
 const BYTES: usize = 131_072;
 
 fn main() -> ExitCode {
@@ -28,9 +29,10 @@ fn main() -> ExitCode {
         ["lists"] => lists(),
         ["print"] => print(),
         ["locate"] => locate(),
+        ["build"] => build(),
         ["runs"] => runs::timed(),
         _ => {
-            eprintln!("usage: bench check|lists|print|locate|runs");
+            eprintln!("usage: bench check|lists|print|locate|build|runs");
             return ExitCode::from(2);
         }
     }
@@ -47,7 +49,7 @@ fn check() {
 
 /// Different images of a length, together so many bytes at every length: one
 /// image repeated would let the processor learn more of a short one's branches.
-fn drawn(draw: fn(&mut Rng, usize) -> CheckCase, length: usize) -> Vec<CheckCase> {
+fn drawn<T>(draw: fn(&mut Rng, usize) -> T, length: usize) -> Vec<T> {
     (0..(BYTES / length) as u64)
         .map(|k| draw(&mut Rng::new(SEED + k), length))
         .collect()
@@ -75,6 +77,20 @@ fn locate() {
     let whole = locates::located("mixed, 16,384", CALLS, drawn(mixed_code, 16_384));
     let half = locates::located("mixed, 8,192", CALLS, drawn(mixed_code, 8_192));
     linear("located", whole, half);
+}
+
+fn build() {
+    println!("marks built, ns per byte            library  simulator  ratio");
+    let sorts: [(&str, fn(&mut Rng, usize) -> BuildCase); 3] = [
+        ("straight", straight),
+        ("backwards", backwards),
+        ("calls", calling),
+    ];
+    for (name, sort) in sorts {
+        let whole = builds::built(&format!("{name}, 16,384"), CALLS, &drawn(sort, 16_384));
+        let half = builds::built(&format!("{name}, 8,192"), CALLS, &drawn(sort, 8_192));
+        linear(name, whole, half);
+    }
 }
 
 /// Near 2 is linear.

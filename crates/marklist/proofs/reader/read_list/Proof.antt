@@ -49,7 +49,7 @@ returns-2 c =
     let marks =
     all-marks h (args .text .now) (low .low .result) (low .before .header-size .result)
     (length (args .marks .now)) (filled .fill-marks .last .1 .1 .1 .0) (low .low .ensures)
-    (low .before .header-size .ensures) (long .same) (filled .fill-marks .ensures) in
+    (low .before .header-size .ensures) (long .same) (filled .fill-marks .ensures .0) in
     (answer .0, marks ∙ answer .1)
 
 pub read-list-spec : {M : Type 1} → statement M

@@ -4,8 +4,8 @@ use Rattle.packing.proofs.Answers.{verdict-fits}
 use Rattle.packing.specs.Packed.{packedVerdict}
 use mathlib.Core.Path.{_∙_, ap}
 use borrow.Author.Needs.{needs}
-use Rattle.loader.proofs.m7700_check.Statement.{statement}
-use Rattle.loader.proofs.m7700_check.Tie as tie
+use Rattle.checker.proofs.packed_verdict.Statement.{statement}
+use Rattle.checker.proofs.packed_verdict.Tie as tie
 
 pack-requires : tie.Need-pack-requires
 pack-requires c κs =
@@ -15,5 +15,5 @@ pack-requires c κs =
 returns : tie.Need-returns
 returns c = c .pack .ensures ∙ ap packedVerdict (c .before .check .ensures)
 
-pub m7700-check-spec : {M : Type 1} → statement M
-m7700-check-spec = tie.close (tie.spec (λ c κs. search needs) pack-requires returns)
+pub packed-verdict-spec : {M : Type 1} → statement M
+packed-verdict-spec = tie.close (tie.spec (λ c κs. search needs) pack-requires returns)

@@ -1,0 +1,21 @@
+-- 14 comes first.
+-- Assumes nothing.
+use Rattle.model.proofs.TestResults.{fails, holds}
+use borrow.Author.Needs.{needs}
+use Rattle.builder.proofs.test_form.Statement.{statement}
+use Rattle.builder.proofs.test_form.Tie as tie
+
+returns : tie.Need-returns
+returns c =
+    let form = c .before in
+    fails _ _ (form .is-routine-list .ensures) (c .if1 .taken)
+
+returns-2 : tie.Need-returns-2
+returns-2 c =
+    let first = c .before in
+    let form = first .before in
+    holds _ _ (form .is-routine-list .ensures) (first .if1 .left) (c .test-image .ensures)
+
+pub test-form-spec : {M : Type 1} → statement M
+test-form-spec =
+    tie.close (tie.spec (λ c κs. search needs) returns (λ c κs. search needs) returns-2)
