@@ -17,7 +17,7 @@ log=$root/target/log/$name.log
 # Held by the command that builds, with its name.
 lock=$root/target/commands.lock
 
-image_limit=16,384
+image_limit=65,536
 list_limit=61,440
 
 . "$root/words.bash" || exit 3

@@ -10,7 +10,7 @@ noun=start
 word=([1]=length [2]=base [3]=reset [5]=code [6]='cut off' [7]=overlap [8]=flow [9]=widths [10]=return [14]=list)
 given=(
     [1]="the list's length is not the image's, or is 0"
-    [2]='the image crosses the end of a bank'
+    [2]='the image ends above FFFFFF or, with a four-digit list, its bank'
     [3]='the reset address lacks the required start (m=0, x=0, kind N)'
     [5]='the code at a start is not carried'
     [6]='the instruction, or the code behind a prefix, runs past the image'
@@ -45,12 +45,12 @@ explain_unread() {
 
 # The fields of a list's first line, by its form, for an answer other than 14. A pipe has been read already.
 read_first_line() {
-    local text form=$'^I\t([0-9A-F]{6})\t([0-9]{1,5})\t([0-9A-F]{4})$'
+    local text form=$'^I\t([0-9A-F]{6})\t([0-9]{1,5})\t([0-9A-F]{6}|[0-9A-F]{4})$'
     [ -f "$list" ] && IFS= read -r text < "$list" && [[ $text =~ $form ]] || return
     base=${BASH_REMATCH[1]} length=${BASH_REMATCH[2]} reset=${BASH_REMATCH[3]}
 }
 
-# What is wrong with a line whatever it shows. A line has at most 19 characters; one of some more is told by its fields.
+# What is wrong with a line whatever it shows. A line has at most 21 characters; one of some more is told by its fields.
 fault_of_bytes() {
     local before
     if [ -z "$closed$text" ]; then
@@ -90,6 +90,15 @@ fault_of_length() {
     fi
 }
 
+# fault_of_first NAME DIGITS: of the first address of a list, whose digits are those of all: six, or four in an older
+# list.
+fault_of_first() {
+    digits=6
+    [ "${#2}" != 4 ] || digits=4
+    fault_of_hex "$1" "$2" "$digits"
+    fault=${fault/%is not 6 hex digits/is not 6 hex digits, nor 4}
+}
+
 fault_of_first_line() {
     local form=$'^I\t([^\t]*)\t([^\t]*)\t([^\t]*)$' tabs=${text//[!$'\t']/}
     if [[ $text != $'I\t'* ]]; then
@@ -102,8 +111,8 @@ fault_of_first_line() {
     base=${BASH_REMATCH[1]} length=${BASH_REMATCH[2]} reset=${BASH_REMATCH[3]}
     fault_of_hex base "$base" 6
     [ -n "$fault" ] || fault_of_length
-    [ -n "$fault" ] || fault_of_hex reset "$reset" 4
-    [ -n "$fault" ] || { low=$((16#${base:2})) end=$((low + length)); }
+    [ -n "$fault" ] || fault_of_first reset "$reset"
+    [ -n "$fault" ] || { low=$((16#${base: -digits})) end=$((low + length)); }
 }
 
 # An address not in the image, or not above the one before.
@@ -131,7 +140,11 @@ fault_of_start() {
         return
     fi
     local address=${BASH_REMATCH[1]} widths=${BASH_REMATCH[2]} kind=${BASH_REMATCH[3]} returns=${BASH_REMATCH[4]}
-    fault_of_hex address "$address" 4
+    if [ "$at" = 1 ]; then
+        fault_of_first address "$address"
+    else
+        fault_of_hex address "$address" "$digits"
+    fi
     if [ -n "$fault" ]; then
         return
     elif [[ ! $widths =~ $bits ]]; then
@@ -145,18 +158,26 @@ fault_of_start() {
     fi
 }
 
+# A text begins with the line of a start in four digits.
+has_old_lines() {
+    [[ $1 == ????$'\t'* ]]
+}
+
 # The first line of a list that is wrong, and what is wrong there, as LINE: WORDS; nothing where none is found. It is
 # asked only where the proved answer is 14. A byte 00 is read as 01, which no list has either. Without a first line any
-# address of a bank will do.
+# address will do, and the first one's digits are those of all.
 first_fault() {
-    local at=0 text closed=yes fault='' base length reset low=0 end=65536 last=-1
-    local form=$'[0-9A-F][0-9A-F][0-9A-F][0-9A-F]\t[01]\t[01]\t@(N\t0\t0|[SL]\t[01]\t[01])'
+    local at=0 text closed=yes fault='' base length reset digits=6 low=0 end=16777216 last=-1 form
+    local four='[0-9A-F][0-9A-F][0-9A-F][0-9A-F]' fields=$'\t[01]\t[01]\t@(N\t0\t0|[SL]\t[01]\t[01])'
     while [ -z "$fault" ] && [ -n "$closed" ]; do
         IFS= read -r text || closed=
         [ "$at" = 0 ] || [ -n "$closed$text" ] || return
         at=$((at + 1))
+        [ "$at$header_lines" != 10 ] || ! has_old_lines "$text" || digits=4
+        form=$four$fields
+        [ "$digits" = 4 ] || form=[0-9A-F][0-9A-F]$form
         if [ "$at" -gt "$header_lines" ] && [ -n "$closed" ] && [[ $text == @($form) ]]; then
-            fault_of_address "${text:0:4}"
+            fault_of_address "${text:0:digits}"
             continue
         fi
         fault_of_bytes

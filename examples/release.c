@@ -59,7 +59,7 @@ static int run(size_t image_len, uint32_t base, uint32_t reset)
     memset(state, 0, sizeof state); /* m=0, x=0, no open call */
     put_word(M7700_AT_S, ram_len - 1);
     put_word(M7700_AT_PC, reset);
-    state[M7700_AT_PG] = base >> 16 & 0xFF;
+    state[M7700_AT_PG] = reset >> 16 & 0xFF;
     result = m7700_run_image(image, image_len, base, state, sizeof state, ram, ram_len, STEPS);
     if (result.refusal != 0)
         return refused("run", result.refusal);

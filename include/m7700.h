@@ -36,7 +36,7 @@
 extern "C" {
 #endif
 
-#define M7700_VERSION "2.1.0"
+#define M7700_VERSION "3.0.0"
 
 /* SYSTEM
  *
@@ -46,21 +46,21 @@ extern "C" {
  *
  * No call needs more stack than the bytes below, the second number for the
  * building of marks, the first for any other call. Measured, on a stack of
- * painted bytes and with the longest buffers: 73,592 for marks, 8,536 for a
- * page, 7,976 for addresses, 5,128 for a run or a step, 4,056 for a check, 208
+ * painted bytes and with the longest buffers: 270,248 for marks, 8,536 for a
+ * page, 7,976 for addresses, 5,144 for a run or a step, 4,056 for a check, 184
  * for a list, and some 3,200 more for a call in which memcpy or memset is first
  * bound by the dynamic linker. */
 #define M7700_STACK_BYTES 16384
-#define M7700_BUILD_STACK_BYTES 81920
+#define M7700_BUILD_STACK_BYTES 278528
 
 /* LIMITS
  *
- * The longest image; the longest list, 20 bytes of a first line and 15 for
+ * The longest image; the longest list, 22 bytes of a first line and 17 for
  * each start; the most routines that marks are built from; a row of a page, and
  * the longest page; the most addresses in one reading; the most RAM, steps of a
  * run, and open calls. */
-#define M7700_IMAGE_BYTES 16384
-#define M7700_LIST_BYTES (20 + 15 * M7700_IMAGE_BYTES)
+#define M7700_IMAGE_BYTES 65536
+#define M7700_LIST_BYTES (22 + 17 * M7700_IMAGE_BYTES)
 #define M7700_ROUTINES 256
 #define M7700_ROW_BYTES 36
 #define M7700_PAGE_BYTES (M7700_ROW_BYTES * M7700_IMAGE_BYTES)
@@ -71,9 +71,9 @@ extern "C" {
 
 /* MARKS
  *
- * An image is MELPS 7700 code at a 24-bit base address, within one bank of
- * 65,536 bytes. Beside it lies one mark byte for each image byte. The bits of
- * a mark: */
+ * An image is MELPS 7700 code at a 24-bit base address, ending at or below
+ * FFFFFF; it may cross the ends of banks, which have 65,536 bytes. Beside it
+ * lies one mark byte for each image byte. The bits of a mark: */
 #define M7700_MARK_START 0x01    /* an instruction starts here */
 #define M7700_MARK_M 0x02        /* m there */
 #define M7700_MARK_X 0x04        /* x there */
@@ -96,8 +96,9 @@ extern "C" {
 #define M7700_REFUSED_LENGTH 1  /* length: image empty or over
                                    M7700_IMAGE_BYTES; marks of another
                                    length */
-#define M7700_REFUSED_BASE 2    /* base: above FFFFFF, or image crosses a
-                                   bank end */
+#define M7700_REFUSED_BASE 2    /* base: above FFFFFF, or image ends above
+                                   it; of a list in four digits, image
+                                   crosses a bank end */
 #define M7700_REFUSED_RESET 3   /* reset: no start with m=0, x=0, kind 0
                                    at the reset address */
 #define M7700_REFUSED_MARK 4    /* mark: a mark not of the form above */
@@ -141,9 +142,9 @@ static inline const char *m7700_refusal_word(uint32_t number);
 
 /* CHECK
  *
- * Checks an image against its marks. `base` is the address of the first image
- * byte, `reset` the address of the first instruction within the base's bank
- * (0 to FFFF; above, it is refused with 3).
+ * Checks an image against its marks. `base` is the 24-bit address of the first
+ * image byte, `reset` that of the first instruction (outside the image, it is
+ * refused with 3).
  *
  * The image is accepted if `refusal` is 0. The tests go in the order 1, 2, 4,
  * 3, then each start in turn from the lowest for 5, 6, 7, 10, 8, 9; the first
@@ -169,18 +170,23 @@ m7700_check_image(const uint8_t *image, size_t image_len,
  * each line closed by 0A. The first line is I and
  *
  *     base     six hexadecimal digits
- *     length   decimal without a leading zero
- *     reset    four hexadecimal digits
+ *     length   1 to 5 decimal digits without a leading zero
+ *     reset    six hexadecimal digits
  *
  * Then comes a line for each start, ascending:
  *
- *     address  in the bank, four hexadecimal digits
+ *     address  six hexadecimal digits
  *     m, x     there
  *     kind     N, S or L for 0, 1, 2
  *     m, x     at the return, 0 under N
  *
  * Hexadecimal letters are capitals. A start's address is one of the length's
- * many from the base's low 16 bits on, up to FFFF.
+ * many from the base on.
+ *
+ * An older list has four digits in the reset and in every address: they lie in
+ * the base's bank, from the base's low 16 bits on, up to FFFF. Such a list is
+ * read too, but for an image that crosses a bank end; none is written. A list
+ * with six digits in some and four in others is no list.
  *
  * READING A LIST
  *
@@ -191,14 +197,16 @@ m7700_check_image(const uint8_t *image, size_t image_len,
  *         marks_len is
  *      1  the list's length is 0 or over M7700_IMAGE_BYTES, or
  *         marks_len is another
- *      2  the list's base and length cross a bank end
+ *      2  the list's base and length end above FFFFFF, or, in four
+ *         digits, cross a bank end
  *      3  the list has no start with m=0, x=0, kind 0 at its reset
  *         address
  *
  * and the first that fails decides. If the list was read, every mark is
- * written: 0 where no instruction starts. A check of the image with these
- * marks, base and reset can still refuse it, by 5 to 10 alone: the list
- * settles 1, 2, 3 and 4, and nothing of the code.
+ * written: 0 where no instruction starts; base and reset are 24-bit addresses,
+ * of a list in four digits too. A check of the image with these marks, base
+ * and reset can still refuse it, by 5 to 10 alone: the list settles 1, 2, 3
+ * and 4, and nothing of the code.
  *
  * Every text and every length is answered. The function reads only the text,
  * writes only the marks, and keeps no pointer. */
@@ -217,15 +225,16 @@ m7700_read_mark_list(const uint8_t *text, size_t text_len,
  * Writes the list of marks at the front of a page. The tests go in the order
  *
  *      1  no marks, or over M7700_IMAGE_BYTES
- *      2  base above FFFFFF, or base and marks_len cross a bank end
+ *      2  base above FFFFFF, or base and marks_len end above it
  *      4  a mark not of the form above
- *      3  no mark 01 at the reset address, or reset above FFFF
+ *      3  no mark 01 at the reset address
  *     15  the page is shorter than the list
  *
  * and the first that fails decides. If the list was written, `length` is its
  * length in bytes, and the bytes of the page behind it are as given. What was
  * written, read into marks of the same length, gives the same marks, base and
- * reset; and a list that was read is written as the same bytes.
+ * reset; and a list in six digits that was read is written as the same bytes,
+ * one in four as the list in six digits of the same marks.
  *
  * Every base, reset and length and every mark is answered. The function reads
  * only the marks, writes only the page, and keeps no pointer. */
@@ -244,7 +253,9 @@ m7700_write_mark_list(const uint8_t *marks, size_t marks_len,
  * Builds the marks of an image whose supplier sends no marks but a routine
  * list: lines of starts as a mark list has them, without the first line,
  * strictly ascending, a line for each routine with its first address, m and x
- * there, its kind, and m and x at its return. A text without lines is one too.
+ * there, its kind, and m and x at its return. All addresses have six digits
+ * or, in an older list, all have four. A text without lines is a routine list
+ * too, and counts as one in six.
  *
  * What is looked for is a marking that
  *
@@ -257,7 +268,8 @@ m7700_write_mark_list(const uint8_t *marks, size_t marks_len,
  *     14  the text is not a routine list
  *      1  image empty or over M7700_IMAGE_BYTES, or marks_len is
  *         another length
- *      2  base above FFFFFF, or image crosses a bank end
+ *      2  base above FFFFFF, or image ends above it, or, with a list
+ *         in four digits, crosses a bank end
  *     17  a routine outside the image, over M7700_ROUTINES, or no
  *         such marking
  *
@@ -405,8 +417,8 @@ m7700_locate_addresses(const uint8_t *image, size_t image_len,
 #define M7700_PS_IPL 0x0700
 
 /* A state of zeros is valid: m=0, x=0, no open call. To begin at the reset,
- * put into PC the reset address, into PG the base's bank (base >> 16), and
- * into S where the stack is to begin, say the last address of RAM.
+ * put into PC the reset address (its low 16 bits), into PG its bank (reset >>
+ * 16), and into S where the stack is to begin, say the last address of RAM.
  *
  * RUN
  *
@@ -439,6 +451,11 @@ static inline const char *m7700_stop_word(uint32_t number);
  * 20, then for 21, its operand bytes for 20, then for 22 and 27, its reads for
  * 23, then for 24 or 25, and its stores for 23 or 26. A word's low byte goes
  * first, a push as it is pushed; the first byte that can't be served decides.
+ *
+ * JMP and JSR absolute, and RTS, go to the bank of the address just after them.
+ * RTS stops with 24 where the open call's address has another bank, as it may
+ * for an RTS in the last byte of a bank or in a routine that runs over a bank
+ * end; the check refuses neither.
  *
  * A run takes no marks and asks for no check. But let the check have accepted
  * the image with its marks and base, and let a run begin with PG and PC at a

@@ -72,7 +72,9 @@ refused_ones() {
     checked 1 'R\t1\t0' '(list: 0, image: 0)' '' '00C000\t0\tC000'
     checked 1 'R\t2\t0' 'refused, 2 base:' '80 FE' '00FFFF\t2\tFFFF' 'FFFF 0 0 N 0 0'
     checked 1 'R\t2\t0' '(base 00FFFF, length 2)' '80 FE' '00FFFF\t2\tFFFF' 'FFFF 0 0 N 0 0'
+    checked 1 'R\t2\t0' '(base FFFFFF, length 2)' '80 FE' 'FFFFFF\t2\tFFFFFF' 'FFFFFF 0 0 N 0 0'
     checked 1 'R\t3\t0' 'refused, 3 reset:' 'EA DB' '00C000\t2\tC001' "$nop"
+    checked 1 'R\t3\t0' '(m=0, x=0, kind N) at 01C000' 'EA DB' '00C000\t2\t01C000' "00$nop"
     checked 1 'R\t5\t1' "refused, 5 code: $at_1" 'EA 00' '00C000\t2\tC000' "$nop" 'C001 0 0 N 0 0'
     checked 1 'R\t6\t1' "refused, 6 cut off: $at_1" 'EA A9' '00C000\t2\tC000' "$nop" 'C001 0 0 N 0 0'
     checked 1 'R\t7\t0' 'refused, 7 overlap:' '80 7F DB' '00C000\t3\tC000' "$nop" 'C001 0 0 N 0 0'
@@ -108,7 +110,7 @@ unread_ones() {
     says_of 2 L "$name: /proc/self/mem: Input/output error" "$image" /proc/self/mem
     says_of 2 L "$name: $work/empty/none: Not a directory" "$image" "$work/empty/none"
     says_of 2 L "$name: $work/loop: Too many levels of symbolic links" "$work/loop" "$list"
-    says_of 2 L "$name: /dev/zero: over 16,384 bytes, or can't be read to its end" /dev/zero "$list"
+    says_of 2 L "$name: /dev/zero: over 65,536 bytes, or can't be read to its end" /dev/zero "$list"
     says_of 2 L "$name: /dev/stdin: Is a directory" /dev/stdin "$list" <&-
 }
 

@@ -1,13 +1,12 @@
-//! The least marks, worked out from a list of routines (02, R-6).
+//! The least marks, worked out from a list of routines (02, R-6 and R-7).
 
 use crate::check::verdict;
-use crate::list::Cursor;
+use crate::list::{Addresses, Cursor};
 use crate::marks::RESET_MARK;
 use crate::numbers::*;
 use crate::rules::{resumed, Asks, Image};
 
-/// The C interface's `m7700_build_marks`: bits 0-7 number. `reset` is an
-/// address in the bank of an image at `base`.
+/// The C interface's `m7700_build_marks`: bits 0-7 number.
 pub fn build_marks(image: &[u8], base: u32, reset: u32, routines: &[u8], marks: &mut [u8]) -> u64 {
     match least(image, base, reset, routines, marks.len()) {
         Ok(least) => {
@@ -26,11 +25,11 @@ fn least(
     text: &[u8],
     marks_len: usize,
 ) -> Result<Vec<u8>, u8> {
-    let routines = read(text).ok_or(LIST)?;
+    let (addresses, routines) = read(text, base).ok_or(LIST)?;
     if marks_len != image.len() {
         return Err(LENGTH);
     }
-    image_place(image.len(), base)?;
+    addresses.place(image.len(), base)?;
     if routines.len() > MAX_ROUTINES {
         return Err(ROUTINES);
     }
@@ -47,21 +46,27 @@ fn least(
     Ok(forced.marks)
 }
 
-/// A routine: its address in the bank and its mark.
-type Routine = (usize, u8);
+/// A routine: its address and its mark.
+type Routine = (u32, u8);
 
-/// Lines of starts, strictly ascending, and nothing else.
-fn read(text: &[u8]) -> Option<Vec<Routine>> {
+/// Lines of starts, strictly ascending, and nothing else; and how they write
+/// their addresses. A list without lines counts as six digits.
+fn read(text: &[u8], base: u32) -> Option<(Addresses, Vec<Routine>)> {
     let mut rest = Cursor { text };
+    let addresses = if text.is_empty() {
+        Addresses::Whole
+    } else {
+        rest.addresses(base)?
+    };
     let mut routines: Vec<Routine> = Vec::new();
     while !rest.text.is_empty() {
-        let routine = rest.start()?;
+        let routine = rest.start(addresses)?;
         if routines.last().is_some_and(|last| routine.0 <= last.0) {
             return None;
         }
         routines.push(routine);
     }
-    Some(routines)
+    Some((addresses, routines))
 }
 
 /// The starts that stand, so marked, in every marking that will do.
@@ -78,9 +83,9 @@ impl Forced<'_> {
     /// Reset and routines, then all that follows from them; `None` where that
     /// can't be.
     fn spread(&mut self, reset: u32) -> Option<()> {
-        self.put(self.image.offset_in_bank(reset), RESET_MARK)?;
+        self.put(self.image.offset(reset), RESET_MARK)?;
         for &(address, mark) in self.routines {
-            self.put(self.image.offset_in_bank(address as u32), mark)?;
+            self.put(self.image.offset(address), mark)?;
         }
         while let Some(at) = self.waiting.pop() {
             self.follow(at)?;
@@ -118,8 +123,7 @@ impl Forced<'_> {
 
     /// The mark of the routine at an address, if the list has one there.
     fn listed_at(&self, address: u32) -> Option<u8> {
-        let within = address.checked_sub(self.image.base & 0xFF_0000)? as usize;
-        let found = self.routines.binary_search_by_key(&within, |r| r.0);
+        let found = self.routines.binary_search_by_key(&address, |r| r.0);
         found.ok().map(|place| self.routines[place].1)
     }
 }

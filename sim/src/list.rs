@@ -1,13 +1,35 @@
-//! The mark list: its reader and its writer (01, "The mark list").
+//! The mark list: its reader and its writer (01, "The mark list"; 02, R-7).
 
 use crate::marks::{self, digit, forms_and_reset, is_start, kind_letter};
 use crate::numbers::*;
 
-/// What the first line says.
+/// How a list writes its addresses, from its first one to its last.
+#[derive(Clone, Copy)]
+pub enum Addresses {
+    /// Whole, in six digits.
+    Whole,
+    /// As before R-7: within this bank, in four digits.
+    Within(u32),
+}
+
+impl Addresses {
+    /// 1, then 2: as of the image, and of a list in four digits if the image
+    /// doesn't fit one bank.
+    pub fn place(self, length: usize, base: u32) -> Result<(), u8> {
+        image_place(length, base)?;
+        match self {
+            Addresses::Within(_) if !in_one_bank(length, base) => Err(BASE),
+            _ => Ok(()),
+        }
+    }
+}
+
+/// What the first line says, the reset as a whole address.
 struct Head {
     base: u32,
     length: usize,
     reset: u32,
+    addresses: Addresses,
 }
 
 /// The C interface's `m7700_read_list`: bits 0-7 number; on 0 bits 8-31 base,
@@ -26,17 +48,16 @@ pub fn read_list(text: &[u8], marks: &mut [u8]) -> u64 {
 fn accept(text: &[u8], marks_len: usize) -> Result<Head, u8> {
     let mut rest = Cursor { text };
     let head = rest.head().ok_or(LIST)?;
-    let first = (head.base & 0xFFFF) as usize;
-    let mut lowest = first;
+    let end = head.base + head.length as u32;
+    let mut lowest = head.base;
     let mut reset_mark = 0;
     while !rest.text.is_empty() {
-        let (address, mark) = rest.start().ok_or(LIST)?;
-        let within = address >= first && address < first + head.length;
-        if !within || address < lowest {
+        let (address, mark) = rest.start(head.addresses).ok_or(LIST)?;
+        if address < lowest || address >= end {
             return Err(LIST);
         }
         lowest = address + 1;
-        if address as u32 == head.reset {
+        if address == head.reset {
             reset_mark = mark;
         }
     }
@@ -44,7 +65,7 @@ fn accept(text: &[u8], marks_len: usize) -> Result<Head, u8> {
     if head.length != marks_len {
         return Err(LENGTH);
     }
-    image_place(head.length, head.base)?;
+    head.addresses.place(head.length, head.base)?;
     if reset_mark != marks::RESET_MARK {
         return Err(RESET);
     }
@@ -56,8 +77,8 @@ fn fill(text: &[u8], head: &Head, marks: &mut [u8]) {
     let mut rest = Cursor { text };
     rest.head();
     marks.fill(0);
-    while let Some((address, mark)) = rest.start() {
-        marks[address - (head.base & 0xFFFF) as usize] = mark;
+    while let Some((address, mark)) = rest.start(head.addresses) {
+        marks[(address - head.base) as usize] = mark;
     }
 }
 
@@ -82,18 +103,31 @@ impl Cursor<'_> {
         self.expect(b'\t')
     }
 
-    /// Hex digits, letters as capitals.
     fn hex(&mut self, digits: u32) -> Option<u32> {
         let mut value = 0;
         for _ in 0..digits {
-            let digit = match self.byte()? {
-                d @ b'0'..=b'9' => d - b'0',
-                d @ b'A'..=b'F' => d - b'A' + 10,
-                _ => return None,
-            };
-            value = value << 4 | digit as u32;
+            value = value << 4 | hex_digit(self.byte()?)? as u32;
         }
         Some(value)
+    }
+
+    /// How the address that stands next is written: six hex digits, or four
+    /// for one in the bank of this base.
+    pub fn addresses(&self, base: u32) -> Option<Addresses> {
+        let digits = self.text.iter().map_while(|&byte| hex_digit(byte));
+        match digits.count() {
+            6 => Some(Addresses::Whole),
+            4 => Some(Addresses::Within(bank(base))),
+            _ => None,
+        }
+    }
+
+    /// An address, written so.
+    fn address(&mut self, written: Addresses) -> Option<u32> {
+        match written {
+            Addresses::Whole => self.hex(6),
+            Addresses::Within(bank) => Some(bank | self.hex(4)?),
+        }
     }
 
     /// 1 to 5 decimal digits closed by a tab, no leading zero but a lone 0.
@@ -125,18 +159,20 @@ impl Cursor<'_> {
         let base = self.hex(6)?;
         self.tab()?;
         let length = self.length()?;
-        let reset = self.hex(4)?;
+        let addresses = self.addresses(base)?;
+        let reset = self.address(addresses)?;
         self.expect(b'\n')?;
         Some(Head {
             base,
             length,
             reset,
+            addresses,
         })
     }
 
-    /// A start's line: its address in the bank and its mark.
-    pub fn start(&mut self) -> Option<(usize, u8)> {
-        let address = self.hex(4)? as usize;
+    /// A start's line: its address and its mark.
+    pub fn start(&mut self, addresses: Addresses) -> Option<(u32, u8)> {
+        let address = self.address(addresses)?;
         let mut mark = marks::START;
         self.tab()?;
         mark |= if self.bit()? { marks::M } else { 0 };
@@ -159,6 +195,15 @@ impl Cursor<'_> {
     }
 }
 
+/// The value of a hex digit, letters as capitals.
+fn hex_digit(byte: u8) -> Option<u8> {
+    match byte {
+        b'0'..=b'9' => Some(byte - b'0'),
+        b'A'..=b'F' => Some(byte - b'A' + 10),
+        _ => None,
+    }
+}
+
 /// The C interface's `m7700_write_list`: bits 0-7 number; on 0 bits 8-63 the
 /// length of the list.
 pub fn write_list(marks: &[u8], base: u32, reset: u32, page: &mut [u8]) -> u64 {
@@ -172,8 +217,8 @@ pub fn write_list(marks: &[u8], base: u32, reset: u32, page: &mut [u8]) -> u64 {
 }
 
 /// Bytes of a start's line, and of the first line without its length's digits.
-const START_LINE: usize = 15;
-const HEAD_LINE: usize = 15;
+const START_LINE: usize = 17;
+const HEAD_LINE: usize = 17;
 
 /// 1, 2, 4, 3, 15; else the list's length.
 fn fits(marks: &[u8], base: u32, reset: u32, page_len: usize) -> Result<usize, u8> {
@@ -198,10 +243,10 @@ fn write(marks: &[u8], base: u32, reset: u32, page: &mut [u8]) {
     line.put(b"\t");
     line.decimal(marks.len());
     line.put(b"\t");
-    line.hex(reset, 4);
+    line.hex(reset, 6);
     line.put(b"\n");
     for (offset, &mark) in marks.iter().enumerate().filter(|(_, &m)| is_start(m)) {
-        line.hex((base & 0xFFFF) + offset as u32, 4);
+        line.hex(base + offset as u32, 6);
         line.field(digit(mark & marks::M));
         line.field(digit(mark & marks::X));
         line.field(kind_letter(mark));

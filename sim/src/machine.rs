@@ -116,10 +116,11 @@ impl Change {
     }
 }
 
-/// A fetched instruction: its entry, its address, and its operand bytes.
+/// A fetched instruction: its entry, the address just after it, and its operand
+/// bytes.
 struct Instruction<'a> {
     entry: &'static Entry,
-    at: u32,
+    next: u32,
     operand: &'a [u8],
 }
 
@@ -157,9 +158,9 @@ impl Instruction<'_> {
         }
     }
 
-    /// The bank that JMP and JSR absolute and RTS stay in.
+    /// The bank that JMP and JSR absolute and RTS use.
     fn bank(&self) -> u32 {
-        self.at & 0xFF_0000
+        bank(self.next)
     }
 
     /// A signed offset: the last operand byte, or BRAL's two.
@@ -250,8 +251,13 @@ impl<'a> Step<'a> {
         }
         let length = entry.length(self.registers.m(), self.registers.x_flag());
         let operand = bytes.get(code_bytes..length).ok_or(OUTSIDE)?;
-        self.registers.pc = (at + length as u32) & MAX_ADDRESS;
-        Ok(Instruction { entry, at, operand })
+        let next = (at + length as u32) & MAX_ADDRESS;
+        self.registers.pc = next;
+        Ok(Instruction {
+            entry,
+            next,
+            operand,
+        })
     }
 
     /// A data or stack byte.
@@ -522,16 +528,16 @@ impl<'a> Step<'a> {
     /// RTS and RTL: the pulled bytes are read first (23), then 24.
     fn return_by(&mut self, i: &Instruction, kind: u8, state: &[u8]) -> Result<(), u8> {
         let low = self.pull_data(Width::Word)? as u32;
-        let bank = match kind {
+        let high = match kind {
             1 => i.bank(),
             _ => (self.pull()? as u32) << 16,
         };
         let depth = state::depth(state);
-        if depth == 0 || state::open_call(state, depth - 1) != (bank | low, kind) {
+        if depth == 0 || state::open_call(state, depth - 1) != (high | low, kind) {
             return Err(ASTRAY);
         }
         self.change = Change::Close;
-        self.registers.pc = bank | low;
+        self.registers.pc = high | low;
         Ok(())
     }
 

@@ -62,13 +62,13 @@ pub fn well_formed(mark: u8) -> bool {
     }
 }
 
-/// 4 with the offset of the lowest bad mark, then 3. `reset` is an address
-/// in the bank of an image at `base`.
+/// 4 with the offset of the lowest bad mark, then 3. `reset` is the address of
+/// a byte of the image at `base`, or else 3.
 pub fn forms_and_reset(marks: &[u8], base: u32, reset: u32) -> Result<(), (u8, usize)> {
     if let Some(bad) = marks.iter().position(|&m| !well_formed(m)) {
         return Err((MARK, bad));
     }
-    match reset.checked_sub(base & 0xFFFF) {
+    match reset.checked_sub(base) {
         Some(at) if marks.get(at as usize) == Some(&RESET_MARK) => Ok(()),
         _ => Err((RESET, 0)),
     }

@@ -29,7 +29,8 @@ pub const DEEP: u8 = 25;
 pub const IMAGE_STORE: u8 = 26;
 pub const DECIMAL: u8 = 27;
 
-pub const MAX_IMAGE: usize = 16_384;
+/// 01 has 16,384; 02, R-7, makes it 65,536.
+pub const MAX_IMAGE: usize = 65_536;
 pub const MAX_RAM: usize = 4_096;
 pub const MAX_STEPS: u32 = 1_000_000;
 /// 01 has 64; 02, R-5, makes it 24.
@@ -41,13 +42,25 @@ pub const MAX_ROUTINES: usize = 256;
 pub const MAX_ADDRESS: u32 = 0xFF_FFFF;
 pub const BANK: u32 = 0x1_0000;
 
-/// 1, then 2: an image's length and its place within one bank.
+/// 1, then 2: an image's length and its place, with its end at or below FFFFFF
+/// (02, R-7).
 pub fn image_place(length: usize, base: u32) -> Result<(), u8> {
     if length == 0 || length > MAX_IMAGE {
         return Err(LENGTH);
     }
-    if base > MAX_ADDRESS || base % BANK + length as u32 > BANK {
+    if base > MAX_ADDRESS || base + length as u32 > MAX_ADDRESS + 1 {
         return Err(BASE);
     }
     Ok(())
+}
+
+/// Whether an image lies within one bank.
+pub fn in_one_bank(length: usize, base: u32) -> bool {
+    (base % BANK) as usize + length <= BANK as usize
+}
+
+/// The bank of an address. JMP and JSR absolute and RTS use that of the address
+/// just after the instruction (02, R-7).
+pub fn bank(address: u32) -> u32 {
+    address & 0xFF_0000
 }

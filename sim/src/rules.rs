@@ -3,7 +3,7 @@
 
 use crate::codes::{entry_of, page_of, Entry, Mode, Word};
 use crate::marks::{self, return_widths};
-use crate::numbers::{CODE, CUT_OFF, MAX_ADDRESS};
+use crate::numbers::{bank, CODE, CUT_OFF, MAX_ADDRESS};
 
 /// An image with its base.
 #[derive(Clone, Copy)]
@@ -19,12 +19,6 @@ impl<'a> Image<'a> {
         (at < self.bytes.len()).then_some(at)
     }
 
-    /// The same of an address in the image's bank. One above FFFF is not, as
-    /// the image ends with the bank at the latest.
-    pub fn offset_in_bank(&self, address: u32) -> Option<usize> {
-        self.offset(address.checked_add(self.base & 0xFF_0000)?)
-    }
-
     /// The instruction of a start with this mark: 5, then 6.
     pub fn instruction(&self, at: usize, mark: u8) -> Result<Instruction<'a>, u8> {
         let entry = self.code(at)?;
@@ -34,8 +28,7 @@ impl<'a> Image<'a> {
             entry,
             bytes,
             mark,
-            bank: self.base & 0xFF_0000,
-            next: self.base + (at + length) as u32,
+            next: (self.base + (at + length) as u32) & MAX_ADDRESS,
         })
     }
 
@@ -62,8 +55,7 @@ pub struct Instruction<'a> {
     pub bytes: &'a [u8],
     /// The start's mark.
     mark: u8,
-    bank: u32,
-    /// The address behind it, from which offsets count.
+    /// The address just after it, from which offsets count.
     next: u32,
 }
 
@@ -113,7 +105,7 @@ impl Instruction<'_> {
         let last = bytes.len() - 1;
         let word = |low: usize| bytes[low] as u32 | (bytes[low + 1] as u32) << 8;
         match (self.entry.mode, self.entry.word) {
-            (Mode::ABS, _) => self.bank | word(1),
+            (Mode::ABS, _) => bank(self.next) | word(1),
             (Mode::ABL, _) => word(1) | (bytes[3] as u32) << 16,
             (_, Word::BRA) if bytes.len() == 3 => offset(self.next, word(1) as i16 as i32),
             _ => offset(self.next, bytes[last] as i8 as i32),

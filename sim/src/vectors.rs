@@ -4,7 +4,8 @@
 use crate::alu;
 use crate::codes::{entry_of, Mode, Word};
 use crate::generate::*;
-use crate::state::STATE_BYTES;
+use crate::numbers::MAX_IMAGE;
+use crate::state::{Registers, STATE_BYTES};
 use crate::{check, ROW_BYTES};
 
 pub const DEFAULT_SEED: u64 = 7700;
@@ -28,15 +29,15 @@ pub const BUILD_NUMBERS: [u8; 4] = [14, 1, 2, 17];
 /// Turns the seed into the printed pages' own, so that they stay what they
 /// are when others are drawn before them.
 const PRINT_SEED: u64 = 0x5052_494E_5400_0000;
-/// Likewise for the lists. They came behind steps and runs before these were
-/// drawn anew (02, R-5); this makes of the default seed the number that they
-/// had come to, so that its lists stay.
-const LIST_SEED: u64 = 0xDBFA_D19A_A365_A06B;
+/// Likewise for the lists.
+const LIST_SEED: u64 = 0x4C49_5354_5300_0000;
 /// Likewise for the transfers into X and Y, which came later.
 const TRANSFER_SEED: u64 = 0x5452_414E_5300_0000;
 
 /// Likewise for each number of open calls.
 const DEPTH_SEED: u64 = 0x4445_5054_4800_0000;
+/// Likewise for the ends of banks.
+const BANK_SEED: u64 = 0x4241_4E4B_5300_0000;
 /// Likewise for the locations.
 const LOCATE_SEED: u64 = 0x4C4F_4341_5445_0000;
 /// Likewise for the marks that are built.
@@ -57,6 +58,9 @@ pub fn files(seed: u64) -> Vec<(String, Vec<u8>)> {
     let mut own = Rng::new(seed ^ DEPTH_SEED);
     steps.extend(depth_steps(&mut own).iter().map(run_record));
     runs.extend(depth_runs(&mut own).iter().map(run_record));
+    let mut own = Rng::new(seed ^ BANK_SEED);
+    steps.extend(bank_steps(&mut own).iter().map(run_record));
+    runs.extend(bank_runs(&mut own).iter().map(run_record));
     let kinds = [
         ("check", checks),
         ("step", steps),
@@ -68,7 +72,8 @@ pub fn files(seed: u64) -> Vec<(String, Vec<u8>)> {
     let files = files.flat_map(|(kind, records)| pack(kind, records));
     let files = files.chain(print_files(seed));
     let files = files.chain(locate_files(seed));
-    files.chain(build_files(seed)).collect()
+    let files = files.chain(build_files(seed));
+    files.chain(long_files()).collect()
 }
 
 /// The print files alone, which hang on no machine.
@@ -96,8 +101,7 @@ fn pack(kind: &str, records: Vec<Vec<u8>>) -> Vec<(String, Vec<u8>)> {
     let mut count = 0u32;
     let close = |files: &mut Vec<(String, Vec<u8>)>, count: u32, body: &mut Vec<u8>| {
         let name = format!("{kind}-{:02}.bin", files.len());
-        let bytes = [&count.to_le_bytes()[..], body].concat();
-        files.push((name, bytes));
+        files.push((name, file(count, body)));
         body.clear();
     };
     for record in records {
@@ -112,8 +116,14 @@ fn pack(kind: &str, records: Vec<Vec<u8>>) -> Vec<(String, Vec<u8>)> {
     files
 }
 
+/// The bytes of a file with so many records.
+fn file(count: u32, records: &[u8]) -> Vec<u8> {
+    [&count.to_le_bytes()[..], records].concat()
+}
+
 fn put_u16(out: &mut Vec<u8>, value: usize) {
-    out.extend_from_slice(&(value as u16).to_le_bytes());
+    let value = u16::try_from(value).expect("a number of 16 bits");
+    out.extend_from_slice(&value.to_le_bytes());
 }
 
 fn put_u32(out: &mut Vec<u8>, value: u32) {
@@ -128,6 +138,43 @@ fn put_u64(out: &mut Vec<u8>, value: u64) {
 fn put_bytes(out: &mut Vec<u8>, bytes: &[u8]) {
     put_u32(out, bytes.len() as u32);
     out.extend_from_slice(bytes);
+}
+
+/// How image and marks stand in a record.
+#[derive(Clone, Copy)]
+enum Size {
+    /// Byte for byte.
+    Short,
+    /// As what differs from their most frequent byte.
+    Long,
+}
+
+impl Size {
+    fn put(self, out: &mut Vec<u8>, bytes: &[u8]) {
+        match self {
+            Size::Short => put_bytes(out, bytes),
+            Size::Long => put_long(out, bytes),
+        }
+    }
+
+    /// Bytes whose length stands in the record already.
+    fn put_known(self, out: &mut Vec<u8>, bytes: &[u8]) {
+        match self {
+            Size::Short => out.extend_from_slice(bytes),
+            Size::Long => put_long(out, bytes),
+        }
+    }
+}
+
+/// A long buffer: as a buffer, but with a length of 32 bits.
+fn put_long(out: &mut Vec<u8>, bytes: &[u8]) {
+    let mut counts = [0; 256];
+    bytes.iter().for_each(|&byte| counts[byte as usize] += 1);
+    let often = (0..=255).max_by_key(|&byte: &u8| counts[byte as usize]);
+    let often = often.unwrap_or(0);
+    put_u32(out, bytes.len() as u32);
+    out.extend_from_slice(&[often, 0]);
+    put_pieces(out, &vec![often; bytes.len()], bytes);
 }
 
 /// The places where `new` differs from `old`, as runs of bytes.
@@ -159,11 +206,15 @@ fn put_buffer(out: &mut Vec<u8>, bytes: &[u8], fill: (u8, u8)) {
 }
 
 fn check_record(case: &CheckCase) -> Vec<u8> {
+    check_sized(case, Size::Short)
+}
+
+fn check_sized(case: &CheckCase, size: Size) -> Vec<u8> {
     let mut out = Vec::new();
     put_u32(&mut out, case.base);
     put_u32(&mut out, case.reset);
-    put_bytes(&mut out, &case.image);
-    put_bytes(&mut out, &case.marks);
+    size.put(&mut out, &case.image);
+    size.put(&mut out, &case.marks);
     put_u32(
         &mut out,
         check(&case.image, &case.marks, case.base, case.reset),
@@ -172,11 +223,15 @@ fn check_record(case: &CheckCase) -> Vec<u8> {
 }
 
 fn run_record(case: &RunCase) -> Vec<u8> {
+    run_sized(case, Size::Short)
+}
+
+fn run_sized(case: &RunCase, size: Size) -> Vec<u8> {
     let (answer, state, ram) = case.answer();
     let mut out = Vec::new();
     put_u32(&mut out, case.base);
     put_u32(&mut out, case.steps);
-    put_bytes(&mut out, &case.image);
+    size.put(&mut out, &case.image);
     put_buffer(&mut out, &case.state, (0, 0));
     put_buffer(&mut out, &case.ram, case.fill);
     put_u64(&mut out, answer);
@@ -186,23 +241,31 @@ fn run_record(case: &RunCase) -> Vec<u8> {
 }
 
 fn read_record(case: &ReadCase) -> Vec<u8> {
+    read_sized(case, Size::Short)
+}
+
+fn read_sized(case: &ReadCase, size: Size) -> Vec<u8> {
     let (answer, marks) = case.answer();
     let mut out = Vec::new();
     put_bytes(&mut out, &case.text);
     put_u32(&mut out, case.marks_len as u32);
     put_u64(&mut out, answer);
     if answer & 0xFF == 0 {
-        out.extend_from_slice(&marks);
+        size.put_known(&mut out, &marks);
     }
     out
 }
 
 fn write_record(case: &WriteCase) -> Vec<u8> {
+    write_sized(case, Size::Short)
+}
+
+fn write_sized(case: &WriteCase, size: Size) -> Vec<u8> {
     let (answer, page) = case.answer();
     let mut out = Vec::new();
     put_u32(&mut out, case.base);
     put_u32(&mut out, case.reset);
-    put_bytes(&mut out, &case.marks);
+    size.put(&mut out, &case.marks);
     put_u32(&mut out, case.page_len as u32);
     put_u64(&mut out, answer);
     if answer & 0xFF == 0 {
@@ -212,12 +275,16 @@ fn write_record(case: &WriteCase) -> Vec<u8> {
 }
 
 fn print_record(case: &PrintCase) -> Vec<u8> {
+    print_sized(case, Size::Short)
+}
+
+fn print_sized(case: &PrintCase, size: Size) -> Vec<u8> {
     let (answer, page) = case.answer();
     let mut out = Vec::new();
     put_u32(&mut out, case.checked.base);
     put_u32(&mut out, case.checked.reset);
-    put_bytes(&mut out, &case.checked.image);
-    put_bytes(&mut out, &case.checked.marks);
+    size.put(&mut out, &case.checked.image);
+    size.put(&mut out, &case.checked.marks);
     put_u32(&mut out, case.page_len as u32);
     put_u64(&mut out, answer);
     if answer & 0xFF == 0 {
@@ -227,12 +294,16 @@ fn print_record(case: &PrintCase) -> Vec<u8> {
 }
 
 fn locate_record(case: &LocateCase) -> Vec<u8> {
+    locate_sized(case, Size::Short)
+}
+
+fn locate_sized(case: &LocateCase, size: Size) -> Vec<u8> {
     let (answer, places) = case.answer();
     let mut out = Vec::new();
     put_u32(&mut out, case.checked.base);
     put_u32(&mut out, case.checked.reset);
-    put_bytes(&mut out, &case.checked.image);
-    put_bytes(&mut out, &case.checked.marks);
+    size.put(&mut out, &case.checked.image);
+    size.put(&mut out, &case.checked.marks);
     put_u32(&mut out, case.addresses.len() as u32);
     for &address in &case.addresses {
         put_u32(&mut out, address);
@@ -248,36 +319,29 @@ fn locate_record(case: &LocateCase) -> Vec<u8> {
 }
 
 fn build_record(case: &BuildCase) -> Vec<u8> {
+    build_sized(case, Size::Short)
+}
+
+fn build_sized(case: &BuildCase, size: Size) -> Vec<u8> {
     let (answer, marks) = case.answer();
     let mut out = Vec::new();
     put_u32(&mut out, case.base);
     put_u32(&mut out, case.reset);
-    put_bytes(&mut out, &case.image);
+    size.put(&mut out, &case.image);
     put_bytes(&mut out, &case.routines);
-    put_bytes(&mut out, &case.marks);
+    size.put(&mut out, &case.marks);
     put_u64(&mut out, answer);
     if answer & 0xFF == 0 {
-        out.extend_from_slice(&marks);
+        size.put_known(&mut out, &marks);
     }
     out
 }
 
-/// Every carried code at every width, the limits of lengths, and drawn
-/// cases, at most 300 of each number.
+/// Every carried code at every width, programs around the ends of banks, and
+/// drawn cases, at most 300 of each number.
 fn check_records(rng: &mut Rng) -> Vec<Vec<u8>> {
     let mut records: Vec<Vec<u8>> = every_code(rng).iter().map(check_record).collect();
-    for length in [16_384, 16_385] {
-        let mut image = vec![0xEA; length];
-        image[length - 1] = 0xDB;
-        let (base, reset) = (0x12_0000, 0);
-        let marks = vec![1; length];
-        records.push(check_record(&CheckCase {
-            image,
-            marks,
-            base,
-            reset,
-        }));
-    }
+    records.extend(bank_checks().iter().map(check_record));
     let mut count = [0; 11];
     for _ in 0..30_000 {
         let case = check_case(rng);
@@ -316,7 +380,6 @@ fn step_records(rng: &mut Rng) -> Vec<Vec<u8>> {
             records.push(run_record(&case));
         }
     }
-    records.extend(longest_images(1).iter().map(run_record));
     records
 }
 
@@ -357,8 +420,7 @@ fn calls(word: Word) -> bool {
     matches!(word, Word::JSR | Word::RTS | Word::RTL)
 }
 
-/// Drawn runs, runs aimed at each number, programs that are run on, and
-/// images at and past the limit.
+/// Drawn runs, runs aimed at each number, and programs that are run on.
 fn run_records(rng: &mut Rng) -> Vec<Vec<u8>> {
     let mut records = Vec::new();
     while records.len() < 1_400 {
@@ -383,25 +445,7 @@ fn run_records(rng: &mut Rng) -> Vec<Vec<u8>> {
     for _ in 0..60 {
         records.extend(continued_runs(rng).iter().map(run_record));
     }
-    records.extend(longest_images(1_000_000).iter().map(run_record));
     records
-}
-
-/// An image of the greatest length, and one that is a byte longer.
-fn longest_images(steps: u32) -> [RunCase; 2] {
-    [16_384, 16_385].map(|length| {
-        let mut case = RunCase {
-            image: vec![0xEA; length],
-            base: 0x12_0000,
-            state: vec![0; STATE_BYTES],
-            ram: vec![0; 16],
-            fill: (0, 0),
-            steps,
-        };
-        case.image[length - 1] = 0xDB;
-        case.state[16] = 0x12;
-        case
-    })
 }
 
 /// Drawn lists, texts aimed at each number, one list out of form in many
@@ -417,15 +461,15 @@ fn read_records(rng: &mut Rng) -> Vec<Vec<u8>> {
         }
     }
     records.extend(out_of_form().iter().map(read_record));
-    // The greatest length up to a bank's end, a byte past it, a byte longer.
-    for (base, marks_len) in [("C000", 16_384), ("C001", 16_384), ("0000", 16_385)] {
-        let text = format!("I\t12{base}\t{marks_len}\t{base}\n{base}\t0\t0\tN\t0\t0\n");
-        let text = text.into_bytes();
-        records.push(read_record(&ReadCase { text, marks_len }));
-    }
-    for marks in [&[1, 0, 0, 1, 3, 0, 3][..], &[1, 0x2F], &[1, 0x57], &[1]] {
-        let page_len = 15 * marks.len() + 16;
-        let (base, reset) = (0x12_FFF9, 0xFFF9);
+    records.extend(digit_lists().iter().map(read_record));
+    for (marks, base) in [
+        (&[1, 0, 0, 1, 3, 0, 3][..], 0x12_FFFC),
+        (&[1, 0x2F], 0x12_FFF9),
+        (&[1, 0x57], 0xFF_FFFE),
+        (&[1], 0x12_FFFF),
+    ] {
+        let page_len = 17 * marks.len() + 18;
+        let reset = base;
         let marks = marks.to_vec();
         let marks_len = marks.len();
         let case = WriteCase {
@@ -485,7 +529,7 @@ fn write_records(rng: &mut Rng) -> Vec<Vec<u8>> {
         }
     }
     let one_page = |marks: Vec<u8>, page_len: usize| {
-        let (base, reset) = (0xFF_0000, 0);
+        let (base, reset) = (0x12_FFFF, 0x12_FFFF);
         write_record(&WriteCase {
             marks,
             base,
@@ -494,38 +538,45 @@ fn write_records(rng: &mut Rng) -> Vec<Vec<u8>> {
         })
     };
     for length in [1usize, 9, 10, 99, 100, 1_000] {
-        let exact = 15 + length.to_string().len() + 15 * length;
+        let exact = 17 + length.to_string().len() + 17 * length;
         for page_len in [exact - 1, exact, exact + 1] {
             records.push(one_page(vec![1; length], page_len));
         }
     }
     // Every length of page for a list of two lines, and for one of three.
     for marks in [&[1][..], &[1, 0, 0x77]] {
-        for page_len in 0..=48 {
+        for page_len in 0..=54 {
             records.push(one_page(marks.to_vec(), page_len));
         }
     }
-    for length in [16_384, 16_385] {
-        let mut marks = vec![0; length];
-        (marks[0], marks[length - 1]) = (1, 0x6F);
-        records.push(one_page(marks, 100));
+    // The lists of accepted programs around the ends of banks.
+    for CheckCase {
+        marks, base, reset, ..
+    } in bank_programs()
+    {
+        records.push(write_record(&WriteCase {
+            page_len: 18 + 17 * marks.len(),
+            marks,
+            base,
+            reset,
+        }));
     }
     records
 }
 
 /// Every carried code at every width, cases aimed at each number, drawn ones,
-/// pages around their exact length, many rows, and images at and past the
-/// limit: first and last, as each takes half a file.
+/// pages around their exact length, many rows, and programs around the ends of
+/// banks.
 fn print_records(rng: &mut Rng) -> Vec<Vec<u8>> {
-    let mut cases = vec![nops(16_385)];
-    cases.extend(every_code(rng).into_iter().map(PrintCase::exact));
+    let mut cases: Vec<PrintCase> = every_code(rng).into_iter().map(PrintCase::exact).collect();
     for number in PRINT_NUMBERS {
         cases.extend((0..LEAST).map(|_| print_by(rng, number)));
     }
     let drawn = (0..200).map(|_| print_case(rng));
     cases.extend(drawn.filter(|case| case.checked.image.len() < 100));
     cases.extend(around_exact());
-    cases.extend([nops(300), longest_print()]);
+    cases.push(PrintCase::exact(nops(300, 0x12_FF80)));
+    cases.extend(bank_programs().into_iter().map(PrintCase::exact));
     cases.iter().map(print_record).collect()
 }
 
@@ -536,10 +587,10 @@ fn around_exact() -> Vec<PrintCase> {
         image: vec![0x42, 0xA9, 0x34, 0x12, 0xF8, 0xDB],
         marks: vec![1, 0, 0, 0, 1, 3],
         base: 0x12_FFFA,
-        reset: 0xFFFA,
+        reset: 0x12_FFFA,
     };
     let mut last = PrintCase::exact(checked.clone());
-    last.checked.base = 0xFF_FFFA;
+    (last.checked.base, last.checked.reset) = (0xFF_FFFA, 0xFF_FFFA);
     let mut cases = vec![last];
     for page_len in 0..=4 * ROW_BYTES {
         let checked = checked.clone();
@@ -548,31 +599,23 @@ fn around_exact() -> Vec<PrintCase> {
     cases
 }
 
-/// One NOP a row.
-fn nops(length: usize) -> PrintCase {
+/// NOPs and a last STP, each of them a start.
+fn nops(length: usize, base: u32) -> CheckCase {
     let mut image = vec![0xEA; length];
     image[length - 1] = 0xDB;
-    PrintCase::exact(CheckCase {
+    CheckCase {
         image,
         marks: vec![1; length],
-        base: 0x12_0000,
-        reset: 0,
-    })
-}
-
-/// The longest image, with two rows: a jump to its last byte.
-fn longest_print() -> PrintCase {
-    let mut case = nops(16_384);
-    case.checked.image[..3].copy_from_slice(&[0x4C, 0xFF, 0x3F]);
-    case.checked.marks[1..16_383].fill(0);
-    PrintCase::exact(case.checked)
+        base,
+        reset: base,
+    }
 }
 
 /// Cases aimed at each number and drawn ones in small images, each carried
 /// code, as many addresses as go and one more, all lists of two in a short
-/// image, and the longest one.
+/// image, and programs around the ends of banks.
 fn locate_records(rng: &mut Rng) -> Vec<Vec<u8>> {
-    let mut cases = vec![longest_locate()];
+    let mut cases = Vec::new();
     // 0 twice: these alone have places.
     for number in [0, 0].into_iter().chain(LOCATE_NUMBERS) {
         let aimed = std::iter::repeat_with(|| locate_by(rng, number));
@@ -585,11 +628,19 @@ fn locate_records(rng: &mut Rng) -> Vec<Vec<u8>> {
         cases.push(crowd(rng, count));
     }
     cases.extend(pairs());
+    cases.extend(bank_programs().into_iter().map(whole));
     cases.iter().map(locate_record).collect()
 }
 
 fn is_small(case: &LocateCase) -> bool {
     case.checked.image.len() < 60
+}
+
+/// All bytes of an image.
+fn whole(checked: CheckCase) -> LocateCase {
+    let end = checked.base + checked.image.len() as u32;
+    let all = (checked.base..end).collect();
+    LocateCase::exact(checked, all)
 }
 
 /// The image's last three bytes: a length that is too short has a gap there.
@@ -607,7 +658,7 @@ fn pairs() -> Vec<LocateCase> {
         image: vec![0, 0, 0x80, 0x02, 0xEA, 0xEA, 0xDB, 0xEA],
         marks: vec![0, 0, 1, 0, 0, 0, 1, 0],
         base: 0xFF_FFF8,
-        reset: 0xFFFA,
+        reset: 0xFF_FFFA,
     };
     let all = 0xFF_FFF7..=0x100_0000u32;
     let mut lists = vec![(0xFF_FFF8..0x100_0000).collect(), Vec::new()];
@@ -619,21 +670,156 @@ fn pairs() -> Vec<LocateCase> {
     lists.into_iter().map(case).collect()
 }
 
-/// The longest image with two starts, the second on its last byte.
-fn longest_locate() -> LocateCase {
-    let checked = longest_print().checked;
-    let addresses = [0, 2, 3, 255, 256, 8_191, 8_192, 16_382, 16_383];
-    let addresses = addresses.map(|at| checked.base + at);
-    LocateCase::exact(checked, addresses.to_vec())
+/// Bases of the longest image: across a bank's end, and up to FFFFFF.
+const ACROSS: u32 = 0x12_8000;
+const TOP: u32 = 0xFF_0000;
+
+/// For each kind the greatest length and a byte more.
+fn long_files() -> Vec<(String, Vec<u8>)> {
+    let [step, run] = [1, 1_000_000].map(long_runs);
+    let kinds: [(&str, Vec<Vec<u8>>); 8] = [
+        ("check", long_by(&long_checks(), check_sized)),
+        ("step", long_by(&step, run_sized)),
+        ("run", long_by(&run, run_sized)),
+        ("read", long_by(&long_reads(), read_sized)),
+        ("write", long_by(&long_writes(), write_sized)),
+        ("print", long_by(&long_prints(), print_sized)),
+        ("locate", long_by(&long_locates(), locate_sized)),
+        ("build", long_by(&long_builds(), build_sized)),
+    ];
+    let long = |(kind, records): (&str, Vec<Vec<u8>>)| {
+        let bytes = file(records.len() as u32, &records.concat());
+        (format!("{kind}-long.bin"), bytes)
+    };
+    kinds.into_iter().map(long).collect()
+}
+
+fn long_by<T>(cases: &[T], record: fn(&T, Size) -> Vec<u8>) -> Vec<Vec<u8>> {
+    cases.iter().map(|case| record(case, Size::Long)).collect()
+}
+
+/// Accepted; refused at its last byte; past FFFFFF; too long.
+fn long_checks() -> [CheckCase; 4] {
+    let mut last = nops(MAX_IMAGE, TOP);
+    last.image[MAX_IMAGE - 1] = 0x00;
+    [
+        nops(MAX_IMAGE, ACROSS),
+        last,
+        nops(MAX_IMAGE, TOP + 1),
+        too_long(),
+    ]
+}
+
+/// NOPs alone.
+fn too_long() -> CheckCase {
+    let mut case = nops(MAX_IMAGE + 1, ACROSS);
+    case.image[MAX_IMAGE] = 0xEA;
+    case
+}
+
+fn long_runs(steps: u32) -> [RunCase; 2] {
+    [nops(MAX_IMAGE, ACROSS), too_long()].map(|case| {
+        let mut state = vec![0; STATE_BYTES];
+        let registers = Registers {
+            pc: case.reset,
+            ..Registers::default()
+        };
+        registers.write(&mut state);
+        RunCase {
+            image: case.image,
+            base: case.base,
+            state,
+            ram: vec![0; 16],
+            fill: (0, 0),
+            steps,
+        }
+    })
+}
+
+/// Starts on the first byte and on the last: read in six digits; in four, from
+/// a bank's first byte on, and not from its second; past FFFFFF; too long.
+fn long_reads() -> Vec<ReadCase> {
+    let list = |base: u32, marks_len: usize, digits: usize| {
+        let last = base as usize + MAX_IMAGE - 1;
+        let start = "\t0\t0\tN\t0\t0\n";
+        let head = format!("I\t{base:06X}\t{marks_len}\t{base:06X}\n");
+        let list = format!("{head}{base:06X}{start}{:06X}{start}", last.min(0xFF_FFFF));
+        let text = rewritten(list.as_bytes(), |_| digits);
+        ReadCase { text, marks_len }
+    };
+    vec![
+        list(ACROSS, MAX_IMAGE, 6),
+        list(0x12_0000, MAX_IMAGE, 4),
+        // The last byte lies in the next bank, at 0000: it has no line.
+        without_last_line(list(0x12_0001, MAX_IMAGE, 4)),
+        list(TOP + 1, MAX_IMAGE, 6),
+        list(ACROSS, MAX_IMAGE + 1, 6),
+    ]
+}
+
+fn without_last_line(mut case: ReadCase) -> ReadCase {
+    let lines: Vec<&[u8]> = case.text.split_inclusive(|&b| b == b'\n').collect();
+    case.text = lines[..lines.len() - 1].concat();
+    case
+}
+
+/// Written; past FFFFFF; too long.
+fn long_writes() -> [WriteCase; 3] {
+    [(ACROSS, 0), (TOP + 1, 0), (ACROSS, 1)].map(|(base, more)| {
+        let mut marks = vec![0; MAX_IMAGE + more];
+        (marks[0], marks[MAX_IMAGE - 1]) = (1, 0x6F);
+        WriteCase {
+            marks,
+            base,
+            reset: base,
+            page_len: 100,
+        }
+    })
+}
+
+/// Two rows, and an image that is too long.
+fn long_prints() -> [PrintCase; 2] {
+    let mut case = PrintCase::exact(too_long());
+    case.page_len = 100;
+    [PrintCase::exact(first_and_last()), case]
+}
+
+/// A long jump from the first byte to the last.
+fn first_and_last() -> CheckCase {
+    let mut case = nops(MAX_IMAGE, ACROSS);
+    let last = ACROSS + MAX_IMAGE as u32 - 1;
+    let [low, middle, high, _] = last.to_le_bytes();
+    case.image[..4].copy_from_slice(&[0x5C, low, middle, high]);
+    case.marks[1..MAX_IMAGE - 1].fill(0);
+    case
+}
+
+/// Every byte a start; the first and the last, which is a routine too; too long.
+fn long_builds() -> [BuildCase; 3] {
+    let mut last = vec![0; MAX_IMAGE];
+    last[MAX_IMAGE - 1] = 1;
+    [
+        BuildCase::listing(nops(MAX_IMAGE, ACROSS), &[]),
+        BuildCase::listing(first_and_last(), &last),
+        BuildCase::listing(too_long(), &last),
+    ]
+}
+
+/// Addresses all over two instructions and what lies between; too long.
+fn long_locates() -> [LocateCase; 2] {
+    [first_and_last(), too_long()].map(|checked| {
+        let addresses = [0, 3, 4, 255, 256, 32_767, 32_768, 65_534, 65_535];
+        let addresses = addresses.map(|at| checked.base + at);
+        LocateCase::exact(checked, addresses.to_vec())
+    })
 }
 
 /// Hand-made cases; cases aimed at each number in small images, more of those
 /// that are built; each way not to fit; every carried code at every width; as
-/// many routines as go and one more; the longest image, and one that is a byte
-/// longer.
+/// many routines as go and one more; lists by their digits, and programs around
+/// the end of a bank.
 fn build_records(rng: &mut Rng) -> Vec<Vec<u8>> {
-    let mut cases = vec![backwards(rng, 16_384)];
-    cases.extend(hand_made().iter().map(HandMade::case));
+    let mut cases: Vec<BuildCase> = hand_made().iter().map(HandMade::case).collect();
     for (number, more) in [(0, LEAST / 2), (14, 0), (1, 0), (2, 0), (17, 0)] {
         let aimed = std::iter::repeat_with(|| build_by(rng, number));
         cases.extend(aimed.filter(is_short).take(LEAST + more));
@@ -643,15 +829,14 @@ fn build_records(rng: &mut Rng) -> Vec<Vec<u8>> {
         let refused = broken.filter(|case| case.answer().0 == 17);
         cases.extend(refused.filter(is_short).take(8));
     }
-    for program in codes_in_a_row(rng) {
-        let listed = called(&program);
-        cases.push(BuildCase::listing(program, &listed));
-    }
+    cases.extend(codes_in_a_row(rng).into_iter().map(with_routines));
     for count in [255, 256, 256, 257, 257, 300] {
         cases.push(many_routines(rng, count));
     }
     cases.extend(too_many_and_more(rng));
-    cases.push(too_long(rng));
+    cases.extend(digit_routines());
+    let jumps = bank_programs().into_iter().take(BANK_JUMPS);
+    cases.extend(jumps.map(with_routines));
     cases.iter().map(build_record).collect()
 }
 
@@ -659,21 +844,29 @@ fn is_short(case: &BuildCase) -> bool {
     case.image.len() < 60 && case.marks.len() < 400 && case.routines.len() < 200
 }
 
+/// A program with a list of the starts that its calls go to.
+fn with_routines(program: CheckCase) -> BuildCase {
+    let listed = called(&program);
+    BuildCase::listing(program, &listed)
+}
+
 /// 257 routines and 300, which are too many, and something that is tested
 /// before: a last line with N and a return width, with an address below the
-/// others, without its 0A; marks of another length; a base past the last one.
+/// others, without its 0A, with four digits; marks of another length; a base past
+/// the last one.
 fn too_many_and_more(rng: &mut Rng) -> Vec<BuildCase> {
     let mut cases = Vec::new();
     for count in [257, 300] {
         let case = many_routines(rng, count);
         let lines = [
-            "FFFF\t0\t0\tN\t0\t1\n",
-            "0000\t0\t0\tN\t0\t0\n",
-            "FFFF\t0\t0\tN\t0\t0",
+            "FFFFFF\t0\t0\tN\t0\t1\n",
+            "000000\t0\t0\tN\t0\t0\n",
+            "FFFFFF\t0\t0\tN\t0\t0",
+            "FFFF\t0\t0\tN\t0\t0\n",
         ];
         for line in lines {
             let mut case = case.clone();
-            case.routines.truncate(15 * (count - 1));
+            case.routines.truncate(17 * (count - 1));
             case.routines.extend_from_slice(line.as_bytes());
             cases.push(case);
         }
@@ -683,14 +876,4 @@ fn too_many_and_more(rng: &mut Rng) -> Vec<BuildCase> {
         cases.extend([shorter, above]);
     }
     cases
-}
-
-/// A byte more than an image may have, all else in form.
-fn too_long(rng: &mut Rng) -> BuildCase {
-    let mut case = straight(rng, 16_384);
-    case.image.push(0xDB);
-    case.marks.push(0);
-    case.base &= 0xFF_0000;
-    case.reset = 0;
-    case
 }

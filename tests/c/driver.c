@@ -170,7 +170,7 @@ static int read_list(char **arguments)
         return UNREAD;
     if (read.refusal != 0)
         return refused(read.refusal);
-    printf("read: base %06X, reset %04X\n", (unsigned)read.base, (unsigned)read.reset);
+    printf("read: base %06X, reset %06X\n", (unsigned)read.base, (unsigned)read.reset);
     return ACCEPTED;
 }
 

@@ -7,7 +7,7 @@
 #include "m7700.h"
 
 #define BASE 0x00C000
-#define RESET 0xC000
+#define RESET 0x00C000
 
 static uint8_t image[M7700_IMAGE_BYTES + 1], marks[M7700_IMAGE_BYTES + 1], list[M7700_LIST_BYTES];
 static uint8_t page[M7700_PAGE_BYTES];
@@ -91,8 +91,9 @@ static void flags(void)
 
 static void mark_bits(void)
 {
-    static const char expected[] = "I\t00C000\t7\tC000\nC000\t0\t0\tN\t0\t0\nC001\t1\t0\tN\t0\t0\nC002\t0\t1\tN\t0\t0\n"
-        "C003\t0\t0\tS\t0\t0\nC004\t0\t0\tL\t0\t0\nC005\t0\t0\tS\t1\t0\nC006\t0\t0\tL\t0\t1\n";
+    static const char expected[] = "I\t00C000\t7\t00C000\n00C000\t0\t0\tN\t0\t0\n00C001\t1\t0\tN\t0\t0\n"
+        "00C002\t0\t1\tN\t0\t0\n00C003\t0\t0\tS\t0\t0\n00C004\t0\t0\tL\t0\t0\n00C005\t0\t0\tS\t1\t0\n"
+        "00C006\t0\t0\tL\t0\t1\n";
     static const uint8_t bits[] = {
         M7700_KIND_NONE << 3, M7700_MARK_M, M7700_MARK_X, M7700_KIND_RTS << 3, M7700_KIND_RTL << 3,
         M7700_KIND_RTS << 3 | M7700_MARK_RETURN_M, M7700_KIND_RTL << 3 | M7700_MARK_RETURN_X,
@@ -116,10 +117,10 @@ static size_t list_routines(uint32_t count)
     uint32_t i;
 
     for (i = 0; i < count; i++) {
-        sprintf(line, "%04X\t0\t0\tS\t0\t0\n", RESET + 1 + i);
-        memcpy(list + 15 * i, line, 15);
+        sprintf(line, "%06X\t0\t0\tS\t0\t0\n", RESET + 1 + i);
+        memcpy(list + 17 * i, line, 17);
     }
-    return 15 * count;
+    return 17 * count;
 }
 
 /* STP at the reset and at each of so many routines. */
@@ -140,7 +141,7 @@ static void marks_built(void)
     same("the most routines", build(M7700_ROUTINES).refusal, 0);
     same("more routines", build(M7700_ROUTINES + 1).refusal, M7700_REFUSED_ROUTINES);
     same("the marks then", marks[0], 0xFF);
-    same("a list cut short", m7700_build_image_marks(image, 2, BASE, RESET, list, 14, marks, 2).refusal,
+    same("a list cut short", m7700_build_image_marks(image, 2, BASE, RESET, list, 16, marks, 2).refusal,
          M7700_REFUSED_LIST);
 }
 

@@ -15,23 +15,24 @@
 
 #include "m7700.h"
 
-enum { STACK = 2 * M7700_BUILD_STACK_BYTES, BASE = 0x00C000, RESET = 0xC000, PAINT = 0xA5 };
+enum { STACK = 2 * M7700_BUILD_STACK_BYTES, BASE = 0x00C000, RESET = BASE, PAINT = 0xA5 };
 
 static uint8_t stack[STACK], image[M7700_IMAGE_BYTES], marks[M7700_IMAGE_BYTES];
 static uint8_t list[M7700_LIST_BYTES], page[M7700_PAGE_BYTES], state[M7700_STATE_BYTES], ram[M7700_RAM_BYTES];
 static uint32_t addresses[M7700_ADDRESSES], places[M7700_ADDRESSES];
 
-/* A call of a routine that fills the image: JSR C004; STP; NOP ..; RTS. All but the operand are starts. */
+/* A call of a routine that fills the image, over a bank end: JSR long 00C005; STP; NOP ..; RTL. All but the operand are
+ * starts. */
 static void make_program(void)
 {
-    static const uint8_t code[] = {0x20, 0x04, 0xC0, 0xDB}, marked[] = {0x01, 0x00, 0x00, 0x01};
+    static const uint8_t code[] = {0x22, 0x05, 0xC0, 0x00, 0xDB}, marked[] = {0x01, 0x00, 0x00, 0x00, 0x01};
     uint32_t i;
 
     memset(image, 0xEA, sizeof image);
-    memset(marks, M7700_MARK_START | M7700_KIND_RTS << 3, sizeof marks);
+    memset(marks, M7700_MARK_START | M7700_KIND_RTL << 3, sizeof marks);
     memcpy(image, code, sizeof code);
     memcpy(marks, marked, sizeof marked);
-    image[sizeof image - 1] = 0x60;
+    image[sizeof image - 1] = 0x6B;
     for (i = 0; i < M7700_ADDRESSES; i++)
         addresses[i] = BASE + i * (M7700_IMAGE_BYTES / M7700_ADDRESSES);
     state[M7700_AT_PC + 1] = RESET >> 8;
@@ -65,7 +66,7 @@ static void call_read(void)
 /* From the routine alone; the marks are as they were. */
 static void call_build(void)
 {
-    static const char routine[] = "C004\t0\t0\tS\t0\t0\n";
+    static const char routine[] = "00C005\t0\t0\tL\t0\t0\n";
 
     refusal = m7700_build_image_marks(image, sizeof image, BASE, RESET, (const uint8_t *)routine,
                                       sizeof routine - 1, marks, sizeof marks).refusal;

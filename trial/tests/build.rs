@@ -156,13 +156,13 @@ fn a_difference_shows_the_case() {
         image: vec![0xDB, 0x60],
         base: 0xC000,
         reset: 0xC000,
-        routines: b"C001\t0\t0\tS\t0\t0\n".to_vec(),
+        routines: b"00C001\t0\t0\tS\t0\t0\n".to_vec(),
         marks: vec![0x5A, 0x5A],
     };
     TWIST.set(ends_elsewhere);
     let shown = Subject::new(twisted).compare(&case).unwrap_err();
-    let wanted = "marks after the call: 0108\n  base 00C000, reset C000\n  \
-                  routines, 15 bytes: C001\\t0\\t0\\tS\\t0\\t0\\n\n  \
+    let wanted = "marks after the call: 0108\n  base 00C000, reset 00C000\n  \
+                  routines, 17 bytes: 00C001\\t0\\t0\\tS\\t0\\t0\\n\n  \
                   image, 2 bytes: DB60\n  marks, 2 bytes: 5A5A";
     assert_eq!(shown, wanted);
 }

@@ -104,7 +104,7 @@ fn a_difference_shows_the_case() {
         reset: 0xC000,
     };
     let shown = Subject::new(writes).compare(&case).unwrap_err();
-    let wanted = "marks after the call: 010A\n  base 00C000, reset C000\n  \
+    let wanted = "marks after the call: 010A\n  base 00C000, reset 00C000\n  \
                   image, 2 bytes: DB60\n  marks, 2 bytes: 010B";
     assert_eq!(shown, wanted);
 }
@@ -165,7 +165,7 @@ fn a_fault_in_a_call_shows_the_case() {
 #[test]
 fn long_images_are_accepted() {
     let mut rng = Rng::new(5);
-    for length in [8_192, 16_383, 16_384] {
+    for length in [8_192, 32_768, 65_535, 65_536] {
         for case in [
             mixed_code(&mut rng, length),
             one_byte_codes(&mut rng, length),
@@ -174,19 +174,18 @@ fn long_images_are_accepted() {
             assert_eq!(answer(&case), 0);
         }
     }
-    let case = mixed_code(&mut rng, 16_384);
+    let case = mixed_code(&mut rng, 65_536);
     let starts = case.marks.iter().filter(|&&mark| mark != 0).count();
-    assert!((3_000..10_000).contains(&starts), "{starts}");
+    assert!((12_000..40_000).contains(&starts), "{starts}");
 }
 
 #[test]
-fn sweeps_meet_every_number_from_4_on() {
+fn sweeps_meet_every_number() {
     let mut tally = Tally::new(&NUMBERS);
     sweeps(&mut Rng::new(1), |case| {
         tally.note(Ok((answer(case) >> 16) as u8))
     });
-    let missing: Vec<u8> = tally.missing().iter().map(|named| named.0).collect();
-    assert_eq!(missing, [1, 2, 3]);
+    assert!(tally.missing().is_empty());
 }
 
 #[test]

@@ -151,7 +151,7 @@ fn a_difference_shows_the_case() {
         page_len: 1,
     };
     let shown = Writer::new(begins).compare(&case).unwrap_err();
-    let wanted = "page after the call: 49\n  base 00C000, reset C000\n  \
+    let wanted = "page after the call: 49\n  base 00C000, reset 00C000\n  \
                   page of 1 bytes\n  marks, 1 bytes: 01";
     assert_eq!(shown, wanted);
 }
@@ -168,11 +168,11 @@ fn sweeps_meet_every_number() {
 
 #[test]
 fn the_longest_list_is_read_back() {
-    let marked = every_start(&mut Rng::new(5), 16_384);
+    let marked = every_start(&mut Rng::new(5), 65_536);
     let case = ReadCase {
         text: marked.list(),
-        marks_len: 16_384,
+        marks_len: 65_536,
     };
-    assert_eq!(case.text.len(), 20 + 15 * 16_384);
+    assert_eq!(case.text.len(), 22 + 17 * 65_536);
     assert_eq!(case.answer().1, marked.marks);
 }

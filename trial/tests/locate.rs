@@ -188,7 +188,7 @@ fn a_difference_shows_the_case() {
     let case = LocateCase::exact(checked, vec![0xC000]);
     TWIST.set(ends_elsewhere);
     let shown = Subject::new(twisted).compare(&case).unwrap_err();
-    let wanted = "places after the call: 00C00000\n  base 00C000, reset C000\n  \
+    let wanted = "places after the call: 00C00000\n  base 00C000, reset 00C000\n  \
                   1 addresses: [00C000]\n  1 places\n  image, 1 bytes: DB\n  \
                   marks, 1 bytes: 01";
     assert_eq!(shown, wanted);

@@ -178,7 +178,7 @@ fn a_difference_shows_the_case() {
     let shown = Subject::new(twisted).compare(&case).unwrap_err();
     let row = "303043303030204442202020202020202020202020202020205354502020302030204E20";
     let wanted = format!(
-        "page after the call: {row}\n  base 00C000, reset C000\n  page of 36 bytes\n  \
+        "page after the call: {row}\n  base 00C000, reset 00C000\n  page of 36 bytes\n  \
          image, 1 bytes: DB\n  marks, 1 bytes: 01"
     );
     assert_eq!(shown, wanted);

@@ -13,7 +13,7 @@ use Rattle.text.specs.Digits.{digits}
 use Rattle.types.specs.Refusals.{refusalNumber}
 use Rattle.model.specs.Image.{imageLimit, startCount}
 use Rattle.model.specs.Verdict.{verdict}
-use Rattle.model.specs.MarkList.{tab, lineEnd, decimalDigits, headerShown, marksOf, readAs}
+use Rattle.model.specs.MarkList.{tab, lineEnd, decimalDigits, isOld, addressDigits, headerShown, marksOf, readAs}
 use Rattle.answer.specs.declared.answers.FileAnswer.{FileAnswer}
 
 -- 'A list file over 61,440 bytes'
@@ -31,11 +31,11 @@ verdictAnswer image marks base reset = answerBy (verdict image marks base reset)
 -- a list that is refused has no offset ('0 where none is given'); else its marks, base and reset are the check's
 unfoldable pub answerOf : ListRead → List ℕ → List ℕ → FileAnswer
 answerOf (ListRead.NotRead why) image text = FileAnswer.Refused why 0
-answerOf (ListRead.Read h) image text = verdictAnswer image (marksOf h text) (h .base) (h .reset)
+answerOf (ListRead.Read h) image text = verdictAnswer image (marksOf (addressDigits text) h text) (h .base) (h .reset)
 
 -- the list is read for as many marks as the image has bytes
 unfoldable pub listAnswer : List ℕ → List ℕ → FileAnswer
-listAnswer image text = answerOf (readAs (headerShown text) text (length image)) image text
+listAnswer image text = answerOf (readAs (isOld text) (headerShown text) text (length image)) image text
 
 -- 'A list file over 61,440 bytes, an image file over the limit', before all else
 unfoldable pub answerFor : List ℕ → List ℕ → FileAnswer

@@ -4,8 +4,8 @@
 use mathlib.Core.Path.{_≡_, refl, sym, ap, subst, _∙_}
 use mathlib.Core.Logic.{_⊎_, inl, inr}
 use mathlib.Core.Bool.{Bool, true, false, true≢false, _&&_}
-use mathlib.Core.List.{List, _∷_, _++_, append-nil}
-use Prim.Native.Nat.{ℕ, _+_, _%_, _≤_, _<_}
+use mathlib.Core.List.{List, _++_, append-nil}
+use Prim.Native.Nat.{ℕ, _+_, _≤_, _<_}
 use native.Mathlib.Omega.{arith}
 use borrow.Author.Tests.{eq-eqb, ne-eqb, ltb-true, ltb-false}
 use lib.Dec.{ltb, leb}
@@ -13,21 +13,23 @@ use lib.ListN.{length, getD, drop, drop-of-length-le, List·getD-eq-default}
 use Rattle.types.specs.declared.refusals.Refusal.{Refusal}
 use Rattle.types.specs.declared.refusals.TestResult.{TestResult}
 use Rattle.types.specs.declared.rules.Verdict.{Verdict}
-use Rattle.types.specs.Addresses.{bankSize, addressLimit}
+use Rattle.types.specs.Addresses.{addressLimit}
 use Rattle.types.specs.Refusals.{Tests, firstRefusal}
 use Rattle.prelude.proofs.First.{Passed, passed-to, passed-all}
 use Rattle.packing.specs.Packed.{packedVerdict}
 use Rattle.packing.proofs.Unpacked.{accepted-zero}
 use Rattle.marklist.proofs.Reading.{nothing-left}
 use Rattle.model.specs.Image.{startCount}
-use Rattle.model.specs.Verdict.{startAt, imageTests, verdict}
-use Rattle.model.specs.MarkList.{marksShown, linesLeft}
-use Rattle.model.specs.Routines.{isRoutineList, routineMarks, routinesInside, routineLimit, routinesFit}
+use Rattle.model.specs.Verdict.{startAt, verdict}
+use Rattle.model.specs.MarkList.{digitsBy, firstAddress, marksShown, linesLeft}
+use Rattle.model.specs.Routines.{hasOldLines, routineDigits, firstRoutine, routineMarks, routinesInside}
+use Rattle.model.specs.Routines.{routineLimit, routinesFit}
 use Rattle.model.specs.Routines.{StandsIn, Plain, standsIn, strayAt, allListed, acceptedBy, isAdmitted}
-use Rattle.model.specs.Routines.{built, marksBuilt, WithinLimits}
+use Rattle.model.specs.Routines.{formTests, built, marksBuilt, WithinLimits}
 use Rattle.model.proofs.Image.{RightLength, right-length, base-whole}
 use Rattle.model.proofs.MarkList.{formed-mark, all-formed, length-shown}
-use Rattle.model.proofs.TestResults.{AllHold, shown, none-fails, ends}
+use Rattle.model.proofs.ListAnswers.{list-base}
+use Rattle.model.proofs.TestResults.{AllHold, shown, ends}
 use Rattle.model.proofs.LeastMarks.{tested-stands, routines-refuse, within-limits, refused-keeps, Complete}
 use Rattle.model.proofs.LeastMarks.{worked-delivered, worked-refused}
 use Rattle.builder.specs.Order.{Closed}
@@ -35,21 +37,25 @@ use Rattle.builder.proofs.Worklist.{complete}
 
 -- ---- 17: the routines
 
-pub is-table : (base n : ℕ) (text table : List ℕ) (first : ℕ) → first ≡ base % bankSize
-    → table ≡ marksShown first n text → table ≡ routineMarks base n text
-unfolding routineMarks
-is-table base n text table first low e = rw low at e
+module _ (base n : ℕ) (text : List ℕ) (old : Bool) (is-old : old ≡ hasOldLines text) (first : ℕ)
+    (is-first : first ≡ firstAddress (digitsBy old) base) where
+  pub is-table : (table : List ℕ) → table ≡ marksShown (digitsBy old) first n text → table ≡ routineMarks base n text
+  unfolding routineMarks
+  is-table table e = rw (is-first, is-old) at e
 
-module _ (base n : ℕ) (text : List ℕ) (end : ℕ) (inside : end ≤ length text)
-    (left : drop end text ≡ linesLeft (base % bankSize) n text) where
-  pub some-left : (end ≡ length text → ⊥) → false ≡ routinesFit base n text
-  unfolding routinesFit routinesInside
-  some-left other = rw (← left, ← nothing-left text end inside, ne-eqb end (length text) other)
+  module _ (end : ℕ) (inside : end ≤ length text) (left : drop end text ≡ linesLeft (digitsBy old) first n text)
+    where
+      is-left : drop end text ≡ linesLeft (routineDigits text) (firstRoutine base text) n text
+      is-left = rw (is-first, is-old) at left
 
-  pub none-left : end ≡ length text → (count : ℕ) → count ≡ startCount (routineMarks base n text)
-      → leb count routineLimit ≡ routinesFit base n text
-  unfolding routinesFit routinesInside
-  none-left same count e = rw (← left, ← nothing-left text end inside, eq-eqb end (length text) same, e)
+      pub some-left : (end ≡ length text → ⊥) → false ≡ routinesFit base n text
+      unfolding routinesFit routinesInside
+      some-left other = rw (← is-left, ← nothing-left text end inside, ne-eqb end (length text) other)
+
+      pub none-left : end ≡ length text → (count : ℕ) → count ≡ startCount (routineMarks base n text)
+          → leb count routineLimit ≡ routinesFit base n text
+      unfolding routinesFit routinesInside
+      none-left same count e = rw (← is-left, ← nothing-left text end inside, eq-eqb end (length text) same, e)
 
 -- ---- every call's target is on the list
 
@@ -98,7 +104,7 @@ module _ (image : List ℕ) (base reset : ℕ) (routines marks : List ℕ) (resu
 module _ (image : List ℕ) (base reset : ℕ) (text marks : List ℕ) where
   -- 14, 1, 2
   abbrev pub form : Tests
-  form = (isRoutineList text, Refusal.List) ∷ imageTests (length image) (length marks) base
+  form = formTests text (length image) (length marks) base
 
   abbrev Answers : TestResult → List ℕ → Type 0
   Answers so after = (so ≡ built image base reset text marks) × (after ≡ marksBuilt image base reset text marks)
@@ -118,24 +124,21 @@ module _ (image : List ℕ) (base reset : ℕ) (text marks : List ℕ) where
     held : AllHold form
     held = shown form passed
 
-    tested : firstRefusal (imageTests (length image) (length marks) base) ≡ TestResult.Passed
-    tested = none-fails (imageTests (length image) (length marks) base) (held .1)
-
     pub right : RightLength (length image) (length marks)
     right = right-length (length image) (length marks) (held .1 .0)
 
     pub ends-low : base + length image ≤ addressLimit
-    ends-low = base-whole base (length image) (held .1 .1 .0)
+    ends-low = base-whole base (length image) (list-base (hasOldLines text) base (length image) (held .1 .1 .0))
 
     pub not-fit : routinesFit base (length image) text ≡ false → Answers (TestResult.Failed Refusal.Routines) marks
     not-fit fit =
-        refused-so Refusal.Routines (routines-refuse image base reset text marks (held .0) tested fit)
+        refused-so Refusal.Routines (routines-refuse image base reset text marks passed fit)
 
     module _ (fit : routinesFit base (length image) text ≡ true) (routines made : List ℕ)
         (listed : routines ≡ routineMarks base (length image) text) (size : length made ≡ length image)
         (c : Closed image base reset routines made) where
       limits : WithinLimits image base text marks
-      limits = within-limits image base reset text marks (held .0) tested fit
+      limits = within-limits image base reset text marks passed fit
 
       lacks-nothing : Complete image base reset (routineMarks base (length image) text) made
       lacks-nothing =
@@ -154,19 +157,22 @@ module _ (image : List ℕ) (base reset : ℕ) (text marks : List ℕ) where
           (sym (done .0), sym (done .1))
 
 -- a byte of a table is a start, or 00
-pub table-plain : (base n : ℕ) (text : List ℕ) → Plain (routineMarks base n text)
-unfolding routineMarks
-table-plain base n text at none = by (ltb at n) refl
-  where
-    formed : (getD (marksShown (base % bankSize) n text) at 0 ≡ 0)
-        ⊎ ((startAt (marksShown (base % bankSize) n text) at ≡ true)
-        × (getD (marksShown (base % bankSize) n text) at 0 < 128))
-        → getD (marksShown (base % bankSize) n text) at 0 ≡ 0
-    formed (inl e) = e
-    formed (inr s) = absurd (true≢false (sym (s .0) ∙ none))
+module _ (base n : ℕ) (text : List ℕ) where
+  abbrev table : List ℕ
+  table = marksShown (routineDigits text) (firstRoutine base text) n text
 
-    by : (b : Bool) → ltb at n ≡ b → getD (marksShown (base % bankSize) n text) at 0 ≡ 0
-    by true e = formed (formed-mark _ (all-formed (base % bankSize) n text at (ltb-true at n e)))
-    by false e =
-        List·getD-eq-default (marksShown (base % bankSize) n text) 0
-        (omega (arith, ltb-false at n e, length-shown (base % bankSize) n text))
+  pub table-plain : Plain (routineMarks base n text)
+  unfolding routineMarks
+  table-plain at none = by (ltb at n) refl
+    where
+      formed : (getD table at 0 ≡ 0) ⊎ ((startAt table at ≡ true) × (getD table at 0 < 128)) → getD table at 0 ≡ 0
+      formed (inl e) = e
+      formed (inr s) = absurd (true≢false (sym (s .0) ∙ none))
+
+      by : (b : Bool) → ltb at n ≡ b → getD table at 0 ≡ 0
+      by true e =
+          formed (formed-mark _
+          (all-formed (routineDigits text) (firstRoutine base text) n text at (ltb-true at n e)))
+      by false e =
+          List·getD-eq-default table 0
+          (omega (arith, ltb-false at n e, length-shown (routineDigits text) (firstRoutine base text) n text))

@@ -2,13 +2,11 @@
 -- Assumes nothing.
 use mathlib.Core.Path.{_≡_, ap, _∙_}
 use mathlib.Core.List.{List}
-use Prim.Native.Nat.{ℕ, _+_, _<_, _≤_}
-use borrow.Author.Tests.{lt-ltb, le-ltb}
+use Prim.Native.Nat.{ℕ, _+_}
 use lib.ListN.{getD, drop}
 use Rattle.types.specs.declared.code.Kind.{Kind}
 use Rattle.types.specs.declared.code.Flow.{Flow}
 use Rattle.types.specs.declared.code.Instruction.{Instruction}
-use Rattle.types.specs.Addresses.{bankSize, inBankOf}
 use Rattle.decoder.specs.declared.Layout.{Layout}
 use Rattle.decoder.specs.declared.LayoutRead.{LayoutRead}
 use Rattle.decoder.specs.Layout.{layoutRead, instructionOf, decodedOf}
@@ -17,7 +15,7 @@ use Rattle.model.specs.Decode.{decode}
 use Rattle.model.specs.Image.{markM, markX, markAt}
 use Rattle.model.specs.Rules.{nextAddress, targetAddress, markAfter, markOfRoutine, markOnReturn}
 use Rattle.model.specs.Rules.{instructionAt, owedBy, owedAt, owedThere}
-use Rattle.builder.specs.Order.{put, putOwed, putReset, owedOf, owedBehind}
+use Rattle.builder.specs.Order.{put, putOwed, owedOf, owedBehind}
 
 -- ---- by the flow
 
@@ -82,15 +80,3 @@ module _ (image marks : List ℕ) (base at : ℕ) (here : LayoutRead)
   pub behind-short : here ≡ LayoutRead.Short → marks ≡ putOwed marks base (owedBehind image marks base at)
   unfolding owedOf putOwed
   behind-short e = rw (there, e)
-
--- ---- the reset
-
-module _ (marks : List ℕ) (base reset : ℕ) where
-  pub no-reset : bankSize ≤ reset → marks ≡ putReset marks base reset
-  unfolding putReset
-  no-reset past = rw (le-ltb reset bankSize past)
-
-  pub put-reset : (address : ℕ) (made : List ℕ) → reset < bankSize → address ≡ inBankOf base reset
-      → made ≡ put marks base address 1 → made ≡ putReset marks base reset
-  unfolding putReset
-  put-reset address made small is-address e = rw (lt-ltb reset bankSize small, ← is-address) e

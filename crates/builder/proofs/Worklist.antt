@@ -8,23 +8,22 @@ use mathlib.Core.List.{List}
 use Prim.Native.Nat.{ℕ, _+_, _-_, _≤_, _<_}
 use native.Mathlib.Omega.{arith}
 use borrow.Author.Tests.{eqb-true, eqb-false, leb-true, lt-ltb, le-leb, not-false}
-use lib.Dec.{eqb, ltb, leb}
+use lib.Dec.{eqb, leb}
 use lib.ListN.{length, getD, length-set}
 use lib.Seq.{getD-set-same, getD-set-other}
 use Rattle.types.specs.declared.code.Decoded.{Decoded}
 use Rattle.types.specs.declared.rules.Requirements.{Requirements}
-use Rattle.types.specs.Addresses.{bankSize, inBankOf}
 use Rattle.prelude.specs.Choice.{pick}
 use Rattle.prelude.proofs.Choice.{both-true}
-use Rattle.model.specs.Image.{isStart, markOf, markAt, resetFits}
+use Rattle.model.specs.Image.{isStart, markOf, markAt}
 use Rattle.model.specs.Rules.{instructionAt, Met, AllMet}
 use Rattle.model.specs.Verdict.{startAt, isStartAt, allStarts}
 use Rattle.model.specs.Routines.{StandsIn, Admitted}
 use Rattle.model.proofs.Verdict.{start-inside}
-use Rattle.model.proofs.Routines.{stands-through, same-at, admitted-rules, admitted-length, reset-met}
+use Rattle.model.proofs.Routines.{stands-through, same-at, admitted-length, reset-met}
 use Rattle.model.proofs.Routines.{whole-there, owed-met}
 use Rattle.model.proofs.LeastMarks.{Complete}
-use Rattle.builder.specs.Order.{isFree, put, putOwed, putReset, owedOf, owedBehind, Queue, Kept, Working, Closed}
+use Rattle.builder.specs.Order.{isFree, put, putOwed, owedOf, owedBehind, Queue, Kept, Working, Closed}
 use Rattle.builder.proofs.Putting.{is-free, put-free, put-taken}
 
 -- ---- one start put
@@ -189,41 +188,28 @@ module _ (image : List ℕ) (base reset : ℕ) (routines : List ℕ) where
       by (Decoded.Whole i) e = owed-met image base reset routines marks others v stands at s i listed e
 
   -- the start at the reset address
-  reset-small : (others : List ℕ) → Admitted image base reset routines others → ltb reset bankSize ≡ true
-  unfolding resetFits
-  reset-small others v =
-      both-true (ltb reset bankSize) _ (admitted-rules image base reset routines others v .at-reset) .0
-
   abbrev with-reset : List ℕ
-  with-reset = put routines base (inBankOf base reset) (markOf 0 0 0 0 0)
-
-  reset-kept : (b : Bool) → StandsIn routines (pick b with-reset routines)
-  reset-kept true = put-kept routines base (inBankOf base reset) (markOf 0 0 0 0 0)
-  reset-kept false = λ at s. refl
+  with-reset = put routines base reset (markOf 0 0 0 0 0)
 
   module _ (others : List ℕ) (v : Admitted image base reset routines others) where
-    reset-within : (b : Bool) → StandsIn (pick b with-reset routines) others
-    reset-within true =
-        put-within routines base (inBankOf base reset) (markOf 0 0 0 0 0) others
-        (reset-met image base reset routines others v) (v .as-listed)
-    reset-within false = v .as-listed
+    reset-within : StandsIn with-reset others
+    reset-within =
+        put-within routines base reset (markOf 0 0 0 0 0) others (reset-met image base reset routines others v)
+        (v .as-listed)
 
-    reset-there : length routines ≡ length image → isStart (markAt with-reset base (inBankOf base reset)) ≡ true
+    reset-there : length routines ≡ length image → isStart (markAt with-reset base reset) ≡ true
     reset-there long =
-        put-there routines base (inBankOf base reset) (markOf 0 0 0 0 0) others
-        (reset-met image base reset routines others v)
+        put-there routines base reset (markOf 0 0 0 0 0) others (reset-met image base reset routines others v)
         (admitted-length image base reset routines others v ∙ sym long)
 
-  pub begins : (marks order : List ℕ) (count : ℕ) → length routines ≡ length image
-      → marks ≡ putReset routines base reset → Queue marks order count
-      → Working image base reset routines marks order count 0
-  unfolding putReset
+  pub begins : (marks order : List ℕ) (count : ℕ) → length routines ≡ length image → marks ≡ with-reset
+      → Queue marks order count → Working image base reset routines marks order count 0
   begins marks order count long is-put q = rw is-put (record {
     queue = rw is-put at q;
     some = omega arith;
-    as-listed = reset-kept (ltb reset bankSize);
-    within = λ others v. reset-within others v (ltb reset bankSize);
-    at-reset = λ others v. rw (reset-small others v) (reset-there others v long);
+    as-listed = put-kept routines base reset (markOf 0 0 0 0 0);
+    within = reset-within;
+    at-reset = λ others v. reset-there others v long;
     answered = λ others v k low. absurd (omega arith);
   })
 
@@ -276,7 +262,7 @@ module _ (image : List ℕ) (base reset : ℕ) (routines : List ℕ) where
       some = omega (arith, kept .0);
       as-listed = stands-through routines marks after (w .as-listed) stood;
       within = within-more;
-      at-reset = λ others v. start-kept marks after base (inBankOf base reset) stood (w .at-reset others v);
+      at-reset = λ others v. start-kept marks after base reset stood (w .at-reset others v);
       answered = answered-more;
     }
 

@@ -9,9 +9,8 @@ use lib.Dec.{ltb, leb}
 use lib.ListN.{length, getD, set}
 use Rattle.types.specs.declared.code.Decoded.{Decoded}
 use Rattle.types.specs.declared.rules.Requirements.{Requirements}
-use Rattle.types.specs.Addresses.{bankSize, inBankOf}
 use Rattle.prelude.specs.Choice.{pick}
-use Rattle.model.specs.Image.{isStart, markOf, markAt, startCount}
+use Rattle.model.specs.Image.{isStart, markAt, startCount}
 use Rattle.model.specs.Rules.{owedThere, instructionAt}
 use Rattle.model.specs.Verdict.{startAt, allStarts}
 use Rattle.model.specs.Routines.{StandsIn, Plain, Admitted}
@@ -30,11 +29,6 @@ unfoldable pub putOwed : List ℕ → ℕ → Requirements → List ℕ
 putOwed marks base Requirements.Nothing = marks
 putOwed marks base (Requirements.One w) = put marks base (w .address) (w .mark)
 putOwed marks base (Requirements.Two v w) = put (put marks base (v .address) (v .mark)) base (w .address) (w .mark)
-
--- and the start at the reset address, of 16 bits
-unfoldable pub putReset : List ℕ → ℕ → ℕ → List ℕ
-putReset marks base reset =
-    pick (ltb reset bankSize) (put marks base (inBankOf base reset) (markOf 0 0 0 0 0)) marks
 
 -- what the start at a place requires; nothing where no instruction is read there
 unfoldable pub owedOf : List ℕ → ℕ → ℕ → Decoded → Requirements
@@ -66,7 +60,7 @@ module _ (image : List ℕ) (base reset : ℕ) (routines : List ℕ) where
     pub as-listed : StandsIn routines marks
     pub within : (others : List ℕ) → Admitted image base reset routines others → StandsIn marks others
     pub at-reset : (others : List ℕ) → Admitted image base reset routines others
-        → isStart (markAt marks base (inBankOf base reset)) ≡ true
+        → isStart (markAt marks base reset) ≡ true
     pub answered : (others : List ℕ) → Admitted image base reset routines others → (k : ℕ) → k < done
         → allStarts marks base (owedBehind image others base (getD order k 0)) ≡ true
 
@@ -76,6 +70,6 @@ module _ (image : List ℕ) (base reset : ℕ) (routines : List ℕ) where
     pub as-listed : StandsIn routines marks
     pub within : (others : List ℕ) → Admitted image base reset routines others → StandsIn marks others
     pub at-reset : (others : List ℕ) → Admitted image base reset routines others
-        → isStart (markAt marks base (inBankOf base reset)) ≡ true
+        → isStart (markAt marks base reset) ≡ true
     pub answered : (others : List ℕ) → Admitted image base reset routines others → (at : ℕ)
         → startAt marks at ≡ true → allStarts marks base (owedBehind image others base at) ≡ true

@@ -17,8 +17,6 @@ use image::IMAGE_LIMIT;
 use image::marks::mark_m;
 use image::marks::mark_x;
 use successors::next_address;
-use types::addresses::BANK_SIZE;
-use types::addresses::in_bank_of;
 use types::code::Flow;
 ghost use mathlib.Core.Path.{_≡_};
 ghost use mathlib.Core.List.{List};
@@ -137,19 +135,7 @@ fn work(
     count
 }
 
-// Puts the start at the reset address, of 16 bits.
-fn put_reset(marks: &mut [u8], order: &mut [u16], count: usize, base: u32, reset: u32) -> usize
-    requires { ⌜ spec.Queue (now marks) (now order) count × (length (now marks) ≤ bankSize) ⌝ }
-    ensures { λ r. ⌜ spec.Queue (now (marks .exit)) (now (order .exit)) r
-        × (now (marks .exit) ≡ spec.putReset (now (marks .entry)) base reset) ⌝ }
-{
-    if BANK_SIZE <= reset {
-        return count;
-    }
-    put(marks, order, count, base, in_bank_of(base, reset), 1)
-}
-
-// Closes up the marks of the listed routines, with the start at the reset address.
+// Closes up the marks of the listed routines, with the start at the reset address: mark 01.
 pub(crate) fn close_up(image: &[u8], base: u32, reset: u32, marks: &mut [u8])
     requires { ⌜ Plain (now marks) × (length (now marks) ≡ length (now image))
         × (length (now image) ≤ imageLimit) × (base + length (now image) ≤ addressLimit) ⌝ }
@@ -157,6 +143,6 @@ pub(crate) fn close_up(image: &[u8], base: u32, reset: u32, marks: &mut [u8])
 {
     let mut order = [0u16; IMAGE_LIMIT];
     let listed = list_starts(marks, &mut order);
-    let first = put_reset(marks, &mut order, listed, base, reset);
+    let first = put(marks, &mut order, listed, base, reset, 1);
     work(&pages(), image, marks, &mut order, base, first);
 }

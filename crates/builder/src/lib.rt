@@ -8,23 +8,21 @@ use crate::listed::all_listed;
 use checker::count_starts;
 use checker::packed_verdict;
 use image::IMAGE_LIMIT;
-use image::low;
-use image::test_image;
+use marklist::lines::first_address;
 use marklist::reader::fill_marks;
+use marklist::reader::test_beside_image;
+use marklist::routines::has_old_lines;
 use marklist::routines::is_routine_list;
 use text::bytes::put_bytes;
 use types::refusals::Refusal;
 use types::refusals::TestResult;
 ghost use mathlib.Core.Path.{_≡_};
-ghost use mathlib.Core.List.{_∷_};
 ghost use Prim.Native.Nat.{_+_, _≤_};
 ghost use lib.ListN.{length};
-ghost use Rattle.types.specs.declared.refusals.Refusal.{Refusal};
 ghost use Rattle.types.specs.declared.refusals.TestResult.{TestResult};
 ghost use Rattle.types.specs.Addresses.{addressLimit};
 ghost use Rattle.types.specs.Refusals.{firstRefusal};
 ghost use Rattle.model.specs.Image.{imageLimit};
-ghost use Rattle.model.specs.Verdict.{imageTests};
 ghost use Rattle.model.specs.Routines as spec;
 ghost use Rattle.builder.specs.Order.{Closed};
 
@@ -33,14 +31,12 @@ const ROUTINE_LIMIT: usize = 256;
 
 // 14, 1, 2: the text is judged whole before the image.
 fn test_form(routines: &[u8], image: usize, marks: usize, base: u32) -> TestResult
-    ensures { λ r. ⌜
-        r ≡ firstRefusal ((spec.isRoutineList (now (routines .entry)), Refusal.List) ∷ imageTests image marks base)
-        ⌝ }
+    ensures { λ r. ⌜ r ≡ firstRefusal (spec.formTests (now (routines .entry)) image marks base) ⌝ }
 {
     if !is_routine_list(routines) {
         return TestResult::Failed(Refusal::List);
     }
-    test_image(image, marks, base)
+    test_beside_image(has_old_lines(routines), image, marks, base)
 }
 
 // Reads the routines beside an image, whose bytes are as many as the lent marks: the mark of each at its place, 00
@@ -51,7 +47,8 @@ fn read_routines(routines: &[u8], base: u32, table: &mut [u8]) -> bool
     ensures marks { λ _. ⌜ now (table .exit)
         ≡ spec.routineMarks base (length (now (table .entry))) (now (routines .entry)) ⌝ }
 {
-    let end = fill_marks(routines, 0, low(base) as u32, table);
+    let old = has_old_lines(routines);
+    let end = fill_marks(routines, 0, old, first_address(old, base), table);
     if end != routines.len() {
         return false;
     }
@@ -86,8 +83,8 @@ fn build_in(
     marks: &mut [u8],
 ) -> TestResult
     requires { ⌜ (length (now table) ≡ length (now image)) × (length (now made) ≡ length (now image))
-        × (firstRefusal ((spec.isRoutineList (now routines), Refusal.List)
-        ∷ imageTests (length (now image)) (length (now marks)) base) ≡ TestResult.Passed) ⌝ }
+        × (firstRefusal (spec.formTests (now routines) (length (now image)) (length (now marks)) base)
+        ≡ TestResult.Passed) ⌝ }
     ensures answer { λ r. ⌜
         r ≡ spec.built (now (image .entry)) base reset (now (routines .entry)) (now (marks .entry))
         ⌝ }

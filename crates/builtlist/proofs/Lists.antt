@@ -13,7 +13,7 @@ use Rattle.types.specs.declared.refusals.TestResult.{TestResult}
 use Rattle.types.specs.declared.rules.Verdict.{Verdict}
 use Rattle.types.specs.Refusals.{firstRefusal}
 use Rattle.model.specs.Verdict.{marksTests, offsetOf, verdict}
-use Rattle.model.specs.MarkList.{listText, writeTests, writeList, pageBy, pageWritten}
+use Rattle.model.specs.MarkList.{newDigits, listText, writeTests, writeList, pageBy, pageWritten}
 use Rattle.model.specs.Routines.{built, marksBuilt}
 use Rattle.model.proofs.TestResults.{AllHold, shown, none-fails, all-passed}
 use Rattle.model.proofs.Image.{right-length}
@@ -39,7 +39,7 @@ accepted-tests image marks base reset e =
 
 module _ (marks : List ℕ) (base reset : ℕ) (accepted : Accepted marks base reset) where
   abbrev text : List ℕ
-  text = listText marks base reset
+  text = listText newDigits marks base reset
 
   pub written-whole : (page : List ℕ) → length text ≤ length page
       → writeList marks base reset page ≡ ListWritten.Written (length text)
@@ -91,6 +91,7 @@ module _ (image : List ℕ) (base reset : ℕ) (text marks : List ℕ) (alike : 
     pub delivered-accepted : verdict image (marksBuilt image base reset text marks) base reset ≡ Verdict.Accepted
     delivered-accepted = delivers-least image base reset text marks e .admitted .passes
 
-    pub delivered-list : listText (marksBuilt image base reset text marks) base reset ≡ listOf image base reset text
+    pub delivered-list : listText newDigits (marksBuilt image base reset text marks) base reset
+        ≡ listOf image base reset text
     unfolding listOf listBy
-    delivered-list = rw (← same-answer, e) (ap (λ m. listText m base reset) (same-marks e))
+    delivered-list = rw (← same-answer, e) (ap (λ m. listText newDigits m base reset) (same-marks e))

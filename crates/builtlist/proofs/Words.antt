@@ -9,21 +9,22 @@ use lib.Dec.{leb}
 use lib.ListN.{length}
 use Rattle.prelude.proofs.Choice.{both-true}
 use Rattle.text.specs.Text.{startsWith}
-use Rattle.text.specs.Digits.{digits, value}
+use Rattle.text.specs.Digits.{digits}
 use Rattle.model.specs.Image.{imageLimit}
+use Rattle.model.specs.MarkList.{newDigits}
 use Rattle.answer.specs.declared.answers.FileAnswer.{FileAnswer}
 use Rattle.answer.specs.AnswerLine.{listLimit, lineFor}
-use Rattle.builtlist.specs.BuiltList.{isAddress, baseShown, resetShown, isTaken, listOf, builtList}
+use Rattle.builtlist.specs.BuiltList.{addressShown, isAddress, isTaken, listOf, builtList}
 
-module _ (count : ℕ) (word : List ℕ) where
-  pub other-length : (length word ≡ count → ⊥) → false ≡ isAddress count word
+module _ (word : List ℕ) where
+  pub other-length : (length word ≡ newDigits → ⊥) → false ≡ isAddress word
   unfolding isAddress
-  other-length differs = rw (ne-eqb (length word) count differs)
+  other-length differs = rw (ne-eqb (length word) newDigits differs)
 
-  pub by-digits : (shows : Bool) → length word ≡ count
-      → shows ≡ startsWith (digits 16 count (value 16 count word)) word → shows ≡ isAddress count word
+  pub by-digits : (shows : Bool) → length word ≡ newDigits
+      → shows ≡ startsWith (digits 16 newDigits (addressShown word)) word → shows ≡ isAddress word
   unfolding isAddress
-  by-digits shows same e = rw (eq-eqb (length word) count same) e
+  by-digits shows same e = rw (eq-eqb (length word) newDigits same) e
 
 module _ (image base reset text : List ℕ) where
   pub long-routines : listLimit < length text → false ≡ isTaken image base reset text
@@ -36,7 +37,7 @@ module _ (image base reset text : List ℕ) where
     long-image h = rw (le-leb (length text) listLimit short, lt-leb (length image) imageLimit h)
 
     module _ (few : length image ≤ imageLimit) where
-      pub no-base : (given : Bool) → given ≡ isAddress 6 base → not given ≡ true
+      pub no-base : (given : Bool) → given ≡ isAddress base → not given ≡ true
           → false ≡ isTaken image base reset text
       unfolding isTaken
       no-base given same failed =
@@ -47,7 +48,7 @@ module _ (image base reset text : List ℕ) where
             not-true given failed,
           )
 
-      pub by-reset : (given so : Bool) → given ≡ isAddress 6 base → not given ≡ false → so ≡ isAddress 4 reset
+      pub by-reset : (given so : Bool) → given ≡ isAddress base → not given ≡ false → so ≡ isAddress reset
           → so ≡ isTaken image base reset text
       unfolding isTaken
       by-reset given so same held e =
@@ -65,7 +66,7 @@ module _ (image base reset text : List ℕ) where
     not-taken failed = rw (← same, not-true given failed)
 
     pub taken-list : not given ≡ false
-        → listOf image (baseShown base) (resetShown reset) text ≡ builtList image base reset text
+        → listOf image (addressShown base) (addressShown reset) text ≡ builtList image base reset text
     unfolding builtList
     taken-list held = rw (← same, not-false given held)
 

@@ -11,7 +11,7 @@ use Rattle.types.specs.declared.lists.ListRead.{ListRead}
 use Rattle.types.specs.declared.rules.Verdict.{Verdict}
 use Rattle.model.specs.Image.{startCount}
 use Rattle.model.specs.Verdict.{verdict}
-use Rattle.model.specs.MarkList.{listText, readList, marksRead, pageBy, pageWritten}
+use Rattle.model.specs.MarkList.{newDigits, listText, readList, marksRead, pageBy, pageWritten}
 use Rattle.model.specs.Routines.{marksBuilt}
 use Rattle.model.proofs.Image.{right-length}
 use Rattle.model.proofs.Verdict.{accepted-rules}
@@ -19,16 +19,16 @@ use Rattle.model.proofs.RoundTrips.{written-then-read}
 use Rattle.answer.specs.declared.answers.FileAnswer.{FileAnswer}
 use Rattle.answer.specs.AnswerLine.{listLimit, answerBy, verdictAnswer, listAnswer, answerFor}
 use Rattle.answer.proofs.AnswerLaws.{list-taken, both-short}
-use Rattle.builtlist.specs.BuiltList.{baseShown, resetShown, builtList, WrittenAccepted}
+use Rattle.builtlist.specs.BuiltList.{addressShown, builtList, WrittenAccepted}
 use Rattle.builtlist.proofs.Lists.{written-whole, delivered-accepted, delivered-list}
 
 -- the list of marks that the check accepts is read as these marks, and accepted
 list-accepted : (image marks : List ℕ) (base reset : ℕ) → verdict image marks base reset ≡ Verdict.Accepted
-    → length (listText marks base reset) ≤ listLimit
-    → answerFor image (listText marks base reset) ≡ FileAnswer.Accepted (startCount marks)
+    → length (listText newDigits marks base reset) ≤ listLimit
+    → answerFor image (listText newDigits marks base reset) ≡ FileAnswer.Accepted (startCount marks)
 unfolding verdictAnswer answerBy pageWritten pageBy
 list-accepted image marks base reset e short =
-    let text = listText marks base reset in
+    let text = listText newDigits marks base reset in
     let fits = right-length (length image) (length marks) (accepted-rules image marks base reset e .right-length) in
     let written = written-whole marks base reset (image, e) text (omega arith) in
     let read = written-then-read marks base reset (length text) text image written (sym (fits .same)) in
@@ -43,8 +43,8 @@ list-accepted image marks base reset e short =
 pub written-accepted : WrittenAccepted
 unfolding builtList
 written-accepted image word word′ text taken built short =
-    let base = baseShown word in
-    let reset = resetShown word′ in
+    let base = addressShown word in
+    let reset = addressShown word′ in
     let same = delivered-list image base reset text image refl built in
     let accepted = delivered-accepted image base reset text image refl built in
     rw (taken, ← same) (list-accepted image (marksBuilt image base reset text image) base reset accepted

@@ -5,8 +5,7 @@ use answer::answers::LIST_LIMIT;
 use answer::lines::put_answer;
 use builder::build_marks;
 use image::IMAGE_LIMIT;
-use marklist::header::BASE_DIGITS;
-use marklist::header::RESET_DIGITS;
+use marklist::lines::NEW_DIGITS;
 use marklist::writer::write_list;
 use text::digits::number;
 use text::digits::shows_digits;
@@ -14,13 +13,13 @@ use types::lists::ListWritten;
 use types::refusals::TestResult;
 ghost use mathlib.Core.Path.{_≡_};
 ghost use mathlib.Core.List.{_++_};
-ghost use Prim.Native.Nat.{_*_, _^_, _≤_};
+ghost use Prim.Native.Nat.{_≤_};
 ghost use lib.ListN.{length, take, drop};
-ghost use Rattle.model.specs.MarkList.{listText};
+ghost use Rattle.model.specs.MarkList.{newDigits, listText};
 ghost use Rattle.builtlist.specs.BuiltList as spec;
 
 // The most bytes of a list that is written: a first line, and a line for each byte of the longest image.
-pub const LONGEST_LIST: usize = 20 + 15 * IMAGE_LIMIT;
+pub const LONGEST_LIST: usize = 22 + 17 * IMAGE_LIMIT;
 
 // The longest list, of zeros. Only its length is promised: so many zeros are too many for a proof to look at.
 pub fn longest_list() -> [u8; LONGEST_LIST]
@@ -29,23 +28,22 @@ pub fn longest_list() -> [u8; LONGEST_LIST]
     [0; LONGEST_LIST]
 }
 
-// A word is an address of so many hex digits. It asks for so few that each number of them fits.
-fn is_address(word: &[u8], count: usize) -> bool
-    requires { ⌜ 255 * 16 ^ count ≤ 4_294_967_295 ⌝ }
-    ensures { λ r. ⌜ r ≡ spec.isAddress count (now (word .entry)) ⌝ }
+// A word is an address, of six hex digits.
+fn is_address(word: &[u8]) -> bool
+    ensures { λ r. ⌜ r ≡ spec.isAddress (now (word .entry)) ⌝ }
 {
-    if word.len() != count {
+    if word.len() != NEW_DIGITS {
         return false;
     }
-    shows_digits(word, 16, count, number(word, 0, 16, count))
+    shows_digits(word, 16, NEW_DIGITS, number(word, 0, 16, NEW_DIGITS))
 }
 
 // Writes the list of marks that the check accepts, and returns its length. It asks for room too, so the writer refuses
 // nothing.
 fn put_accepted(marks: &[u8], base: u32, reset: u32, page: &mut [u8]) -> usize
     requires { ⌜ spec.Accepted (now marks) base reset × (spec.longestList ≤ length (now page)) ⌝ }
-    ensures { λ r. ⌜ (r ≡ length (listText (now (marks .entry)) base reset))
-        × (now (page .exit) ≡ listText (now (marks .entry)) base reset ++ drop r (now (page .entry))) ⌝ }
+    ensures { λ r. ⌜ (r ≡ length (listText newDigits (now (marks .entry)) base reset))
+        × (now (page .exit) ≡ listText newDigits (now (marks .entry)) base reset ++ drop r (now (page .entry))) ⌝ }
 {
     let written = write_list(marks, base, reset, page);
     let ListWritten::Written(size) = written else {
@@ -85,10 +83,10 @@ fn is_taken(image: &[u8], base: &[u8], reset: &[u8], text: &[u8]) -> bool
     if IMAGE_LIMIT < image.len() {
         return false;
     }
-    if !is_address(base, BASE_DIGITS) {
+    if !is_address(base) {
         return false;
     }
-    is_address(reset, RESET_DIGITS)
+    is_address(reset)
 }
 
 // Writes the mark list, or the line, at the front of a page, and returns its length. It asks for room for the longest
@@ -114,8 +112,8 @@ pub fn put_built_list(
     let mut marks = [0u8; IMAGE_LIMIT];
     put_list(
         image,
-        number(base, 0, 16, BASE_DIGITS),
-        number(reset, 0, 16, RESET_DIGITS),
+        number(base, 0, 16, NEW_DIGITS),
+        number(reset, 0, 16, NEW_DIGITS),
         text,
         &mut marks[..image.len()],
         page,

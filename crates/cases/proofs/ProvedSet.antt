@@ -28,7 +28,7 @@ use Rattle.model.specs.Verdict.{isClear, isStartAt, allStarts, hasMarkAt, allMa
 use Rattle.model.specs.Verdict.{decodedResult, startResult, badMark, badStart, startsVerdict, verdict}
 use Rattle.text.specs.Digits.{digit, digits, digitValue, value, digitCount}
 use Rattle.text.specs.Text.{startsWith}
-use Rattle.model.specs.MarkList.{headerText, kindLetter, fields, lengthDigitsShown, headerShown}
+use Rattle.model.specs.MarkList.{headerText, kindLetter, fields, lengthDigitsShown, isOld, headerShown, listBaseFits}
 use Rattle.model.specs.MarkList.{isHeader, bitShown, kindShown, fieldsMark, isLine, markShown, lineSize, marksShown}
 use Rattle.model.specs.MarkList.{linesLeft, linesText, marksOf, leftOf, isList, readAs, readList, marksBy, marksRead}
 use Rattle.prelude.specs.Choice.{bit}
@@ -42,11 +42,11 @@ use Rattle.model.specs.Run.{admission, executed, ran}
 use Rattle.model.specs.StateBytes.{coreOf}
 use Rattle.model.specs.Guarantee.{Every}
 use Rattle.prelude.proofs.Choice.{both-true}
-use Rattle.model.proofs.RoundTrips.{read-then-written}
+use Rattle.model.proofs.RoundTrips.{six-again}
 use Rattle.model.proofs.Run.{admitted-ran}
-use Rattle.cases.specs.Rows.{listOf, Unspecified, Named, Claim, listed, does, stops, returns, Row, Listed, RanTo}
-use Rattle.cases.specs.Rows.{Claimed, Holds}
-use Rattle.cases.specs.ProvedSet.{widthMarks, widthList, ram, fromReset, begun}
+use Rattle.cases.specs.Rows.{listOf, Unspecified, Named, Claim, listed, listedOld, does, stops, returns, Row}
+use Rattle.cases.specs.Rows.{IsRead, Listed, RanTo, Claimed, Holds}
+use Rattle.cases.specs.ProvedSet.{widthMarks, widthListInSix, ram, fromReset, begun}
 use Rattle.cases.specs.ProvedSet.{case1, case2, case3, case4, case5, case6, case7, case8, case9, case10}
 use Rattle.cases.specs.ProvedSet.{table, ProvedSet}
 use Rattle.cases.proofs.Returning.{goes-by, stops-by, returning}
@@ -57,8 +57,10 @@ unfolding plain pages entryAt judged decodeOn decode isFormed lengthFits baseFit
     targetOf mAfter xAfter markOfRoutine markOnReturn markAfter owedBy owedAt returnsBy returnFits firstFrom isClear
     isStartAt allStarts hasMarkAt allMarks decodedResult startResult badMark badStart firstRefusal
     startsVerdict verdict digit digits digitValue value digitCount startsWith headerText kindLetter fields
-    lengthDigitsShown headerShown isHeader bitShown kindShown fieldsMark isLine markShown lineSize marksShown linesLeft
-    linesText marksOf leftOf isList readAs readList marksBy marksRead byteAt servedAt operandBy dataOf effectOf
+    lengthDigitsShown isOld headerShown isHeader bitShown kindShown fieldsMark isLine markShown lineSize marksShown
+    linesLeft
+    linesText marksOf leftOf isList listBaseFits readAs readList marksBy marksRead byteAt servedAt operandBy dataOf
+    effectOf
     bytesFrom operates callsWithin returnsTo planByWithin stepWithin historyWithin ramFits callsFit stateFitsWithin
 computed = tt
 
@@ -84,6 +86,7 @@ module _ (r : Row) where
   -- what is computed for a claim
   abbrev Computes : Claim → Type 0
   Computes (listed text) = Listed r text
+  Computes (listedOld text) = IsRead r text
   Computes (does s ram asked calls after) =
       Taken s ram × (asked ≤ stepLimit) × RanTo s ram (executed (on ram) s asked) 0 asked calls after
   Computes (stops s ram stop steps calls after) =
@@ -96,6 +99,7 @@ module _ (r : Row) where
 
   claimed : (c : Claim) → Computes c → Claimed r c
   claimed (listed text) l = l
+  claimed (listedOld text) l = l
   claimed (does s ram asked calls after) (taken, few, so) = ran-so s ram asked 0 asked calls after taken few so
   claimed (stops s ram stop steps calls after) (taken, so) = λ n above few.
       let k = n - steps - 1 in
@@ -159,11 +163,14 @@ module _ (v : Unspecified) where
   holds1 = (
     refl,
     (
-      record {
-        written = λ page room. read-then-written widthList widthMarks page _ refl room;
-        read = λ lent same. (rw same refl, rw same refl);
-      },
-      tt,
+      λ lent same. (rw same refl, rw same refl),
+      (
+        record {
+          written = λ page room. six-again widthListInSix widthMarks page _ refl refl room;
+          read = λ lent same. (rw same refl, rw same refl);
+        },
+        tt,
+      ),
     ),
   )
 

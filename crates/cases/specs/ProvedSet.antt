@@ -1,4 +1,5 @@
 -- 01, 'Proved set': the ten cases, a row each, and the claim that every row holds, whatever stands where 01 is silent.
+-- By 02's R-7 case 1's list is an old one, and the row has beside it the text that is written.
 -- Assumes nothing.
 use Prim.Native.Nat.{ℕ, _-_}
 use mathlib.Core.Bool.{false}
@@ -8,15 +9,16 @@ use Rattle.types.specs.declared.machine.State.{State}
 use Rattle.model.specs.Arithmetic.{withWidths, withA, withS, withStatus}
 use Rattle.model.specs.Guarantee.{Every}
 use Rattle.cases.specs.Rows.{listOf, ascii, Unspecified, stateAt, Judged, accepted, refused}
-use Rattle.cases.specs.Rows.{holdsA, holdsByte, unchanged, Claim, listed, does, stops, returns, Row, Holds}
+use Rattle.cases.specs.Rows.{holdsA, holdsByte, unchanged, Claim, listed, listedOld, does, stops, returns, Row}
+use Rattle.cases.specs.Rows.{Holds}
 
--- 'Base 00C000, reset C000': every case has these
+-- 'Base 00C000, reset C000': every case has these; R-7: 'the reset becomes a 24-bit address'
 abbrev pub row : List ℕ → List ℕ → Judged → List Claim → Row
 row image marks judged claims = record {
   image = image;
   marks = marks;
   base = 0x00C000;
-  reset = 0xC000;
+  reset = 0x00C000;
   judged = judged;
   claims = claims;
 }
@@ -36,6 +38,15 @@ widthList =
     ++ ascii "C003\t0\t0\tN\t0\t0\n"
     ++ ascii "C004\t1\t0\tN\t0\t0\n"
     ++ ascii "C006\t1\t0\tN\t0\t0\n"
+
+-- the same in six digits
+abbrev pub widthListInSix : List ℕ
+widthListInSix =
+    ascii "I\t00C000\t7\t00C000\n"
+    ++ ascii "00C000\t0\t0\tN\t0\t0\n"
+    ++ ascii "00C003\t0\t0\tN\t0\t0\n"
+    ++ ascii "00C004\t1\t0\tN\t0\t0\n"
+    ++ ascii "00C006\t1\t0\tN\t0\t0\n"
 
 -- 'Image 20 04 C0 DB 60 at C000, marks 01 00 00 01 09'
 abbrev pub callImage : List ℕ
@@ -66,7 +77,7 @@ module _ (v : Unspecified) where
 
   -- 1. 'Case 1 is accepted.'
   abbrev pub case1 : Row
-  case1 = row widthImage widthMarks accepted (listed widthList ∷ [])
+  case1 = row widthImage widthMarks accepted (listedOld widthList ∷ listed widthListInSix ∷ [])
 
   -- 2. 'From reset with A=0000: A=1262, stop 22, 3 steps.'
   abbrev pub case2 : Row

@@ -75,6 +75,8 @@ pub data Named : Type 0 where
 pub data Claim : Type 0 where
   -- the marks have this text as their list
   listed : List ℕ → Claim
+  -- they have this text as an old list, which is read alone
+  listedOld : List ℕ → Claim
   -- a run from a state and RAM that is asked for so many steps does them: the calls among them, what is named after it
   does : State → List ℕ → ℕ → ℕ → List Named → Claim
   -- a run that is asked for more steps than these ends by a stop: the stop, the steps, the calls among them, what is
@@ -99,14 +101,19 @@ abbrev pub judgedAs : Verdict → Judged
 judgedAs Verdict.Accepted = accepted
 judgedAs (Verdict.Refused why offset) = refused (refusalNumber why) offset
 
--- the list is written for the marks, into every page that has room, and read as them, base and reset
+-- a text is read as the marks, base and reset
+abbrev pub IsRead : Row → List ℕ → Type 0
+IsRead r text =
+    (lent : List ℕ) → length lent ≡ length (r .marks)
+    → (readList text lent ≡ ListRead.Read (record { base = r .base; length = length (r .marks); reset = r .reset }))
+    × (marksRead text lent ≡ r .marks)
+
+-- the list is written for the marks, into every page that has room, and read
 pub record Listed (r : Row) (text : List ℕ) : Type 0 where
   pub written : (page : List ℕ) → length text ≤ length page
       → (writeList (r .marks) (r .base) (r .reset) page ≡ ListWritten.Written (length text))
       × (pageWritten (r .marks) (r .base) (r .reset) page ≡ text ++ drop (length text) page)
-  pub read : (lent : List ℕ) → length lent ≡ length (r .marks)
-      → (readList text lent ≡ ListRead.Read (record { base = r .base; length = length (r .marks); reset = r .reset }))
-      × (marksRead text lent ≡ r .marks)
+  pub read : IsRead r text
 
 -- from state `s` and RAM `ram` the machine came to `t` and `left`
 abbrev pub Shows : State → List ℕ → State → List ℕ → Named → Type 0
@@ -136,6 +143,7 @@ pub record Returns (m : Memory) (s : State) (n : ℕ) : Type 0 where
 
 abbrev pub Claimed : Row → Claim → Type 0
 Claimed r (listed text) = Listed r text
+Claimed r (listedOld text) = IsRead r text
 Claimed r (does s ram asked calls after) =
     RanTo s ram (ran (memory ram (r .image) (r .base)) s asked) 0 asked calls after
 Claimed r (stops s ram stop steps calls after) =

@@ -5,6 +5,7 @@
 -- Assumes nothing.
 use mathlib.Core.Path.{_≡_, refl, sym, ap, _∙_}
 use mathlib.Core.Logic.{_⊎_, inl, inr}
+use mathlib.Core.Bool.{false}
 use mathlib.Core.List.{List, [], _∷_, _++_}
 use Prim.Native.Nat.{ℕ, _≤_, _<_}
 use native.Mathlib.Omega.{arith}
@@ -28,7 +29,7 @@ use Rattle.types.specs.declared.refusals.TestResult.{TestResult}
 use Rattle.types.specs.declared.runs.RunAnswer.{RunAnswer}
 use Rattle.types.specs.Refusals.{refusalNumber}
 use Rattle.model.specs.Grounds.{AnswersBy, WrongBytes, runGrounds, readGrounds, writeGrounds}
-use Rattle.model.specs.MarkList.{marksBy, marksRead, pageBy, pageWritten}
+use Rattle.model.specs.MarkList.{isOld, marksBy, marksRead, pageBy, pageWritten}
 use Rattle.model.specs.Memory.{memory}
 use Rattle.model.specs.Step.{stopNumber, step}
 use Rattle.model.specs.Run.{Event, withRam, history, endOf, endNumber, completedSteps, callsAmong, executed, ran}
@@ -43,7 +44,7 @@ use Rattle.model.proofs.Meaning.{refused-means}
 use Rattle.model.proofs.TestResults.{refusal-range}
 use Rattle.model.proofs.FirstGround.{numbers-by}
 use Rattle.model.proofs.Grounds.{run-bytes-answers, read-answers, write-answers}
-use Rattle.model.proofs.RoundTrips.{read-then-written, written-then-read}
+use Rattle.model.proofs.RoundTrips.{six-again, written-then-read}
 use Rattle.model.proofs.Run.{stops-leave, executed-one}
 use Rattle.model.proofs.RunBytes.{bytes-ran, said-left, long-left, taken, refused-leaves, none-leaves}
 use Rattle.model.proofs.Guarantee.{guarantee}
@@ -236,18 +237,18 @@ write-refuses c =
     (write-answers (holds (c .marks)) (c .base) (c .reset) (holds (c .page))) (λ why. refl) refl)
 
 read-written : (r : ReadCall) (w : WriteCall) → readNumbers (r .result) .number ≡ 0
-    → holds (w .marks) ≡ r .marks-left → w .base ≡ readNumbers (r .result) .base
+    → isOld (holds (r .text)) ≡ false → holds (w .marks) ≡ r .marks-left → w .base ≡ readNumbers (r .result) .base
     → w .reset ≡ readNumbers (r .result) .reset → length (holds (r .text)) ≤ length (holds (w .page))
     → (writtenNumbers (w .result) ≡ record { number = 0; length = length (holds (r .text)) })
     × (w .page-left ≡ holds (r .text) ++ drop (length (holds (r .text))) (holds (w .page)))
-read-written r w zero marks base reset room = by (readOf r) refl (read-numbers r)
+read-written r w zero six marks base reset room = by (readOf r) refl (read-numbers r)
   where
     by : (a : ListRead) → readOf r ≡ a → readNumbers (r .result) ≡ listReadNumbers a
         → (writtenNumbers (w .result) ≡ record { number = 0; length = length (holds (r .text)) })
         × (w .page-left ≡ holds (r .text) ++ drop (length (holds (r .text))) (holds (w .page)))
     by (ListRead.NotRead why) e told = absurd (omega (arith, ap (λ n. n .number) told, refusal-range why .0))
     by (ListRead.Read h) e told =
-        let same = read-then-written (holds (r .text)) (holds (r .marks)) (holds (w .page)) h e room in
+        let same = six-again (holds (r .text)) (holds (r .marks)) (holds (w .page)) h e six room in
         let marks′ : holds (w .marks) ≡ marksRead (holds (r .text)) (holds (r .marks)) = marks ∙ r .kept .1 in
         let base′ : w .base ≡ h .base = base ∙ ap (λ n. n .base) told in
         let reset′ : w .reset ≡ h .reset = reset ∙ ap (λ n. n .reset) told in

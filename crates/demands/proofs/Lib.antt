@@ -4,3 +4,4 @@ pub mod Demands
 pub mod Requests
 pub mod Locating
 pub mod Building
+pub mod Widening

@@ -25,7 +25,7 @@ use Rattle.model.specs.CodeMap.{entryAt, lengthAt}
 use Rattle.model.specs.Rules.{Accepts}
 use Rattle.model.specs.Verdict.{verdict}
 use Rattle.model.specs.Meaning.{Breaks}
-use Rattle.model.specs.MarkList.{readList, marksRead, writeList, pageWritten}
+use Rattle.model.specs.MarkList.{isOld, readList, marksRead, writeList, pageWritten}
 use Rattle.model.specs.Grounds.{AnswersBy, WrongBytes, runGrounds, readGrounds, writeGrounds}
 use Rattle.model.specs.Memory.{memory}
 use Rattle.model.specs.Step.{step}
@@ -118,9 +118,9 @@ pub record Demand2 : Type 0 where
       → AnswersBy (writeGrounds (holds (c .marks)) (c .base) (c .reset) (holds (c .page))) refusalNumber 0
       (writtenNumbers (c .result) .number)
   -- 'a mark list read, and written again to a page long enough, is the same list, and marks written and read again are
-  -- the same marks'
+  -- the same marks'; 02, R-7: 'demand 2's same list is now owed for lists in six', so that the list is no old one
   pub read-written : (r : ReadCall) (w : WriteCall) → readNumbers (r .result) .number ≡ 0
-      → holds (w .marks) ≡ r .marks-left → w .base ≡ readNumbers (r .result) .base
+      → isOld (holds (r .text)) ≡ false → holds (w .marks) ≡ r .marks-left → w .base ≡ readNumbers (r .result) .base
       → w .reset ≡ readNumbers (r .result) .reset → length (holds (r .text)) ≤ length (holds (w .page))
       → (writtenNumbers (w .result) ≡ record { number = 0; length = length (holds (r .text)) })
       × (w .page-left ≡ holds (r .text) ++ drop (length (holds (r .text))) (holds (w .page)))

@@ -1,13 +1,13 @@
 -- What the requests of document 02 claim of calls of the exported functions, a proposition a request, in the notions of
--- Demands.antt. Their proofs stand in proofs/Requests.antt, of R-4 in proofs/Locating.antt and of R-6 in
--- proofs/Building.antt.
+-- Demands.antt. Their proofs stand in proofs/Requests.antt, of R-4 in proofs/Locating.antt, of R-6 in
+-- proofs/Building.antt and of R-7 in proofs/Widening.antt.
 -- Assumes nothing.
 use mathlib.Core.Path.{_≡_}
 use mathlib.Core.Logic.{_↔_}
 use Prim.Native.Nat.{ℕ, _*_, _≤_, _<_}
 use mathlib.Core.List.{List, [], _∷_, _++_, map}
 use lib.ListN.{length, getD, take, drop}
-use Rattle.packing.specs.Packed.{checkNumbers, printedNumbers, locatedNumbers, builtNumber}
+use Rattle.packing.specs.Packed.{checkNumbers, readNumbers, writtenNumbers, printedNumbers, locatedNumbers, builtNumber}
 use Rattle.types.specs.Refusals.{refusalNumber}
 use Rattle.model.specs.Image.{startCount}
 use Rattle.model.specs.Rules.{Accepts}
@@ -16,7 +16,9 @@ use Rattle.model.specs.PageReading.{bytesOnPage, startsOnPage, coveredBytes, st
 use Rattle.model.specs.Grounds.{AnswersBy, locateGrounds, buildGrounds}
 use Rattle.model.specs.Locate.{placeNumber, placeOf, marksTo}
 use Rattle.model.specs.Routines.{routineMarks, Admitted, Least, WithinLimits}
-use Rattle.demands.specs.Calls.{Buffer, holds, CheckCall, PrintCall, listed, LocateCall, BuildCall}
+use Rattle.model.specs.MarkList.{newDigits, listText, addressDigits}
+use Rattle.demands.specs.Calls.{Buffer, holds, CheckCall, ReadCall, WriteCall, PrintCall, listed, LocateCall}
+use Rattle.demands.specs.Calls.{BuildCall}
 
 -- two calls are given the same image, marks, base and reset
 abbrev pub GivenAlike : Buffer → Buffer → ℕ → ℕ → Buffer → Buffer → ℕ → ℕ → Type 0
@@ -133,3 +135,24 @@ pub record BuildsMarks : Type 0 where
       → Least (holds (c .image)) (c .base) (c .reset) (routinesOf c) (c .marks-left)
   -- so a check of them accepts
   pub checked : (c : BuildCall) (d : CheckCall) → builtNumber (c .result) ≡ 0 → ChecksBuilt c d → d .result ≡ 0
+
+-- ---- R-7
+
+-- the list in six digits of what a call of the reader gave
+abbrev pub listInSix : ReadCall → List ℕ
+listInSix r =
+    listText newDigits (r .marks-left) (readNumbers (r .result) .base) (readNumbers (r .result) .reset)
+
+-- 'Rereading a written list gives its marks' is demand 2's, and 'lists in six' are
+pub record WidensLists : Type 0 where
+  -- what was read is the list, in its own digits, of the marks, base and reset that were given
+  pub as-shown : (r : ReadCall) → readNumbers (r .result) .number ≡ 0
+      → listText (addressDigits (holds (r .text))) (r .marks-left) (readNumbers (r .result) .base)
+      (readNumbers (r .result) .reset)
+      ≡ holds (r .text)
+  -- 'an old list comes out in six digits', of the same marks, base and reset
+  pub widened : (r : ReadCall) (w : WriteCall) → readNumbers (r .result) .number ≡ 0
+      → holds (w .marks) ≡ r .marks-left → w .base ≡ readNumbers (r .result) .base
+      → w .reset ≡ readNumbers (r .result) .reset → length (listInSix r) ≤ length (holds (w .page))
+      → (writtenNumbers (w .result) ≡ record { number = 0; length = length (listInSix r) })
+      × (w .page-left ≡ listInSix r ++ drop (length (listInSix r)) (holds (w .page)))

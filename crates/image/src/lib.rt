@@ -4,22 +4,18 @@ pub mod marks;
 use crate::marks::mark_kind;
 use fields::byte_at;
 use types::addresses::ADDRESS_LIMIT;
-use types::addresses::BANK_SIZE;
-use types::addresses::in_bank_of;
 use types::refusals::Refusal;
 use types::refusals::TestResult;
 ghost use mathlib.Core.Path.{_≡_};
-ghost use Prim.Native.Nat.{_%_};
 ghost use Rattle.prelude.specs.Choice.{pick};
-ghost use Rattle.types.specs.Addresses.{bankSize};
 ghost use Rattle.model.specs.Image.{isStart, isFormed, lengthFits, baseFits, markAt, resetFits};
 ghost use Rattle.types.specs.Refusals.{firstRefusal};
 ghost use Rattle.model.specs.Verdict.{badMark, allFormed, imageTests, marksTests};
 
 // The limit of model/specs/Image.antt.
-pub const IMAGE_LIMIT: usize = 16_384;
+pub const IMAGE_LIMIT: usize = 65_536;
 
-// Number 1: an image of 1 to 16,384 bytes, and as many marks.
+// Number 1: an image of 1 to 65,536 bytes, and as many marks.
 fn length_fits(image: usize, marks: usize) -> bool
     ensures { λ r. ⌜ r ≡ lengthFits image marks ⌝ }
 {
@@ -32,24 +28,14 @@ fn length_fits(image: usize, marks: usize) -> bool
     marks == image
 }
 
-// The address in the bank of a base.
-pub fn low(base: u32) -> usize
-    ensures { λ r. ⌜ r ≡ base % bankSize ⌝ }
-{
-    (base % BANK_SIZE) as usize
-}
-
-// Number 2: a 24-bit base, and an image of n bytes within its bank.
+// Number 2: a 24-bit base, and an image of n bytes that ends at or below FFFFFF.
 fn base_fits(base: u32, n: usize) -> bool
     ensures { λ r. ⌜ r ≡ baseFits base n ⌝ }
 {
     if ADDRESS_LIMIT <= base {
         return false;
     }
-    if (BANK_SIZE as usize) < n {
-        return false;
-    }
-    low(base) + n <= BANK_SIZE as usize
+    n <= (ADDRESS_LIMIT - base) as usize
 }
 
 // One of two numbers. Both are at hand, so that no branch is needed.
@@ -98,15 +84,12 @@ fn mark_at(marks: &[u8], base: u32, address: u32) -> u8
     byte_at(marks, (address - base) as usize)
 }
 
-// Number 3: at the reset address, of 16 bits, stands mark 01. Of the marks of the form, which is tested before, that
+// Number 3: at the reset address stands mark 01. Of the marks of the form, which is tested before, that
 // alone is 'a start with m=0, x=0, return kind 0': under kind 0 bits 5 and 6 are clear, and bit 7 is 0.
 fn reset_fits(marks: &[u8], base: u32, reset: u32) -> bool
     ensures { λ r. ⌜ r ≡ resetFits (now (marks .entry)) base reset ⌝ }
 {
-    if BANK_SIZE <= reset {
-        return false;
-    }
-    mark_at(marks, base, in_bank_of(base, reset)) == 1
+    mark_at(marks, base, reset) == 1
 }
 
 // The lowest mark that is not of the form, or the number of marks.

@@ -41,8 +41,8 @@ module _ (image marks : List ℕ) (base reset : ℕ) (addresses places : List �
         right-length (length image) (length marks) (accepts-exactly image marks base reset .0 accepted .right-length)
         .same
 
-    pub in-bank : base + length image ≤ addressLimit
-    in-bank = base-whole base (length image) (accepts-exactly image marks base reset .0 accepted .one-bank)
+    pub in-space : base + length image ≤ addressLimit
+    in-space = base-whole base (length image) (accepts-exactly image marks base reset .0 accepted .right-base)
 
     module _ (tested : TestResult) (so : tested ≡ firstRefusal tests) where
       pub refused-then : (why : Refusal) → tested ≡ TestResult.Failed why → Answers (Located.NotLocated why 0) places

@@ -29,10 +29,10 @@ use Rattle.types.specs.declared.machine.Stop.{Stop}
 use Rattle.model.specs.Addressing.{pulledAt}
 use Rattle.model.specs.Arithmetic.{withS, withStatus}
 use Rattle.model.specs.Effects.{pushedAt}
-use Rattle.types.specs.Addresses.{addressLimit, bankSize, inBankOf}
+use Rattle.types.specs.Addresses.{addressLimit, bankSize}
 use Rattle.model.specs.Memory.{Memory, Act, ret, _>>=_, Outcome, done, unmapped, evaluate, served, stored}
 use Rattle.model.specs.Memory.{wordFrom, longFrom}
-use Rattle.model.specs.Rules.{nextAddress, targetAddress, kindNumber}
+use Rattle.model.specs.Rules.{nextAddress, inBankAfter, targetAddress, kindNumber}
 use Rattle.types.specs.Status.{statusOf}
 use Rattle.model.specs.Step as spec
 use Rattle.model.specs.Step.{Plan, stops, changes, change, callLimit, kindOf, returnOf, returnBytes, callRecord}
@@ -42,19 +42,22 @@ use Rattle.model.proofs.Step.{pulls-first}
 use Rattle.machine.specs.declared.commit.StepResult.{StepResult}
 use Rattle.machine.specs.declared.fetch.Fetched.{Fetched}
 use Rattle.machine.specs.Fetches.{instruction}
-use Rattle.machine.specs.StepResults.{coreAt, stepResult, left, finished, inOwnBank}
+use Rattle.machine.specs.StepResults.{coreAt, stepResult, left, finished, inNextBank}
 use Rattle.machine.proofs.Finishing.{place-kept, stops-so, stops-at-stores, completes}
 
 no-second : (a b : Bool) → b ≡ false → a && b ≡ false
 no-second true b h = h
 no-second false b h = refl
 
--- the address that a word names in the bank of execution, as the action comes to it
-own-bank : (m : Memory) (place : ℕ) (act : Act ℕ)
-    → inOwnBank place (wordRead (evaluate m act)) ≡ longRead (evaluate m (act >>= (λ a. ret (inBankOf place a))))
-own-bank m place act = by (evaluate m act) ∙ ap longRead (sym (evaluate-bind m act (λ a. ret (inBankOf place a))))
+-- the address that a word names in the bank just after an instruction, as the action comes to it
+next-bank : (m : Memory) (place n : ℕ) (act : Act ℕ)
+    → inNextBank place n (wordRead (evaluate m act))
+    ≡ longRead (evaluate m (act >>= (λ a. ret (inBankAfter place n a))))
+next-bank m place n act =
+    by (evaluate m act) ∙ ap longRead (sym (evaluate-bind m act (λ a. ret (inBankAfter place n a))))
   where
-    by : (o : Outcome ℕ) → inOwnBank place (wordRead o) ≡ longRead (onDone o (λ a. done (inBankOf place a)))
+    by : (o : Outcome ℕ)
+        → inNextBank place n (wordRead o) ≡ longRead (onDone o (λ a. done (inBankAfter place n a)))
     by (done a) = refl
     by unmapped = refl
 
@@ -63,16 +66,14 @@ module _ (m : Memory) (place depth : ℕ) (file : List ℕ) (i : Fetched) (s fir
     (r : LongRead) (is-s : s ≡ registersOf file .s) (is-first : first ≡ (s + 1) % bankSize)
     (is-second : second ≡ (s + 2) % bankSize)
   where
-    pub pulls-word : (w : WordRead) → place < addressLimit → kind ≡ Kind.ByRts
-        → w ≡ wordRead (evaluate m (wordFrom first second)) → r ≡ inOwnBank place w
+    pub pulls-word : (n : ℕ) (w : WordRead) → n ≡ i .length → place < addressLimit → kind ≡ Kind.ByRts
+        → w ≡ wordRead (evaluate m (wordFrom first second)) → r ≡ inNextBank place n w
         → r ≡ longRead (evaluate m (spec.pullsReturn (coreAt place depth file) (instruction i) kind))
-    pulls-word w h is-kind read e =
-        rw (e, read, is-first, is-second, is-s, is-kind)
-        (own-bank m place (wordFrom (pulledAt (registersOf file) 1) (pulledAt (registersOf file) 2))
-        ∙ ap
-        (λ p. longRead
-        (evaluate m
-        (wordFrom (pulledAt (registersOf file) 1) (pulledAt (registersOf file) 2) >>= (λ a. ret (inBankOf p a)))))
+    pulls-word n w is-n h is-kind read e =
+        let pulled = wordFrom (pulledAt (registersOf file) 1) (pulledAt (registersOf file) 2) in
+        rw (e, read, is-first, is-second, is-s, is-kind, is-n)
+        (next-bank m place (i .length) pulled
+        ∙ ap (λ p. longRead (evaluate m (pulled >>= (λ a. ret (inBankAfter p (i .length) a)))))
         (sym (place-kept place depth file h)))
 
     pub pulls-long : kind ≡ Kind.ByRtl → third ≡ (s + 3) % bankSize
@@ -245,15 +246,15 @@ module _ (i : Fetched) (m : Memory) (place depth : ℕ) (file calls : List ℕ) 
         (returned core (instruction i) opened kind address n is-kind below same there)
 
   module _ (opened s : ℕ) (kind : Kind) (w : LongRead) (is-s : s ≡ here .s)
-      (read : (depth : ℕ) (file : List ℕ) (i : Fetched) → s ≡ registersOf file .s
-      → w ≡ longRead (evaluate m (spec.pullsReturn (coreAt place depth file) (instruction i) kind))) where
+      (read : (depth : ℕ) (file : List ℕ) (j : Fetched) → s ≡ registersOf file .s → i .length ≡ j .length
+      → w ≡ longRead (evaluate m (spec.pullsReturn (coreAt place depth file) (instruction j) kind))) where
     pub stops-pulling : (t : StepResult) → t ≡ stepResult (StepAnswer.Stopped Stop.Unmapped) place depth
         → w ≡ LongRead.Unmapped
         → left t file calls (m .ram)
         ≡ finished (planBy core (instruction i) m opened (Flow.Return kind)) i m place depth file calls
     stops-pulling t e e′ =
         stops-so i m place depth file calls Stop.Unmapped (planBy core (instruction i) m opened (Flow.Return kind)) t e
-        (return-unmapped core (instruction i) m opened kind w (read depth file i is-s) e′)
+        (return-unmapped core (instruction i) m opened kind w (read depth file i is-s refl) e′)
 
     pub pulls-so : (address : ℕ) (after : Stepped) → w ≡ LongRead.Long address
         → after ≡ finished (returnsTo core (instruction i) opened kind address) i m place depth file calls
@@ -261,4 +262,4 @@ module _ (i : Fetched) (m : Memory) (place depth : ℕ) (file calls : List ℕ) 
     pulls-so address after e is-after =
         is-after
         ∙ ap (λ p. finished p i m place depth file calls)
-        (return-to core (instruction i) m opened kind w (read depth file i is-s) address e)
+        (return-to core (instruction i) m opened kind w (read depth file i is-s refl) address e)

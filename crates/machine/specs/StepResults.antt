@@ -13,8 +13,8 @@ use Rattle.types.specs.declared.machine.StepAnswer.{StepAnswer}
 use Rattle.types.specs.declared.machine.Core.{Core}
 use Rattle.types.specs.declared.machine.State.{State}
 use Rattle.prelude.specs.Choice.{pick}
-use Rattle.types.specs.Addresses.{bankSize, inBankOf}
-use Rattle.model.specs.Rules.{nextAddress, targetAddress}
+use Rattle.types.specs.Addresses.{bankSize}
+use Rattle.model.specs.Rules.{nextAddress, inBankAfter, targetAddress}
 use Rattle.model.specs.Memory.{Memory}
 use Rattle.model.specs.Step.{Plan, Stepped, stepped, finish}
 
@@ -46,7 +46,7 @@ goesBy branches i place taken =
     pick branches (pick taken (targetAddress (instruction i) place) (nextAddress place (i .length)))
     (nextAddress place (i .length))
 
--- a word that was read, as an address of the bank of execution
-abbrev pub inOwnBank : ℕ → WordRead → LongRead
-inOwnBank place (WordRead.Word address) = LongRead.Long (inBankOf place address)
-inOwnBank place WordRead.Unmapped = LongRead.Unmapped
+-- a word that was read, as an address of the bank of the address just after an instruction of n bytes
+abbrev pub inNextBank : ℕ → ℕ → WordRead → LongRead
+inNextBank place n (WordRead.Word address) = LongRead.Long (inBankAfter place n address)
+inNextBank place n WordRead.Unmapped = LongRead.Unmapped

@@ -13,8 +13,8 @@ use memory::reads::LongRead;
 use memory::reads::WordRead;
 use memory::reads::long_from;
 use memory::reads::word_from;
+use successors::in_bank_after;
 use successors::kind_number;
-use types::addresses::in_bank_of;
 use types::code::Kind;
 use types::machine::RECORD_UNIT;
 use types::machine::StepAnswer;
@@ -30,24 +30,32 @@ ghost use Rattle.types.specs.Addresses.{addressLimit};
 ghost use Rattle.model.specs.Memory.{Memory, memory, evaluate};
 ghost use Rattle.model.specs.Step as spec;
 ghost use Rattle.machine.specs.Fetches.{instruction};
-ghost use Rattle.machine.specs.StepResults.{coreAt, left, finished, inOwnBank};
+ghost use Rattle.machine.specs.StepResults.{coreAt, left, finished, inNextBank};
 
-// A word as an address of the bank of execution.
-fn in_own_bank(place: u32, read: WordRead) -> LongRead
+// A word as an address of the bank of the address just after an instruction of n bytes.
+fn in_next_bank(place: u32, n: u8, read: WordRead) -> LongRead
     requires { ⌜ place < addressLimit ⌝ }
-    ensures { λ r. ⌜ r ≡ inOwnBank place read ⌝ }
+    ensures { λ r. ⌜ r ≡ inNextBank place n read ⌝ }
 {
     match read {
-        WordRead::Word(address) => LongRead::Long(in_bank_of(place, address as u32)),
+        WordRead::Word(address) => LongRead::Long(in_bank_after(place, n, address as u32)),
         WordRead::Unmapped => LongRead::Unmapped,
     }
 }
 
-// The return address that is pulled.
-fn pulls_return(ram: &[u8], image: &[u8], base: u32, s: u16, place: u32, kind: Kind) -> LongRead
+// The return address that an instruction of n bytes pulls.
+fn pulls_return(
+    ram: &[u8],
+    image: &[u8],
+    base: u32,
+    s: u16,
+    place: u32,
+    n: u8,
+    kind: Kind,
+) -> LongRead
     requires { ⌜ place < addressLimit ⌝ }
     ensures { λ r. ⌜
-        ((depth : ℕ) (file : List ℕ) (i : Fetched) → s ≡ registersOf file .s
+        ((depth : ℕ) (file : List ℕ) (i : Fetched) → s ≡ registersOf file .s → n ≡ i .length
         → r
         ≡ longRead
         (evaluate (memory (now (ram .entry)) (now (image .entry)) base)
@@ -58,7 +66,7 @@ fn pulls_return(ram: &[u8], image: &[u8], base: u32, s: u16, place: u32, kind: K
     let second = pulled_at(s, 2) as u64;
     let third = pulled_at(s, 3) as u64;
     match kind {
-        Kind::ByRts => in_own_bank(place, word_from(ram, image, base, first, second)),
+        Kind::ByRts => in_next_bank(place, n, word_from(ram, image, base, first, second)),
         Kind::ByRtl => long_from(ram, image, base, first, second, third),
     }
 }
@@ -123,7 +131,7 @@ pub(crate) fn returns(
         × (length (now (registers .exit)) ≡ fileSize)
         ⌝ }
 {
-    let pulled = pulls_return(ram, image, base, registers[S], place, kind);
+    let pulled = pulls_return(ram, image, base, registers[S], place, i.length, kind);
     match pulled {
         LongRead::Long(address) => returns_to(i, opened, kind, address, place, depth, registers),
         LongRead::Unmapped => stopped(Stop::Unmapped, place, depth),

@@ -1,6 +1,7 @@
 -- The first line, written field behind field, and the sums that its places need.
 -- Assumes nothing.
 use mathlib.Core.Path.{_≡_, sym, ap, _∙_}
+use mathlib.Core.Bool.{Bool, true, false}
 use mathlib.Core.List.{List, [], _∷_, _++_, append-assoc}
 use Prim.Native.Nat.{ℕ, _+_, _-_, _*_, _^_, _≤_}
 use native.Mathlib.Nat.{pow-le-pow-right}
@@ -10,7 +11,8 @@ use lib.Seq.{take-at, length-take-le}
 use borrow.Rule.Slice.PartMut.{putMid}
 use Rattle.types.specs.declared.lists.Header.{Header}
 use Rattle.text.specs.Digits.{digits}
-use Rattle.model.specs.MarkList.{tab, lineEnd, decimalDigits, headerText, lengthDigits, lengthDigitsShown, tabAt}
+use Rattle.model.specs.MarkList.{tab, lineEnd, lengthDigits, decimalDigits, newDigits, digitsBy, headerText}
+use Rattle.model.specs.MarkList.{lengthDigitsShown, tabAt}
 use Rattle.prelude.proofs.First.{first-is}
 use Rattle.text.proofs.DigitLaws.{length-field}
 use Rattle.text.proofs.Pages.{Front, front-next, front-at, two-front}
@@ -27,17 +29,23 @@ power-small k few =
     let top : 10 ^ k ≤ 10 ^ lengthDigits = pow-le-pow-right (omega arith) few in
     omega arith
 
-pub small-header : (h : Header) → length (headerText h) ≤ 20
-small-header h = omega (arith, length-header h, decimal-most (h .length))
+-- no address has more than six digits
+pub few-by : (old : Bool) → digitsBy old ≤ newDigits
+few-by true = omega arith
+few-by false = omega arith
+
+pub small-header : (old : Bool) (h : Header) → length (headerText (digitsBy old) h) ≤ 22
+small-header old h =
+    omega (arith, length-header (digitsBy old) h, decimal-most (h .length), few-by old)
 
 -- a line that begins with the first line
-module _ (h : Header) (n : ℕ) (line rest : List ℕ) (e : n ≡ length (headerText h)) (same : line ≡ headerText h ++
-    rest) where
+module _ (count : ℕ) (h : Header) (n : ℕ) (line rest : List ℕ) (e : n ≡ length (headerText count h))
+    (same : line ≡ headerText count h ++ rest) where
   pub line-long : n ≤ length line
   line-long = omega (arith, e, simp length-append at (ap length same))
 
-  pub line-begin : take n line ≡ headerText h
-  line-begin = ap (take n) same ∙ take-at (headerText h) rest n (sym e)
+  pub line-begin : take n line ≡ headerText count h
+  line-begin = ap (take n) same ∙ take-at (headerText count h) rest n (sym e)
 
   pub begin-long : n ≡ length (take n line)
   begin-long = sym (length-take-le n line line-long)
@@ -53,13 +61,13 @@ put-at n page part = putMid n (length page - n) page part
 
 -- a part that was lent from a place on got a field in front
 abbrev Got : ℕ → ℕ → ℕ → ℕ → ℕ → List ℕ → List ℕ → Type 0
-Got radix count n close at page part =
-    part ≡ (digits radix count n ++ (close ∷ [])) ++ drop (count + 1) (take (length page - at) (drop at page))
+Got radix most n close at page part =
+    part ≡ (digits radix most n ++ (close ∷ [])) ++ drop (most + 1) (take (length page - at) (drop at page))
 
-module _ (h : Header) (page : List ℕ) (k : ℕ) (e : k ≡ decimalDigits (h .length))
-    (room : length (headerText h) ≤ length page) where
-  pub header-room : 15 + k ≤ length page
-  header-room = omega (arith, length-header h, e)
+module _ (count : ℕ) (h : Header) (page : List ℕ) (k : ℕ) (e : k ≡ decimalDigits (h .length))
+    (room : length (headerText count h) ≤ length page) where
+  pub header-room : 11 + count + k ≤ length page
+  header-room = omega (arith, length-header count h, e)
 
   pub letter-put : Front page 2 (0x49 ∷ tab ∷ []) (lettered page)
   letter-put = two-front page 0x49 tab (omega (arith, header-room))
@@ -78,24 +86,27 @@ module _ (h : Header) (page : List ℕ) (k : ℕ) (e : k ≡ decimalDigits (h .l
           (front-next (k + 1) _ b base-put got-b (length-field 10 k (h .length) tab) (omega (arith, header-room)))
 
       module _ (c : List ℕ)
-          (got-c : Got 16 4 (h .reset) lineEnd (9 + k + 1) (put-at 9 (put-at 2 (lettered page) a) b) c) where
+          (got-c : Got 16 count (h .reset) lineEnd (9 + k + 1) (put-at 9 (put-at 2 (lettered page) a) b) c) where
         -- the fields joined are the first line
         abbrev joined : List ℕ
         joined =
             (((0x49 ∷ tab ∷ []) ++ (digits 16 6 (h .base) ++ (tab ∷ []))) ++ (digits 10 k (h .length) ++ (tab ∷ [])))
-            ++ (digits 16 4 (h .reset) ++ (lineEnd ∷ []))
+            ++ (digits 16 count (h .reset) ++ (lineEnd ∷ []))
 
-        joined-is : joined ≡ headerText h
+        joined-is : joined ≡ headerText count h
         unfolding headerText
         joined-is = rw (← e) (simp append-assoc)
 
-        pub reset-put : Front page (9 + k + 1 + 5) joined
+        pub reset-put : Front page (9 + k + 1 + (count + 1)) joined
             (put-at (9 + k + 1) (put-at 9 (put-at 2 (lettered page) a) b) c)
         reset-put =
-            front-next 5 _ c length-put got-c (length-field 16 4 (h .reset) lineEnd) (omega (arith, header-room))
+            front-next (count + 1) _ c length-put got-c (length-field 16 count (h .reset) lineEnd)
+            (omega (arith, header-room))
 
         pub header-put : put-at (9 + k + 1) (put-at 9 (put-at 2 (lettered page) a) b) c
-            ≡ headerText h ++ drop (length (headerText h)) page
+            ≡ headerText count h ++ drop (length (headerText count h)) page
         header-put =
-            let size : 9 + k + 1 + 5 ≡ length (headerText h) = sym (reset-put .long) ∙ ap length joined-is in
-            reset-put .same ∙ ap (_++ drop (9 + k + 1 + 5) page) joined-is ∙ ap (λ n. headerText h ++ drop n page) size
+            let size : 9 + k + 1 + (count + 1) ≡ length (headerText count h) = sym (reset-put .long) ∙ ap length
+            joined-is in
+            reset-put .same ∙ ap (_++ drop (9 + k + 1 + (count + 1)) page) joined-is ∙ ap
+            (λ n. headerText count h ++ drop n page) size

@@ -3,7 +3,7 @@
 use mathlib.Core.Path.{_≡_, refl}
 use mathlib.Core.Bool.{Bool, true, false, _&&_}
 use mathlib.Core.List.{List, _++_}
-use Prim.Native.Nat.{ℕ, _-_, _≤_, _<_}
+use Prim.Native.Nat.{ℕ, _+_, _-_, _^_, _≤_, _<_}
 use native.Mathlib.Omega.{arith}
 use borrow.Author.Tests.{lt-ltb, le-ltb}
 use lib.Dec.{ltb}
@@ -12,7 +12,6 @@ use borrow.Rule.Slice.PartMut.{putMid}
 use Rattle.prelude.specs.Choice.{pick}
 use Rattle.text.specs.Digits.{digits}
 use Rattle.text.specs.Text.{startsWith}
-use Rattle.types.specs.Addresses.{bankSize}
 use Rattle.model.specs.Image.{isStart, isFormed}
 use Rattle.model.specs.MarkList.{fields, line, lineOf, fieldsMark, isLine, markShown, lineSize}
 use Rattle.text.proofs.DigitLaws.{length-digits}
@@ -21,37 +20,39 @@ use Rattle.text.proofs.Pages.{Front, front-next}
 
 -- ---- a line that is written
 
-pub start-size : (mark : ℕ) → isStart mark ≡ true → lineSize mark ≡ 15
+pub start-size : (count mark : ℕ) → isStart mark ≡ true → lineSize count mark ≡ count + 11
 unfolding lineSize
-start-size mark h = rw h
+start-size count mark h = rw h
 
-module _ (address mark : ℕ) (page : List ℕ) (started : isStart mark ≡ true) (room : lineSize mark ≤ length page) where
-  pub line-room : 15 ≤ length page
-  line-room = omega (arith, start-size mark started)
+module _ (count address mark : ℕ) (page : List ℕ) (started : isStart mark ≡ true)
+    (room : lineSize count mark ≤ length page) where
+  pub line-room : count + 11 ≤ length page
+  line-room = omega (arith, start-size count mark started)
 
-  pub address-put : {now : List ℕ} → now ≡ digits 16 4 address ++ drop 4 page → Front page 4 (digits 16 4 address) now
-  address-put e = record { same = e; long = length-digits 16 4 address; room = omega (arith, line-room) }
+  pub address-put : {now : List ℕ} → now ≡ digits 16 count address ++ drop count page
+      → Front page count (digits 16 count address) now
+  address-put e = record { same = e; long = length-digits 16 count address; room = omega (arith, line-room) }
 
-  pub line-put : {now : List ℕ} (part : List ℕ) → Front page 4 (digits 16 4 address) now
-      → part ≡ fields mark ++ drop 11 (take (length now - 4) (drop 4 now))
-      → putMid 4 (length now - 4) now part ≡ lineOf address mark ++ drop 15 page
+  pub line-put : {now : List ℕ} (part : List ℕ) → Front page count (digits 16 count address) now
+      → part ≡ fields mark ++ drop 11 (take (length now - count) (drop count now))
+      → putMid count (length now - count) now part ≡ lineOf count address mark ++ drop (count + 11) page
   unfolding lineOf line fields
   line-put part f e = rw started (front-next 11 (fields mark) part f e refl (omega (arith, line-room)) .same)
 
 -- ---- a line that is read
 
-module _ (address : ℕ) (text : List ℕ) where
-  pub too-high : bankSize ≤ address → 0 ≡ markShown address text
+module _ (count address : ℕ) (text : List ℕ) where
+  pub too-high : 16 ^ count ≤ address → 0 ≡ markShown count address text
   unfolding markShown isLine
-  too-high h = rw (le-ltb address bankSize h)
+  too-high h = rw (le-ltb address (16 ^ count) h)
 
-  pub other-address : startsWith (digits 16 4 address) text ≡ false → 0 ≡ markShown address text
+  pub other-address : startsWith (digits 16 count address) text ≡ false → 0 ≡ markShown count address text
   unfolding markShown isLine
-  other-address h = rw (h, and-false (ltb address bankSize))
+  other-address h = rw (h, and-false (ltb address (16 ^ count)))
 
-  module _ (mark : ℕ) (shown : mark ≡ fieldsMark (drop 4 text)) (inside : address < bankSize)
-      (begins : startsWith (digits 16 4 address) text ≡ true) where
-    pub by-fields : (b : Bool) → (startsWith (fields mark) (drop 4 text) && isFormed mark) ≡ b
-        → markShown address text ≡ pick b mark 0
+  module _ (mark : ℕ) (shown : mark ≡ fieldsMark (drop count text)) (inside : address < 16 ^ count)
+      (begins : startsWith (digits 16 count address) text ≡ true) where
+    pub by-fields : (b : Bool) → (startsWith (fields mark) (drop count text) && isFormed mark) ≡ b
+        → markShown count address text ≡ pick b mark 0
     unfolding markShown isLine
-    by-fields b h = rw (← shown, lt-ltb address bankSize inside, begins, h)
+    by-fields b h = rw (← shown, lt-ltb address (16 ^ count) inside, begins, h)

@@ -1,4 +1,4 @@
-// The line of a start: its address and the fields of its mark.
+// The line of a start: its address, in six digits or, in an old list, four, and the fields of its mark.
 use fields::byte_at;
 use image::is_formed;
 use image::is_start;
@@ -13,11 +13,13 @@ use text::bytes::starts_with;
 use text::digits::digit;
 use text::digits::put_digits;
 use text::digits::shows_digits;
+use types::addresses::ADDRESS_LIMIT;
 use types::addresses::BANK_SIZE;
 ghost use mathlib.Core.Path.{_≡_};
 ghost use mathlib.Core.List.{_++_};
-ghost use Prim.Native.Nat.{_≤_};
+ghost use Prim.Native.Nat.{_^_, _≤_, _<_};
 ghost use lib.ListN.{length, drop};
+ghost use Rattle.types.specs.Addresses.{addressLimit};
 ghost use Rattle.model.specs.MarkList as spec;
 
 // Fields are parted by tabs, each line is closed by a line end.
@@ -25,9 +27,32 @@ pub const TAB: u8 = b'\t';
 
 pub const LINE_END: u8 = b'\n';
 
-pub(crate) const ADDRESS_DIGITS: usize = 4;
+pub const NEW_DIGITS: usize = 6;
 
-const LINE_SIZE: usize = 15;
+pub(crate) const OLD_DIGITS: usize = 4;
+
+const FIELDS_SIZE: usize = 11;
+
+// How many digits the addresses of a list have.
+pub fn digits_by(old: bool) -> usize
+    ensures { λ r. ⌜ r ≡ spec.digitsBy old ⌝ }
+{
+    if old { OLD_DIGITS } else { NEW_DIGITS }
+}
+
+// How many addresses so many digits tell apart.
+fn span_by(old: bool) -> u32
+    ensures { λ r. ⌜ (r ≡ 16 ^ spec.digitsBy old) × (0 < r) × (r ≤ addressLimit) ⌝ }
+{
+    if old { BANK_SIZE } else { ADDRESS_LIMIT }
+}
+
+// The first of the addresses of a list, as far as its digits show it.
+pub fn first_address(old: bool, base: u32) -> u32
+    ensures { λ r. ⌜ (r ≡ spec.firstAddress (spec.digitsBy old) base) × (r < addressLimit) ⌝ }
+{
+    base % span_by(old)
+}
 
 // N, S or L for the kinds 0, 1, 2.
 pub fn kind_letter(kind: u8) -> u8
@@ -52,25 +77,29 @@ pub fn fields(mark: u8) -> [u8; 11]
 }
 
 // How many bytes the line of a mark has.
-pub fn line_size(mark: u8) -> usize
-    ensures { λ r. ⌜ r ≡ spec.lineSize mark ⌝ }
+pub fn line_size(old: bool, mark: u8) -> usize
+    ensures { λ r. ⌜ r ≡ spec.lineSize (spec.digitsBy old) mark ⌝ }
 {
-    if is_start(mark) { LINE_SIZE } else { 0 }
+    if is_start(mark) {
+        digits_by(old) + FIELDS_SIZE
+    } else {
+        0
+    }
 }
 
-// Writes the line of a mark at the front of a page, nothing for no start, and returns its length. It asks for room, so
-// that no byte is left out.
+// Writes the line of a mark at the front of a page, in six digits, nothing for no start, and returns its length. It
+// asks for room, so that no byte is left out.
 pub fn put_line(page: &mut [u8], address: u32, mark: u8) -> usize
-    requires { ⌜ spec.lineSize mark ≤ length (now page) ⌝ }
-    ensures { λ r. ⌜ (r ≡ spec.lineSize mark)
-        × (now (page .exit) ≡ spec.lineOf address mark ++ drop r (now (page .entry))) ⌝ }
+    requires { ⌜ spec.lineSize spec.newDigits mark ≤ length (now page) ⌝ }
+    ensures { λ r. ⌜ (r ≡ spec.lineSize spec.newDigits mark)
+        × (now (page .exit) ≡ spec.lineOf spec.newDigits address mark ++ drop r (now (page .entry))) ⌝ }
 {
     if !is_start(mark) {
         return 0;
     }
-    put_digits(page, 16, ADDRESS_DIGITS, address);
-    put_bytes(&mut page[ADDRESS_DIGITS..], &fields(mark));
-    LINE_SIZE
+    put_digits(page, 16, NEW_DIGITS, address);
+    put_bytes(&mut page[NEW_DIGITS..], &fields(mark));
+    NEW_DIGITS + FIELDS_SIZE
 }
 
 // What a field of a width shows.
@@ -103,17 +132,18 @@ fn fields_mark(text: &[u8]) -> u8
 }
 
 // The mark that a text shows for an address: that of the line it begins with, 0 where that is no line of this address.
-// The address of a line is the number of its first four digits.
-pub fn mark_shown(text: &[u8], address: u32) -> u8
-    ensures { λ r. ⌜ r ≡ spec.markShown address (now (text .entry)) ⌝ }
+// The address of a line is the number of its first digits.
+pub fn mark_shown(text: &[u8], old: bool, address: u32) -> u8
+    ensures { λ r. ⌜ r ≡ spec.markShown (spec.digitsBy old) address (now (text .entry)) ⌝ }
 {
-    if BANK_SIZE <= address {
+    if span_by(old) <= address {
         return 0;
     }
-    if !shows_digits(text, 16, ADDRESS_DIGITS, address) {
+    let count = digits_by(old);
+    if !shows_digits(text, 16, count, address) {
         return 0;
     }
-    let rest = &text[ADDRESS_DIGITS..];
+    let rest = &text[count..];
     let mark = fields_mark(rest);
     if !starts_with(rest, &fields(mark)) {
         return 0;

@@ -6,8 +6,7 @@ use builtlist::put_built_list;
 use files::read_named;
 use image::IMAGE_LIMIT;
 use libc::STDOUT_FILENO;
-use marklist::header::BASE_DIGITS;
-use marklist::header::RESET_DIGITS;
+use marklist::lines::NEW_DIGITS;
 
 // The program's name, the image, the base, the reset address and the routines.
 const WORDS: usize = 5;
@@ -16,8 +15,8 @@ const WORDS: usize = 5;
 // lead to.
 fn main() {
     let mut image = [0u8; IMAGE_LIMIT + 1];
-    let mut base = [0u8; BASE_DIGITS];
-    let mut reset = [0u8; RESET_DIGITS];
+    let mut base = [0u8; NEW_DIGITS];
+    let mut reset = [0u8; NEW_DIGITS];
     let mut routines = [0u8; LIST_LIMIT + 1];
     let mut page = longest_list();
     let image_size = read_named(1, WORDS, &mut image);

@@ -24,13 +24,13 @@ use Rattle.types.specs.declared.runs.RunAnswer.{RunAnswer}
 use Rattle.prelude.specs.Choice.{pick}
 use Rattle.types.specs.Addresses.{bankSize, addressLimit}
 use Rattle.model.specs.Image.{imageLimit, isStart, markKind, returnM, returnX, markOf}
-use Rattle.types.specs.Addresses.{inBankOf}
 use Rattle.model.specs.Image.{isFormed, lengthFits, baseFits, markAt, resetFits, startCount}
 use Rattle.types.specs.Refusals.{firstRefusal, answered}
 use Rattle.prelude.specs.First.{firstFrom}
 use Rattle.model.specs.Verdict.{badMark, allFormed}
-use Rattle.model.specs.MarkList.{listText, headerShown, marksOf, isList, readTests, readAs, readList, writeTests}
-use Rattle.model.specs.MarkList.{writeList}
+use Rattle.model.specs.MarkList.{newDigits, listText, isOld, addressDigits, headerShown, marksOf, isList}
+use Rattle.model.specs.MarkList.{listBaseFits}
+use Rattle.model.specs.MarkList.{readTests, readAs, readList, writeTests, writeList}
 use Rattle.types.specs.Status.{levelUnit, numberOf}
 use Rattle.model.specs.Memory.{Memory}
 use Rattle.model.specs.Step.{callLimit, returnOf, kindOf}
@@ -38,14 +38,16 @@ use Rattle.model.specs.Run.{ramLimit, stepLimit, ramFits, levelLimit, ca
 use Rattle.model.specs.Run.{admission, executed, ran, stateFitsWithin}
 use Rattle.model.specs.StateBytes.{stateSize, stateOf}
 use Rattle.model.specs.RunBytes.{bytesFit, ranBytesBy, ranBytes}
-use Rattle.model.specs.Grounds.{WrongSize, WrongLength, WrongBase, IsResetStart, WrongReset, IsMark, WrongMark}
+use Rattle.model.specs.Grounds.{WrongSize, WrongLength, WrongBase, WrongListBase, IsResetStart, WrongReset}
+use Rattle.model.specs.Grounds.{IsMark, WrongMark}
 use Rattle.model.specs.Grounds.{WrongRam, WrongCall, WrongState, WrongBytes, runGrounds, RunAnswers}
 use Rattle.model.specs.Grounds.{RunBytesAnswers, readGrounds, ReadAnswers, writeGrounds, WriteAnswers}
 use Rattle.model.specs.Grounds.{Unordered, HoldsOutside, WrongAddresses, locateGrounds, LocateAnswers}
 use Rattle.model.specs.Locate.{passOver, addressCount, isAscending, allInside, addressesFit, locateTests}
 use Rattle.model.specs.Locate.{locatedBy, located}
 use Rattle.model.specs.Grounds.{WrongRoutines, buildGrounds, BuildAnswers}
-use Rattle.model.specs.Routines.{isRoutineList, routineMarks, routinesInside, routineLimit, routinesFit, Admitted}
+use Rattle.model.specs.Routines.{hasOldLines, isRoutineList, routineMarks, routinesInside, routineLimit}
+use Rattle.model.specs.Routines.{routinesFit, Admitted}
 use Rattle.model.specs.Routines.{hasMarking, buildTests, built}
 use Rattle.prelude.proofs.Choice.{both-true}
 use Rattle.prelude.proofs.First.{none-found}
@@ -131,8 +133,20 @@ wrong-alone image =
 wrong-base : (base image : ℕ) → FailsOn (baseFits base image) (WrongBase base image)
 unfolding baseFits
 wrong-base base image =
-    either (ltb base addressLimit) (leb (base % bankSize + image) bankSize) (not-below base addressLimit)
-    (above (base % bankSize + image) bankSize)
+    either (ltb base addressLimit) (leb (base + image) addressLimit) (not-below base addressLimit)
+    (above (base + image) addressLimit)
+
+-- of a list, which may be old
+wrong-list-base : (old : Bool) (base image : ℕ)
+    → FailsOn (listBaseFits old base image) (WrongListBase old base image)
+unfolding listBaseFits
+wrong-list-base old base image =
+    either (baseFits base image) (not old || leb (base % bankSize + image) bankSize) (wrong-base base image) (by old)
+  where
+    by : (b : Bool) → FailsOn (not b || leb (base % bankSize + image) bankSize)
+        ((b ≡ true) × (bankSize < base % bankSize + image))
+    by true = let d = above (base % bankSize + image) bankSize in (λ e. (refl, d .0 e), λ w. d .1 (w .1))
+    by false = (λ e. absurd (true≢false e), λ w. absurd (false≢true (w .0)))
 
 -- ---- 4 and 3
 
@@ -237,13 +251,8 @@ wrong-reset : (marks : List ℕ) (base reset : ℕ) → allFormed marks ≡ true
     → FailsOn (resetFits marks base reset) (WrongReset marks base reset)
 unfolding resetFits
 wrong-reset marks base reset formed =
-    let mark = markAt marks base (inBankOf base reset) in
-    let start = reset-start mark (formed-at marks base (inBankOf base reset) formed) in
-    not-holding (ltb reset bankSize && eqb mark (markOf 0 0 0 0 0)) (
-      λ e. let h = both-true (ltb reset bankSize) (eqb mark (markOf 0 0 0 0 0)) e in
-          (ltb-true reset bankSize (h .0), start .0 (h .1)),
-      λ h. rw (lt-ltb reset bankSize (h .0), start .1 (h .1)) refl,
-    )
+    let mark = markAt marks base reset in
+    not-holding (eqb mark (markOf 0 0 0 0 0)) (reset-start mark (formed-at marks base reset formed))
 
 -- ---- 11 and 12
 
@@ -332,17 +341,20 @@ read-answers text marks =
       one = λ why other e. cc;
       none = λ why e. let z : _≡_ {A = ℕ} 0 1 = cc in absurd (omega arith);
     })
-    (readGrounds text marks) (readTests h text (length marks)) refl (
-      not-holding (isList h text) (list-exactly text),
+    (readGrounds text marks) (readTests (isOld text) h text (length marks)) refl (
+      not-holding (isList count h text) (list-exactly text),
       λ _. (
         wrong-length (h .length) (length marks),
         λ _. (
-          wrong-base (h .base) (h .length),
-          λ _. (wrong-reset (marksOf h text) (h .base) (h .reset) (formed-marks h text), λ _. tt),
+          wrong-list-base (isOld text) (h .base) (h .length),
+          λ _. (wrong-reset (marksOf count h text) (h .base) (h .reset) (formed-marks count h text), λ _. tt),
         ),
       ),
     )
   where
+    count : ℕ
+    count = addressDigits text
+
     h : Header
     h = headerShown text
 
@@ -350,7 +362,7 @@ read-answers text marks =
 pub write-answers : WriteAnswers
 unfolding writeList
 write-answers marks base reset page =
-    let list = listText marks base reset in
+    let list = listText newDigits marks base reset in
     answers-by ListWritten.NotWritten (ListWritten.Written (length list))
     (record {
       one = λ why other e. cc;
@@ -460,6 +472,9 @@ build-answers image base reset text marks =
       not-holding (isRoutineList text) (routines-exactly text),
       λ _. (
         wrong-length (length image) (length marks),
-        λ _. (wrong-base base (length image), λ _. (wrong-routines image base reset text, λ _. tt)),
+        λ _. (
+          wrong-list-base (hasOldLines text) base (length image),
+          λ _. (wrong-routines image base reset text, λ _. tt),
+        ),
       ),
     ))

@@ -513,8 +513,8 @@ module _ (image marks : List ℕ) (base reset : ℕ) (rules : Accepts image mark
   small : length image < addressLimit
   small = let r = right-length (length image) (length marks) (rules .right-length) in omega (arith, r .few)
 
-  in-bank : base + length image ≤ addressLimit
-  in-bank = base-whole base (length image) (rules .one-bank)
+  in-space : base + length image ≤ addressLimit
+  in-space = base-whole base (length image) (rules .right-base)
 
   here : Located marks base address
   here = located marks base address (st .start)
@@ -537,7 +537,7 @@ module _ (image marks : List ℕ) (base reset : ℕ) (rules : Accepts image mark
           → v ≡ markX (getD marks (here .at) 0)
           → decode (bytesFrom m a (length image)) w v ≡ Decoded.Whole instruction
       read a w v ea ew ev =
-          rw (ea, ew, ev, bytes-inside m in-bank small (length image) (here .at) within-image (omega arith))
+          rw (ea, ew, ev, bytes-inside m in-space small (length image) (here .at) within-image (omega arith))
           (at-start .whole)
 
   -- every byte of the instruction lies within the image
@@ -547,12 +547,12 @@ module _ (image marks : List ℕ) (base reset : ℕ) (rules : Accepts image mark
       instruction (at-start .whole) in
       let room : instruction .length ≤ length image - here .at = rw length-drop at (d .inside) in
       let on : nextAddress address k ≡ base + (here .at + k) =
-      rw (here .place) (mod-eq-of-lt (omega (arith, within-image, in-bank)) ∙ omega arith) in
-      rw on (is-inside m in-bank small (here .at + k) (omega (arith, within-image)))
+      rw (here .place) (mod-eq-of-lt (omega (arith, within-image, in-space)) ∙ omega arith) in
+      rw on (is-inside m in-space small (here .at + k) (omega (arith, within-image)))
 
   marked : Marked marks m s
   marked = record {
-    in-image = rw (here .place) (is-inside m in-bank small (here .at) within-image);
+    in-image = rw (here .place) (is-inside m in-space small (here .at) within-image);
     is-start = st .start;
     m-marked = st .m-marked;
     x-marked = st .x-marked;
@@ -595,7 +595,7 @@ module _ (image marks : List ℕ) (base reset : ℕ) (rules : Accepts image mark
   steps : Steps image marks base ram s
   unfolding stepWithin returnFits
   steps =
-      let marks-whole : base + length marks ≤ addressLimit = rw same-length in-bank in
+      let marks-whole : base + length marks ≤ addressLimit = rw same-length in-space in
       let after = finished marks base s instruction marks-whole m (plan m s instruction) st good in
       record {
         safe = record { marked = marked; whole = whole-inside };

@@ -1,17 +1,17 @@
--- What the tests of length and base show, and the count of starts worked from the last mark to the first.
+-- What the tests of length, base and reset show, and the count of starts worked from the last mark to the first.
 -- Assumes nothing.
 use mathlib.Core.Path.{_≡_, refl}
-use mathlib.Core.Bool.{true, _&&_}
+use mathlib.Core.Bool.{Bool, true, false, _&&_}
 use mathlib.Core.List.{List, [], _∷_}
-use Prim.Native.Nat.{ℕ, zero, suc, _+_, _-_, _%_, _≤_, _<_}
+use Prim.Native.Nat.{ℕ, zero, suc, _+_, _-_, _≤_, _<_}
 use native.Mathlib.Omega.{arith}
-use borrow.Author.Tests.{ltb-true, leb-true, eqb-true}
+use borrow.Author.Tests.{ltb-true, ltb-false, leb-true, eqb-true}
 use lib.Dec.{eqb, ltb, leb}
-use lib.ListN.{length, getD, drop}
+use lib.ListN.{length, getD, drop, List·getD-eq-default}
 use lib.Seq.{drop-cons}
 use Rattle.prelude.specs.Choice.{pick}
-use Rattle.types.specs.Addresses.{bankSize, addressLimit}
-use Rattle.model.specs.Image.{imageLimit, isStart, lengthFits, baseFits, startCount}
+use Rattle.types.specs.Addresses.{addressLimit}
+use Rattle.model.specs.Image.{imageLimit, isStart, lengthFits, baseFits, markAt, resetFits, startCount}
 use Rattle.prelude.proofs.Choice.{one-or-none}
 use Rattle.prelude.proofs.Choice.{both-true}
 
@@ -34,16 +34,26 @@ right-length image marks h =
 pub base-below : (base n : ℕ) → baseFits base n ≡ true → base < addressLimit
 unfolding baseFits
 base-below base n h =
-    ltb-true base addressLimit (both-true (ltb base addressLimit) (leb (base % bankSize + n) bankSize) h .0)
+    ltb-true base addressLimit (both-true (ltb base addressLimit) (leb (base + n) addressLimit) h .0)
 
 -- the image ends within the 24-bit addresses
 pub base-whole : (base n : ℕ) → baseFits base n ≡ true → base + n ≤ addressLimit
 unfolding baseFits
 base-whole base n h =
-    let both = both-true (ltb base addressLimit) (leb (base % bankSize + n) bankSize) h in
-    let below = ltb-true base addressLimit (both .0) in
-    let fits = leb-true (base % bankSize + n) bankSize (both .1) in
-    omega arith
+    leb-true (base + n) addressLimit (both-true (ltb base addressLimit) (leb (base + n) addressLimit) h .1)
+
+-- a reset address with the required start lies in the image
+pub reset-inside : (marks : List ℕ) (base reset : ℕ) → resetFits marks base reset ≡ true → reset < base + length marks
+unfolding resetFits markAt
+reset-inside marks base reset fits =
+    by (leb base reset) (ltb (reset - base) (length marks)) refl refl (eqb-true (markAt marks base reset) 1 fits)
+  where
+    by : (from below : Bool) → leb base reset ≡ from → ltb (reset - base) (length marks) ≡ below
+        → pick from (getD marks (reset - base) 0) 0 ≡ 1 → reset < base + length marks
+    by false below f b e = absurd (omega arith)
+    by true true f b e = omega (arith, leb-true base reset f, ltb-true (reset - base) (length marks) b)
+    by true false f b e =
+        absurd (omega (arith, List·getD-eq-default marks 0 (ltb-false (reset - base) (length marks) b)))
 
 -- no more starts than marks
 pub starts-most : (marks : List ℕ) → startCount marks ≤ length marks

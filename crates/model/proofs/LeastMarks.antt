@@ -30,13 +30,13 @@ use Rattle.prelude.proofs.First.{none-found, found-none}
 use Rattle.prelude.proofs.Lists.{passes-in, in-passes, all-passes, each-passes, first-in, some-in, all-in}
 use Rattle.model.specs.Image.{isStart, markAt}
 use Rattle.model.specs.Rules.{instructionAt, targetAddress, Met, AllMet}
-use Rattle.model.specs.Verdict.{startAt, isStartAt, allStarts, imageTests, verdict}
-use Rattle.model.specs.Routines.{isRoutineList, routineMarks, routinesFit, StandsIn, Plain, isListed, Admitted}
+use Rattle.model.specs.Verdict.{startAt, isStartAt, allStarts, verdict}
+use Rattle.model.specs.Routines.{routineMarks, routinesFit, StandsIn, Plain, isListed, Admitted}
 use Rattle.model.specs.Routines.{Least, missingAt, standsIn, flowListed, targetListed, strayAt, allListed}
 use Rattle.model.specs.Routines.{acceptedBy, isAdmitted, standsInAll, admittedMarkings, hasMarking, leastOf}
-use Rattle.model.specs.Routines.{buildTests, built, marksAfter, marksBuilt, WithinLimits, RefusedExactly}
-use Rattle.model.specs.Routines.{DeliversLeast}
-use Rattle.model.proofs.TestResults.{shown, none-fails, failed-passed, ends}
+use Rattle.model.specs.Routines.{formTests, buildTests, built, marksAfter, marksBuilt, WithinLimits}
+use Rattle.model.specs.Routines.{RefusedExactly, DeliversLeast}
+use Rattle.model.proofs.TestResults.{shown, none-fails, failed-passed}
 use Rattle.model.proofs.Verdict.{start-inside}
 use Rattle.model.proofs.Routines.{stands-through, admitted-length, admitted-formed, admitted-plain}
 use Rattle.model.proofs.Routines.{reset-met, owed-met, CompleteIn, complete-admitted, least-only}
@@ -379,47 +379,30 @@ module _ (image : List ℕ) (base reset : ℕ) (text marks : List ℕ) where
     unfolding built
     has-passed h =
         none-fails (buildTests image base reset text (length marks))
-        (within .form, (within .right-length, (within .one-bank, (rw (within .routines-fit) h, tt))))
+        (within .form, (within .right-length, (within .right-base, (rw (within .routines-fit) h, tt))))
 
     none-failed : hasMarking image base reset routines ≡ false
         → built image base reset text marks ≡ TestResult.Failed Refusal.Routines
     unfolding built firstRefusal
-    none-failed h = rw (within .form, within .right-length, within .one-bank, within .routines-fit, h) refl
+    none-failed h = rw (within .form, within .right-length, within .right-base, within .routines-fit, h) refl
 
   -- ---- tests made one after another
 
-  abbrev imageTested : TestResult
-  imageTested = firstRefusal (imageTests (length image) (length marks) base)
+  abbrev form : Tests
+  form = formTests text (length image) (length marks) base
 
-  abbrev last : Tests
-  last = (
-    routinesFit base (length image) text && hasMarking image base reset routines,
-    Refusal.Routines,
-  ) ∷ []
+  pub within-limits : firstRefusal form ≡ TestResult.Passed → routinesFit base (length image) text ≡ true
+      → WithinLimits image base text marks
+  within-limits passed fit =
+      let held = shown form passed in
+      record { form = held .0; right-length = held .1 .0; right-base = held .1 .1 .0; routines-fit = fit }
 
-  pub form-refuses : isRoutineList text ≡ false → built image base reset text marks ≡ TestResult.Failed Refusal.List
-  unfolding built firstRefusal
-  form-refuses form = rw form refl
-
-  pub image-refuses : (why : Refusal) → isRoutineList text ≡ true → imageTested ≡ TestResult.Failed why
-      → built image base reset text marks ≡ TestResult.Failed why
-  unfolding built firstRefusal
-  image-refuses why form tested =
-      rw form (sym (ends (imageTests (length image) (length marks) base) last refl tested) ∙ tested)
-
-  pub within-limits : isRoutineList text ≡ true → imageTested ≡ TestResult.Passed
-      → routinesFit base (length image) text ≡ true → WithinLimits image base text marks
-  within-limits form tested fit =
-      let held = shown (imageTests (length image) (length marks) base) tested in
-      record { form = form; right-length = held .0; one-bank = held .1 .0; routines-fit = fit }
-
-  pub routines-refuse : isRoutineList text ≡ true → imageTested ≡ TestResult.Passed
-      → routinesFit base (length image) text ≡ false
+  pub routines-refuse : firstRefusal form ≡ TestResult.Passed → routinesFit base (length image) text ≡ false
       → built image base reset text marks ≡ TestResult.Failed Refusal.Routines
   unfolding built firstRefusal
-  routines-refuse form tested fit =
-      let held = shown (imageTests (length image) (length marks) base) tested in
-      rw (form, held .0, held .1 .0, fit) refl
+  routines-refuse passed fit =
+      let held = shown form passed in
+      rw (held .0, held .1 .0, held .1 .1 .0, fit) refl
 
   -- a refusal leaves the marks as given
   pub refused-keeps : (why : Refusal) → built image base reset text marks ≡ TestResult.Failed why

@@ -5,6 +5,7 @@ pub mod Decode
 pub mod Widths
 pub mod Image
 pub mod Verdict
+pub mod BankEnds
 pub mod Meaning
 pub mod MarkList
 pub mod ListAnswers
@@ -17,6 +18,7 @@ pub mod Locate
 pub mod Routines
 pub mod LeastMarks
 pub mod RoutineList
+pub mod Mixtures
 pub mod Memory
 pub mod Status
 pub mod Step

@@ -1,88 +1,109 @@
 -- The parts of a list, each way. A text is the lines of the marks that it shows and what is left of it; and the lines
 -- of marks show these marks again and leave nothing, since a line of a later address shows nothing for an earlier one:
--- its first four digits are another number. A first line shows the fields that it was made of.
+-- its digits are another number. A first line shows the fields that it was made of.
 -- Assumes nothing.
 use mathlib.Core.Path.{_≡_, refl, sym, ap, _∙_}
 use mathlib.Core.Bool.{Bool, true, false, not, _&&_, _||_}
 use mathlib.Core.List.{List, [], _∷_, _++_, append-assoc}
 use mathlib.Core.Logic.{_⊎_, inl, inr}
 use Prim.Native.Nat.{ℕ, zero, suc, _+_, _*_, _%_, _^_, _≤_, _<_}
+use native.Mathlib.Nat.{mod-lt, one-le-pow, mul-suc}
 use native.Mathlib.Omega.{arith}
 use borrow.Author.Tests.{ltb-true, lt-ltb, eqb-true, eq-eqb, ne-eqb}
 use lib.Dec.{T, eqb, ltb, eqb→eq}
 use lib.ListN.{length, getD, drop, length-append, List·getD-append}
-use lib.Seq.{drop-drop, drop-at, getD-at}
+use lib.Seq.{drop-drop, drop-at, getD-at, getD-drop}
 use Rattle.types.specs.declared.lists.Header.{Header}
 use Rattle.prelude.specs.Choice.{pick}
 use Rattle.text.specs.Digits.{digit, digits, value}
 use Rattle.text.specs.Text.{startsWith}
-use Rattle.types.specs.Addresses.{bankSize}
-use Rattle.model.specs.Image.{isStart, markM, markX, markKind, returnM, returnX, isFormed}
+use Rattle.model.specs.Image.{isStart, markM, markX, markKind, returnM, returnX, isFormed, startCount}
 use Rattle.prelude.specs.First.{firstFrom}
-use Rattle.model.specs.MarkList.{tab, lineEnd, lengthDigits, lengthLimit, decimalDigits, headerText, kindLetter}
-use Rattle.model.specs.MarkList.{fields, line, lineOf, lines, tabAt, lengthDigitsShown, headerShown, bitShown}
-use Rattle.model.specs.MarkList.{kindShown, fieldsMark, isLine, markShown, lineSize, marksShown, linesLeft}
+use Rattle.model.specs.MarkList.{tab, lineEnd, lengthDigits, lengthLimit, decimalDigits, digitsBy}
+use Rattle.model.specs.MarkList.{headerText, kindLetter, fields, line, lineOf, lines, tabAt, lengthDigitsShown}
+use Rattle.model.specs.MarkList.{isOld, wholeReset, headerShown, bitShown, kindShown, fieldsMark}
+use Rattle.model.specs.MarkList.{isLine, markShown, lineSize, marksShown, linesLeft}
 use Rattle.prelude.proofs.Table.{upTo, below-all}
 use Rattle.prelude.proofs.Choice.{one-of, both-true}
 use Rattle.prelude.proofs.First.{first-is, first-only}
-use Rattle.text.proofs.DigitLaws.{length-digits, digits-high, behind-digits, value-digits, count-most, count-enough}
+use Rattle.text.proofs.DigitLaws.{length-digits, digits-high, digits-low, behind-digits, value-digits, count-most}
+use Rattle.text.proofs.DigitLaws.{count-enough}
 use Rattle.text.proofs.Text.{starts-split, starts-append}
 use Rattle.text.proofs.Text.{starts-long, starts-join}
 
 -- ---- a line
 
-pub length-line : (address mark : ℕ) → length (line address mark) ≡ 15
+pub length-line : (count address mark : ℕ) → length (line count address mark) ≡ count + 11
 unfolding line fields
-length-line address mark = simp (length-append, length-digits)
+length-line count address mark = simp (length-append, length-digits)
 
-pub length-line-of : (address mark : ℕ) → length (lineOf address mark) ≡ lineSize mark
+pub length-line-of : (count address mark : ℕ) → length (lineOf count address mark) ≡ lineSize count mark
 unfolding lineOf lineSize
-length-line-of address mark = by (isStart mark)
+length-line-of count address mark = by (isStart mark)
   where
-    by : (b : Bool) → length (pick b (line address mark) []) ≡ pick b 15 0
-    by true = length-line address mark
+    by : (b : Bool) → length (pick b (line count address mark) []) ≡ pick b (count + 11) 0
+    by true = length-line count address mark
     by false = refl
 
-pub size-most : (mark : ℕ) → lineSize mark ≤ 15
+pub size-most : (count mark : ℕ) → lineSize count mark ≤ count + 11
 unfolding lineSize
-size-most mark = by (isStart mark)
+size-most count mark = by (isStart mark)
   where
-    by : (b : Bool) → pick b 15 0 ≤ 15
+    by : (b : Bool) → pick b (count + 11) 0 ≤ count + 11
     by true = omega arith
     by false = omega arith
 
 -- no lines are longer than if every mark were a start
-pub lines-most : (address : ℕ) (marks : List ℕ) → length (lines address marks) ≤ 15 * length marks
+pub lines-most : (count address : ℕ) (marks : List ℕ) → length (lines count address marks) ≤ (count + 11) * length marks
 unfolding lines
-lines-most address [] = omega arith
-lines-most address (mark ∷ marks) =
-    rw (length-append (lineOf address mark) (lines (address + 1) marks)) (omega (
+lines-most count address [] = omega arith
+lines-most count address (mark ∷ marks) =
+    rw (length-append (lineOf count address mark) (lines count (address + 1) marks)) (omega (
       arith,
-      length-line-of address mark,
-      size-most mark,
-      lines-most (address + 1) marks,
+      length-line-of count address mark,
+      size-most count mark,
+      lines-most count (address + 1) marks,
     ))
+
+-- each start has its line
+pub length-lines : (count address : ℕ) (marks : List ℕ)
+    → length (lines count address marks) ≡ (count + 11) * startCount marks
+unfolding lines startCount lineSize
+length-lines count address [] = omega arith
+length-lines count address (mark ∷ marks) =
+    rw (
+      length-append (lineOf count address mark) (lines count (address + 1) marks),
+      length-line-of count address mark,
+      length-lines count (address + 1) marks,
+    ) (by (isStart mark))
+  where
+    by : (b : Bool) → pick b (count + 11) 0 + (count + 11) * startCount marks
+        ≡ (count + 11) * (pick b 1 0 + startCount marks)
+    by true =
+        let next : 1 + startCount marks ≡ suc (startCount marks) = omega arith in
+        rw (next, mul-suc (count + 11) (startCount marks)) (omega arith)
+    by false = let same : 0 + startCount marks ≡ startCount marks = omega arith in rw same (omega arith)
 
 -- the mark that fields show starts an instruction
 pub shown-start : (text : List ℕ) → isStart (fieldsMark text) ≡ true
 unfolding fieldsMark
 shown-start text = eq-eqb (fieldsMark text % 2) 1 (omega arith)
 
-pub record LineAt (address : ℕ) (text : List ℕ) : Type 0 where
-  pub inside : address < bankSize
-  pub begins : startsWith (line address (fieldsMark (drop 4 text))) text ≡ true
-  pub formed : isFormed (fieldsMark (drop 4 text)) ≡ true
+pub record LineAt (count address : ℕ) (text : List ℕ) : Type 0 where
+  pub inside : address < 16 ^ count
+  pub begins : startsWith (line count address (fieldsMark (drop count text))) text ≡ true
+  pub formed : isFormed (fieldsMark (drop count text)) ≡ true
 
-pub line-at : (address : ℕ) (text : List ℕ) → isLine address text ≡ true → LineAt address text
+pub line-at : (count address : ℕ) (text : List ℕ) → isLine count address text ≡ true → LineAt count address text
 unfolding isLine line
-line-at address text h =
-    let mark = fieldsMark (drop 4 text) in
-    let outer = both-true (ltb address bankSize && startsWith (digits 16 4 address) text) _ h in
-    let place = both-true (ltb address bankSize) (startsWith (digits 16 4 address) text) (outer .0) in
-    let shown = both-true (startsWith (fields mark) (drop 4 text)) (isFormed mark) (outer .1) in
+line-at count address text h =
+    let mark = fieldsMark (drop count text) in
+    let outer = both-true (ltb address (16 ^ count) && startsWith (digits 16 count address) text) _ h in
+    let place = both-true (ltb address (16 ^ count)) (startsWith (digits 16 count address) text) (outer .0) in
+    let shown = both-true (startsWith (fields mark) (drop count text)) (isFormed mark) (outer .1) in
     record {
-      inside = ltb-true address bankSize (place .0);
-      begins = rw (starts-join (digits 16 4 address) (fields mark) text, length-digits 16 4 address, place .1)
+      inside = ltb-true address (16 ^ count) (place .0);
+      begins = rw (starts-join (digits 16 count address) (fields mark) text, length-digits 16 count address, place .1)
           (shown .0);
       formed = shown .1;
     }
@@ -90,54 +111,53 @@ line-at address text h =
 -- ---- a text by its lines
 
 -- a text is the line that it begins with, if any, and the rest
-pub shown-line : (address : ℕ) (text : List ℕ)
-    → text ≡ lineOf address (markShown address text) ++ drop (lineSize (markShown address text)) text
+pub shown-line : (count address : ℕ) (text : List ℕ)
+    → let mark = markShown count address text in text ≡ lineOf count address mark ++ drop (lineSize count mark) text
 unfolding markShown lineOf lineSize
-shown-line address text = by (isLine address text) refl
+shown-line count address text = by (isLine count address text) refl
   where
-    by : (b : Bool) → isLine address text ≡ b
-        → text ≡ lineOf address (pick b (fieldsMark (drop 4 text)) 0) ++ drop (lineSize (pick b (fieldsMark (drop 4
-        text)) 0)) text
+    by : (b : Bool) → isLine count address text ≡ b
+        → let mark = pick b (fieldsMark (drop count text)) 0 in
+        text ≡ lineOf count address mark ++ drop (lineSize count mark) text
     by false h = refl
     by true h =
-        let mark = fieldsMark (drop 4 text) in
-        rw (shown-start (drop 4 text)) (rw (length-line address mark) at (starts-split (line address mark) text (line-at
-        address text h .begins)))
+        let mark = fieldsMark (drop count text) in
+        let split = starts-split (line count address mark) text (line-at count address text h .begins) in
+        rw (shown-start (drop count text)) (rw (length-line count address mark) at split)
 
-pub shown-formed : (address : ℕ) (text : List ℕ) → isFormed (markShown address text) ≡ true
+pub shown-formed : (count address : ℕ) (text : List ℕ) → isFormed (markShown count address text) ≡ true
 unfolding markShown isFormed
-shown-formed address text = by (isLine address text) refl
+shown-formed count address text = by (isLine count address text) refl
   where
-    by : (b : Bool) → isLine address text ≡ b → isFormed (pick b (fieldsMark (drop 4 text)) 0) ≡ true
-    by true h = line-at address text h .formed
+    by : (b : Bool) → isLine count address text ≡ b → isFormed (pick b (fieldsMark (drop count text)) 0) ≡ true
+    by true h = line-at count address text h .formed
     by false h = refl
 
-pub length-shown : (address n : ℕ) (text : List ℕ) → length (marksShown address n text) ≡ n
+pub length-shown : (count address n : ℕ) (text : List ℕ) → length (marksShown count address n text) ≡ n
 unfolding marksShown
-length-shown address zero text = refl
-length-shown address (suc n) text =
-    ap suc (length-shown (address + 1) n (drop (lineSize (markShown address text)) text))
+length-shown count address zero text = refl
+length-shown count address (suc n) text =
+    ap suc (length-shown count (address + 1) n (drop (lineSize count (markShown count address text)) text))
 
-pub all-formed : (address n : ℕ) (text : List ℕ) (k : ℕ) → k < n
-    → isFormed (getD (marksShown address n text) k 0) ≡ true
+pub all-formed : (count address n : ℕ) (text : List ℕ) (k : ℕ) → k < n
+    → isFormed (getD (marksShown count address n text) k 0) ≡ true
 unfolding marksShown
-all-formed address zero text k inside = absurd (omega arith)
-all-formed address (suc n) text zero inside = shown-formed address text
-all-formed address (suc n) text (suc k) inside =
-    all-formed (address + 1) n (drop (lineSize (markShown address text)) text) k (omega arith)
+all-formed count address zero text k inside = absurd (omega arith)
+all-formed count address (suc n) text zero inside = shown-formed count address text
+all-formed count address (suc n) text (suc k) inside =
+    all-formed count (address + 1) n (drop (lineSize count (markShown count address text)) text) k (omega arith)
 
 -- a text is the lines of the marks that it shows and what is left
-pub shown-lines : (address n : ℕ) (text : List ℕ) → text ≡ lines address (marksShown address n text) ++ linesLeft
-    address n text
+pub shown-lines : (count address n : ℕ) (text : List ℕ)
+    → text ≡ lines count address (marksShown count address n text) ++ linesLeft count address n text
 unfolding marksShown linesLeft lines
-shown-lines address zero text = refl
-shown-lines address (suc n) text =
-    let mark = markShown address text in
-    let rest = drop (lineSize mark) text in
-    shown-line address text ∙ ap (lineOf address mark ++_) (shown-lines (address + 1) n rest)
-    ∙ sym (append-assoc (lineOf address mark) (lines (address + 1) (marksShown (address + 1) n rest)) (linesLeft
-    (address +
-    1) n rest))
+shown-lines count address zero text = refl
+shown-lines count address (suc n) text =
+    let mark = markShown count address text in
+    let rest = drop (lineSize count mark) text in
+    shown-line count address text ∙ ap (lineOf count address mark ++_) (shown-lines count (address + 1) n rest)
+    ∙ sym (append-assoc (lineOf count address mark) (lines count (address + 1) (marksShown count (address + 1) n rest))
+    (linesLeft count (address + 1) n rest))
 
 -- ---- the lines of marks, shown again
 
@@ -204,100 +224,102 @@ each-again mark started formed =
     let kind = kind-most (kindLetter (markKind mark)) in
     record { m = omega arith; x = omega arith; kind = omega arith }
 
--- an address that a text begins with is the number of its first four digits
-pub line-address : (address : ℕ) (text : List ℕ) → isLine address text ≡ true → value 16 4 text ≡ address
+-- an address that a text begins with is the number of its first digits
+pub line-address : (count address : ℕ) (text : List ℕ) → isLine count address text ≡ true
+    → value 16 count text ≡ address
 unfolding line
-line-address address text h =
-    let l = line-at address text h in
-    let mark = fieldsMark (drop 4 text) in
-    let split = starts-split (line address mark) text (l .begins) in
-    ap (value 16 4) (split ∙ append-assoc (digits 16 4 address) (fields mark) (drop (length (line address mark)) text))
-    ∙ value-digits 16 4 address _ (omega arith) (l .inside)
+line-address count address text h =
+    let l = line-at count address text h in
+    let mark = fieldsMark (drop count text) in
+    let split = starts-split (line count address mark) text (l .begins) in
+    let rest = drop (length (line count address mark)) text in
+    ap (value 16 count) (split ∙ append-assoc (digits 16 count address) (fields mark) rest)
+    ∙ value-digits 16 count address _ (omega arith) (l .inside)
 
 -- no line begins with an address that it does not have
-pub other-line : (address later mark : ℕ) (rest : List ℕ) → address < later → later < bankSize
-    → isLine address (line later mark ++ rest) ≡ false
+pub other-line : (count address later mark : ℕ) (rest : List ℕ) → address < later → later < 16 ^ count
+    → isLine count address (line count later mark ++ rest) ≡ false
 unfolding line
-other-line address later mark rest before inside = by (isLine address (line later mark ++ rest)) refl
+other-line count address later mark rest before inside = by (isLine count address (line count later mark ++ rest)) refl
   where
-    by : (b : Bool) → isLine address (line later mark ++ rest) ≡ b → b ≡ false
+    by : (b : Bool) → isLine count address (line count later mark ++ rest) ≡ b → b ≡ false
     by false h = refl
     by true h =
-        let shown = line-address address (line later mark ++ rest) h in
-        let first = append-assoc (digits 16 4 later) (fields mark) rest in
-        let same = rw (first, value-digits 16 4 later (fields mark ++ rest) (omega arith) inside) at shown in
+        let shown = line-address count address (line count later mark ++ rest) h in
+        let first = append-assoc (digits 16 count later) (fields mark) rest in
+        let same = rw (first, value-digits 16 count later (fields mark ++ rest) (omega arith) inside) at shown in
         absurd (omega arith)
 
-pub no-line : (address : ℕ) → isLine address [] ≡ false
-no-line address = by (isLine address []) refl
+pub no-line : (count address : ℕ) → isLine count address [] ≡ false
+no-line count address = by (isLine count address []) refl
   where
-    by : (b : Bool) → isLine address [] ≡ b → b ≡ false
+    by : (b : Bool) → isLine count address [] ≡ b → b ≡ false
     by false h = refl
     by true h =
-        let mark = fieldsMark [] in
+        let mark = fieldsMark (drop count []) in
         absurd (omega (
           arith,
-          length-line address mark,
-          starts-long (line address mark) [] (line-at address []
+          length-line count address mark,
+          starts-long (line count address mark) [] (line-at count address []
               h .begins),
         ))
 
 -- the lines of later addresses show nothing for an address
-later-lines : (address later : ℕ) (marks : List ℕ) → address < later → later + length marks ≤ bankSize
-    → isLine address (lines later marks) ≡ false
+later-lines : (count address later : ℕ) (marks : List ℕ) → address < later → later + length marks ≤ 16 ^ count
+    → isLine count address (lines count later marks) ≡ false
 unfolding lines lineOf
-later-lines address later [] before inside = no-line address
-later-lines address later (mark ∷ marks) before inside =
-    by (isStart mark) (later-lines address (later + 1) marks (omega arith) (omega arith))
+later-lines count address later [] before inside = no-line count address
+later-lines count address later (mark ∷ marks) before inside =
+    by (isStart mark) (later-lines count address (later + 1) marks (omega arith) (omega arith))
   where
-    by : (b : Bool) → isLine address (lines (later + 1) marks) ≡ false
-        → isLine address (pick b (line later mark) [] ++ lines (later + 1) marks) ≡ false
-    by true h = other-line address later mark (lines (later + 1) marks) before (omega arith)
+    by : (b : Bool) → isLine count address (lines count (later + 1) marks) ≡ false
+        → isLine count address (pick b (line count later mark) [] ++ lines count (later + 1) marks) ≡ false
+    by true h = other-line count address later mark (lines count (later + 1) marks) before (omega arith)
     by false h = h
 
 -- a line shows its mark for its address
-pub own-line : (address mark : ℕ) (rest : List ℕ) → address < bankSize → isStart mark ≡ true → isFormed mark ≡ true
-    → markShown address (line address mark ++ rest) ≡ mark
+pub own-line : (count address mark : ℕ) (rest : List ℕ) → address < 16 ^ count → isStart mark ≡ true
+    → isFormed mark ≡ true → markShown count address (line count address mark ++ rest) ≡ mark
 unfolding markShown isLine line
-own-line address mark rest inside started formed =
-    let fit = append-assoc (digits 16 4 address) (fields mark) rest in
-    let behind : drop 4 (digits 16 4 address ++ (fields mark ++ rest)) ≡ fields mark ++ rest = drop-at (digits 16 4
-    address) (fields mark ++ rest) 4 (length-digits 16 4 address) in
+own-line count address mark rest inside started formed =
+    let fit = append-assoc (digits 16 count address) (fields mark) rest in
+    let behind = drop-at (digits 16 count address) (fields mark ++ rest) count (length-digits 16 count address) in
     rw (
       fit,
       behind,
       fields-again mark rest started formed,
-      lt-ltb address bankSize inside,
-      starts-append (digits 16 4 address) (fields mark ++ rest),
+      lt-ltb address (16 ^ count) inside,
+      starts-append (digits 16 count address) (fields mark ++ rest),
       starts-append (fields mark) rest,
       formed,
     )
 
 -- the first mark of lines
-first-again : (address mark : ℕ) (marks : List ℕ) → address + suc (length marks) ≤ bankSize → isFormed mark ≡ true
-    → markShown address (lineOf address mark ++ lines (address + 1) marks) ≡ mark
+first-again : (count address mark : ℕ) (marks : List ℕ) → address + suc (length marks) ≤ 16 ^ count
+    → isFormed mark ≡ true
+    → markShown count address (lineOf count address mark ++ lines count (address + 1) marks) ≡ mark
 unfolding markShown lineOf
-first-again address mark marks inside formed = by (formed-mark mark formed)
+first-again count address mark marks inside formed = by (formed-mark mark formed)
   where
     by : (mark ≡ 0) ⊎ ((isStart mark ≡ true) × (mark < 128))
-        → markShown address (lineOf address mark ++ lines (address + 1) marks) ≡ mark
-    by (inl e) = rw (e, later-lines address (address + 1) marks (omega arith) (omega arith))
+        → markShown count address (lineOf count address mark ++ lines count (address + 1) marks) ≡ mark
+    by (inl e) = rw (e, later-lines count address (address + 1) marks (omega arith) (omega arith))
     by (inr s) =
-        rw (s .0) (own-line address mark (lines (address + 1) marks) (omega arith) (s .0) formed)
+        rw (s .0) (own-line count address mark (lines count (address + 1) marks) (omega arith) (s .0) formed)
 
 -- the lines of marks show these marks and leave nothing
-pub lines-again : (address : ℕ) (marks : List ℕ) → address + length marks ≤ bankSize
+pub lines-again : (count address : ℕ) (marks : List ℕ) → address + length marks ≤ 16 ^ count
     → ((k : ℕ) → k < length marks → isFormed (getD marks k 0) ≡ true)
-    → (marksShown address (length marks) (lines address marks) ≡ marks)
-    × (linesLeft address (length marks) (lines address marks) ≡ [])
+    → (marksShown count address (length marks) (lines count address marks) ≡ marks)
+    × (linesLeft count address (length marks) (lines count address marks) ≡ [])
 unfolding marksShown linesLeft lines
-lines-again address [] inside formed = (refl, refl)
-lines-again address (mark ∷ marks) inside formed =
-    let first = first-again address mark marks inside (formed 0 (omega arith)) in
-    let behind = drop-at (lineOf address mark) (lines (address + 1) marks) (lineSize mark) (length-line-of address
-    mark) in
-    let rest = lines-again (address + 1) marks (omega arith) (λ k h. formed (suc k) (omega arith)) in
-    (rw (first, behind, rest .0), ap (linesLeft (address + 1) (length marks)) (rw first behind) ∙ rest .1)
+lines-again count address [] inside formed = (refl, refl)
+lines-again count address (mark ∷ marks) inside formed =
+    let first = first-again count address mark marks inside (formed 0 (omega arith)) in
+    let more = lines count (address + 1) marks in
+    let behind = drop-at (lineOf count address mark) more (lineSize count mark) (length-line-of count address mark) in
+    let rest = lines-again count (address + 1) marks (omega arith) (λ k h. formed (suc k) (omega arith)) in
+    (rw (first, behind, rest .0), ap (linesLeft count (address + 1) (length marks)) (rw first behind) ∙ rest .1)
 
 -- ---- the first line
 
@@ -305,9 +327,9 @@ lines-again address (mark ∷ marks) inside formed =
 pub decimal-most : (n : ℕ) → decimalDigits n ≤ lengthDigits
 decimal-most n = count-most 10 lengthDigits n
 
-pub length-header : (h : Header) → length (headerText h) ≡ 15 + decimalDigits (h .length)
+pub length-header : (count : ℕ) (h : Header) → length (headerText count h) ≡ 11 + count + decimalDigits (h .length)
 unfolding headerText
-length-header h = simp (length-append, length-digits) (omega arith)
+length-header count h = simp (length-append, length-digits) (omega arith)
 
 -- the tab behind the length's digits is the first, since no digit is one
 first-tab : (count n : ℕ) (rest : List ℕ) → count ≤ lengthDigits
@@ -328,44 +350,86 @@ first-tab count n rest few =
       found = λ _. eq-eqb (getD text count 0) tab here;
     })
 
--- a first line shows its fields, whatever follows
-pub header-again : (h : Header) (rest : List ℕ) → h .base < 16 ^ 6 → h .length < lengthLimit → h .reset < 16 ^ 4
-    → headerShown (headerText h ++ rest) ≡ h
-unfolding headerShown lengthDigitsShown headerText
-header-again h rest based long reset =
-    rw (
-      parted,
-      at-length,
-      count,
-      at-reset,
-      value-digits 16 6 (h .base) after-base (omega arith) based,
-      value-digits 10 k (h .length)
-          after-length (omega arith) (count-enough 10 lengthDigits (h .length) (omega arith) long),
-      value-digits 16 4 (h .reset) (lineEnd ∷ rest) (omega arith) reset,
-    )
-  where
-    k : ℕ
-    k = decimalDigits (h .length)
+-- an address shows how many digits it has: behind four its field is closed, or goes on with a digit
+pub old-shown : (old : Bool) (address close : ℕ) (rest : List ℕ) → close < 48
+    → eqb (getD (digits 16 (digitsBy old) address ++ (close ∷ rest)) 4 0) close ≡ old
+old-shown true address close rest small =
+    eq-eqb (getD (digits 16 4 address ++ (close ∷ rest)) 4 0) close
+    (getD-at (digits 16 4 address) close rest 0 4 (length-digits 16 4 address))
+old-shown false address close rest small =
+    let high = digits-high 16 6 address 4 (omega arith) in
+    let inside = List·getD-append (digits 16 6 address) (close ∷ rest) 0 4 (omega (
+      arith,
+      length-digits 16 6 address,
+    )) in
+    ne-eqb (getD (digits 16 6 address ++ (close ∷ rest)) 4 0) close (λ same. omega (arith, high, inside))
 
-    after-length : List ℕ
-    after-length = tab ∷ (digits 16 4 (h .reset) ++ (lineEnd ∷ rest))
+-- a first line shows its fields and how many digits its reset has, whatever follows; of the reset it shows these digits
+module _ (old : Bool) (h : Header) (rest : List ℕ) where
+  abbrev k : ℕ
+  k = decimalDigits (h .length)
 
-    after-base : List ℕ
-    after-base = tab ∷ (digits 10 k (h .length) ++ after-length)
+  abbrev field : ℕ → List ℕ
+  field count = digits 16 count (h .reset) ++ (lineEnd ∷ rest)
 
-    text : List ℕ
-    text = 0x49 ∷ tab ∷ (digits 16 6 (h .base) ++ after-base)
+  abbrev after-length : List ℕ
+  after-length = tab ∷ field (digitsBy old)
 
-    parted : headerText h ++ rest ≡ text
-    parted = simp append-assoc
+  abbrev after-base : List ℕ
+  after-base = tab ∷ (digits 10 k (h .length) ++ after-length)
 
-    at-length : drop 9 text ≡ digits 10 k (h .length) ++ after-length
-    at-length = behind-digits 16 6 (h .base) 1 after-base
+  abbrev text : List ℕ
+  text = 0x49 ∷ tab ∷ (digits 16 6 (h .base) ++ after-base)
 
-    count : firstFrom (tabAt (digits 10 k (h .length) ++ after-length)) 0 lengthDigits ≡ k
-    count = first-tab k (h .length) (digits 16 4 (h .reset) ++ (lineEnd ∷ rest)) (decimal-most (h .length))
+  parted : headerText (digitsBy old) h ++ rest ≡ text
+  unfolding headerText
+  parted = simp append-assoc
 
-    at-reset : drop (10 + k) text ≡ digits 16 4 (h .reset) ++ (lineEnd ∷ rest)
-    at-reset =
-        let farther : 10 + k ≡ 9 + (k + 1) = omega arith in
-        rw (farther, ← drop-drop (k + 1) 9 text, at-length) (behind-digits 10 k (h .length) 1 after-length)
+  at-length : drop 9 text ≡ digits 10 k (h .length) ++ after-length
+  at-length = behind-digits 16 6 (h .base) 1 after-base
+
+  length-count : lengthDigitsShown text ≡ k
+  unfolding lengthDigitsShown
+  length-count = rw at-length (first-tab k (h .length) (field (digitsBy old)) (decimal-most (h .length)))
+
+  at-reset : drop (10 + k) text ≡ field (digitsBy old)
+  at-reset =
+      let farther : 10 + k ≡ 9 + (k + 1) = omega arith in
+      rw (farther, ← drop-drop (k + 1) 9 text, at-length) (behind-digits 10 k (h .length) 1 after-length)
+
+  -- behind four digits of the reset the line ends, or goes on with a digit
+  behind-four : getD text (14 + k) 0 ≡ getD (field (digitsBy old)) 4 0
+  behind-four =
+      let farther : 14 + k ≡ (10 + k) + 4 = omega arith in
+      rw (farther, ← getD-drop (10 + k) text 4 0, at-reset)
+
+  pub count-again : lengthDigitsShown (headerText (digitsBy old) h ++ rest) ≡ k
+  count-again = rw parted length-count
+
+  pub old-again : isOld (headerText (digitsBy old) h ++ rest) ≡ old
+  unfolding isOld
+  old-again = rw (parted, length-count, behind-four) (old-shown old (h .reset) lineEnd rest (omega arith))
+
+  pub header-again : h .base < 16 ^ 6 → h .length < lengthLimit
+      → headerShown (headerText (digitsBy old) h ++ rest)
+      ≡ record {
+        base = h .base;
+        length = h .length;
+        reset = wholeReset old (h .base) (h .reset % 16 ^ digitsBy old);
+      }
+  unfolding headerShown
+  header-again based long =
+      let count = digitsBy old in
+      let shown = value-digits 16 count (h .reset % 16 ^ count) (lineEnd ∷ rest) (omega arith)
+      (mod-lt (h .reset) (one-le-pow count 16 (omega arith))) in
+      rw (
+        old-again,
+        parted,
+        at-length,
+        length-count,
+        at-reset,
+        value-digits 16 6 (h .base) after-base (omega arith) based,
+        value-digits 10 k (h .length)
+            after-length (omega arith) (count-enough 10 lengthDigits (h .length) (omega arith) long),
+        rw (digits-low 16 count (h .reset) (omega arith)) at shown,
+      )

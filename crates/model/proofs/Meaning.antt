@@ -20,7 +20,7 @@ use Rattle.types.specs.declared.rules.Requirements.{Requirements}
 use Rattle.types.specs.declared.rules.Verdict.{Verdict}
 use Rattle.prelude.specs.Choice.{pick}
 use Rattle.types.specs.Addresses.{bankSize}
-use Rattle.model.specs.Image.{isStart, isFormed, lengthFits, markAt}
+use Rattle.model.specs.Image.{imageLimit, isStart, isFormed, lengthFits, markAt}
 use Rattle.types.specs.Refusals.{Tests, firstRefusal, answered}
 use Rattle.model.specs.Rules.{owedThere, instructionAt}
 use Rattle.model.specs.Meaning.{Among, StartBreaks, Breaks}
@@ -191,7 +191,7 @@ module _ (image marks : List ℕ) (base reset : ℕ) where
 
 -- ---- the range of an offset
 
-few-marks : (image marks : List ℕ) → lengthFits (length image) (length marks) ≡ true → length marks ≤ 16_384
+few-marks : (image marks : List ℕ) → lengthFits (length image) (length marks) ≡ true → length marks ≤ imageLimit
 few-marks image marks h = let r = right-length (length image) (length marks) h in omega (arith, r .few, r .same)
 
 offset-range : (image marks : List ℕ) (base reset at : ℕ) (why : Refusal)

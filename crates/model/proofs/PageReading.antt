@@ -411,7 +411,7 @@ module _ (image marks : List ℕ) (base reset : ℕ) (a : Accepts image marks ba
   start-shown at s =
       let r = row-at at s in
       let inside = start-inside marks at s in
-      let below = base-whole base (length image) (a .one-bank) in
+      let below = base-whole base (length image) (a .right-base) in
       rw (r .same) (start-again (base + at) (bytesAt at) (r .entry) (markOn at) (r .short)
       (omega (arith, same-length)) s (a .formed at inside))
 

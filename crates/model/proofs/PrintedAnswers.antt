@@ -14,7 +14,7 @@ use Rattle.types.specs.declared.rules.Verdict.{Verdict}
 use Rattle.types.specs.declared.pages.Printed.{Printed}
 use Rattle.prelude.specs.Choice.{pick}
 use Rattle.model.specs.Verdict.{verdict}
-use Rattle.model.specs.Image.{imageLimit}
+use Rattle.model.specs.Image.{imageLimit, startCount}
 use Rattle.model.specs.PrintedPage.{rowSize, pageText, printedBy, printed}
 use Rattle.model.proofs.Image.{right-length, starts-most}
 use Rattle.model.proofs.Verdict.{accepts-exactly}
@@ -81,18 +81,15 @@ module _ (image marks : List ℕ) (base reset : ℕ) (page : List ℕ) where
       by (Verdict.Refused why′ at′) v told =
           omega (arith, ap offset told, refused-small image marks base reset at′ why′ v)
 
-  -- an accepted image has at most 16,384 rows
+  -- an accepted image has a row for each start, at most 65,536
+  pub page-rows : verdict image marks base reset ≡ Verdict.Accepted → size ≡ rowSize * startCount marks
+  page-rows e = pages-tell image marks base reset (accepts-exactly image marks base reset .0 e) .page-size
+
   pub page-small : verdict image marks base reset ≡ Verdict.Accepted → size ≤ rowSize * imageLimit
   page-small e =
       let rules = accepts-exactly image marks base reset .0 e in
       let fits = right-length (length image) (length marks) (rules .right-length) in
-      omega (
-        arith,
-        pages-tell image marks base reset rules .page-size,
-        starts-most marks,
-        fits .same,
-        fits .few,
-      )
+      omega (arith, page-rows e, starts-most marks, fits .same, fits .few)
 
   pub printed-small : (n : ℕ) → printed image marks base reset page ≡ Printed.Rows n → n ≤ rowSize * imageLimit
   printed-small n e =

@@ -17,7 +17,6 @@ use Rattle.types.specs.declared.code.Instruction.{Instruction}
 use Rattle.types.specs.declared.code.Decoded.{Decoded}
 use Rattle.types.specs.declared.rules.Requirement.{Requirement}
 use Rattle.types.specs.declared.rules.Requirements.{Requirements}
-use Rattle.types.specs.Addresses.{bankSize, inBankOf}
 use Rattle.prelude.specs.Choice.{pick}
 use Rattle.prelude.proofs.Choice.{both-true}
 use Rattle.model.specs.Image.{isStart, markOf, isFormed, markAt, resetFits}
@@ -127,11 +126,10 @@ module _ (image : List ℕ) (base reset : ℕ) (routines : List ℕ) where
 
   -- the reset is met
   pub reset-met : (others : List ℕ) → Admitted image base reset routines others
-      → Met others base (requirement (inBankOf base reset) (markOf 0 0 0 0 0))
+      → Met others base (requirement reset (markOf 0 0 0 0 0))
   unfolding resetFits
   reset-met others v =
-      let fits = both-true (ltb reset bankSize) _ (admitted-rules others v .at-reset) in
-      let same = eqb-true (markAt others base (inBankOf base reset)) (markOf 0 0 0 0 0) (fits .1) in
+      let same = eqb-true (markAt others base reset) (markOf 0 0 0 0 0) (admitted-rules others v .at-reset) in
       record { is-start = rw same refl; has-mark = same }
 
   -- the rules at a start that marks have in common with an admitted marking
@@ -185,7 +183,7 @@ module _ (image : List ℕ) (base reset : ℕ) (routines : List ℕ) where
     pub plain : Plain marks
     pub within : StandsIn marks others
     pub listed : StandsIn routines marks
-    pub at-reset : isStart (markAt marks base (inBankOf base reset)) ≡ true
+    pub at-reset : isStart (markAt marks base reset) ≡ true
     -- what the marking owes at a start of the marks is a start of them
     pub owed : (at : ℕ) (i : Instruction) → startAt marks at ≡ true → instructionAt image marks at ≡ Decoded.Whole i
         → allStarts marks base (owedThere others base at i) ≡ true
@@ -205,7 +203,7 @@ module _ (image : List ℕ) (base reset : ℕ) (routines : List ℕ) where
     complete-reset : resetFits marks base reset ≡ true
     unfolding resetFits
     complete-reset =
-        rw (← same-at marks others base (inBankOf base reset) (c .within) (c .at-reset))
+        rw (← same-at marks others base reset (c .within) (c .at-reset))
         (admitted-rules others v .at-reset)
 
     complete-start : (at : ℕ) → startAt marks at ≡ true → StartRules image marks base at
@@ -235,7 +233,7 @@ module _ (image : List ℕ) (base reset : ℕ) (routines : List ℕ) where
     complete-admitted = record {
       passes = rules-accepted image marks base reset (record {
         right-length = rw (c .size ∙ sym (admitted-length others v)) (admitted-rules others v .right-length);
-        one-bank = admitted-rules others v .one-bank;
+        right-base = admitted-rules others v .right-base;
         formed = complete-formed;
         at-reset = complete-reset;
         at-starts = λ at inside s. complete-start at s;

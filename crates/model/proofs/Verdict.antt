@@ -173,7 +173,7 @@ module _ (image marks : List ℕ) (base reset : ℕ) where
       (λ why. refused-accepts why _) (tests .1) .0 in
       record {
         right-length = held .0;
-        one-bank = held .1 .0;
+        right-base = held .1 .0;
         formed = formed-all marks (held .1 .1 .0);
         at-reset = held .1 .1 .1 .0;
         at-starts = λ at inside s. start-rules image marks base at s (not-failed (startResult image marks base at)
@@ -187,7 +187,7 @@ module _ (image marks : List ℕ) (base reset : ℕ) where
       let formed = found-none (unformedAt marks) (length marks) (λ k inside. rw (a .formed k inside) refl) in
       rw (
         none-fails (marksTests (length image) marks base reset)
-            (a .right-length, (a .one-bank, (formed, (a .at-reset, tt)))),
+            (a .right-length, (a .right-base, (formed, (a .at-reset, tt)))),
         rules-start image marks base (badStart image marks base) (λ s. a .at-starts _ (start-inside marks _ s) s),
       )
 

@@ -6,7 +6,7 @@
 use mathlib.Core.Path.{_≡_}
 use mathlib.Core.Logic.{_↔_, _⊎_}
 use Prim.Native.Nat.{ℕ, suc, _+_, _%_, _^_, _≤_, _<_}
-use mathlib.Core.Bool.{true, false}
+use mathlib.Core.Bool.{Bool, true, false}
 use mathlib.Core.List.{List, [], _∷_}
 use lib.Dec.{eqb}
 use lib.ListN.{length, getD}
@@ -21,9 +21,9 @@ use Rattle.types.specs.declared.runs.RunAnswer.{RunAnswer}
 use Rattle.types.specs.Refusals.{refusalNumber}
 use Rattle.types.specs.Addresses.{bankSize, addressLimit}
 use Rattle.model.specs.Image.{imageLimit, isStart, markM, markX, markKind, returnM}
-use Rattle.types.specs.Addresses.{inBankOf}
 use Rattle.model.specs.Image.{returnX, markAt, startCount}
-use Rattle.model.specs.MarkList.{listText, headerShown, marksOf, readList, writeList}
+use Rattle.model.specs.MarkList.{newDigits, listText, isOld, addressDigits, headerShown, marksOf, readList}
+use Rattle.model.specs.MarkList.{writeList}
 use Rattle.model.specs.ListForm.{StartLines, IsMarkList}
 use Rattle.model.specs.StatusBits.{ps}
 use Rattle.model.specs.Memory.{Memory}
@@ -33,7 +33,8 @@ use Rattle.model.specs.StateBytes.{stateSize, stateOf}
 use Rattle.model.specs.RunBytes.{ranBytes}
 use Rattle.model.specs.Rules.{Accepts}
 use Rattle.model.specs.Locate.{passOver, addressCount, located}
-use Rattle.model.specs.Routines.{IsRoutineList, routineMarks, routineLimit, Admitted, built}
+use Rattle.model.specs.Routines.{IsRoutineList, hasOldLines, routineDigits, firstRoutine, routineMarks}
+use Rattle.model.specs.Routines.{routineLimit, Admitted, built}
 
 -- ---- the first ground that holds
 
@@ -61,7 +62,7 @@ pub record AnswersBy {A : Type 0} (grounds : Grounds) (refused : Refusal → A) 
 
 -- ---- the grounds
 
--- 1: 'image empty or over 16,384'
+-- 1: 'image empty or over 16,384', by R-7 65,536
 abbrev pub WrongSize : ℕ → Type 0
 WrongSize image = (image ≡ 0) ⊎ (imageLimit < image)
 
@@ -69,17 +70,20 @@ WrongSize image = (image ≡ 0) ⊎ (imageLimit < image)
 abbrev pub WrongLength : ℕ → ℕ → Type 0
 WrongLength image marks = WrongSize image ⊎ (marks ≡ image → ⊥)
 
--- 2: 'above FFFFFF, or image crosses a bank end'
+-- 2: 'above FFFFFF', or, by R-7, an image that does not end 'at or below FFFFFF'
 abbrev pub WrongBase : ℕ → ℕ → Type 0
-WrongBase base image = (addressLimit ≤ base) ⊎ (bankSize < base % bankSize + image)
+WrongBase base image = (addressLimit ≤ base) ⊎ (addressLimit < base + image)
 
--- 3: 'reset address lacks the required start'. 'At the reset address stands a start with m=0, x=0, return kind 0', and
--- it is 'a 16-bit address in that bank'.
+-- 2 of a list: R-7, 'A list wholly in four digits is still read where the image fits one bank, else gets 2'
+abbrev pub WrongListBase : Bool → ℕ → ℕ → Type 0
+WrongListBase old base image = WrongBase base image ⊎ ((old ≡ true) × (bankSize < base % bankSize + image))
+
+-- 3: 'reset address lacks the required start'. 'At the reset address stands a start with m=0, x=0, return kind 0.'
 abbrev pub IsResetStart : ℕ → Type 0
 IsResetStart mark = (isStart mark ≡ true) × (markM mark ≡ 0) × (markX mark ≡ 0) × (markKind mark ≡ 0)
 
 abbrev pub WrongReset : List ℕ → ℕ → ℕ → Type 0
-WrongReset marks base reset = (reset < bankSize) × IsResetStart (markAt marks base (inBankOf base reset)) → ⊥
+WrongReset marks base reset = IsResetStart (markAt marks base reset) → ⊥
 
 -- 4: 'a mark not of the form above'. Of the kinds '3 is unused. .. Bit 7 is 0. A byte without a start has mark 00, and
 -- return kind 0 has bits 5 and 6 clear.'
@@ -168,8 +172,8 @@ abbrev pub readGrounds : List ℕ → List ℕ → Grounds
 readGrounds text marks =
     (WrongList text, Refusal.List)
     ∷ (WrongLength (h .length) (length marks), Refusal.Length)
-    ∷ (WrongBase (h .base) (h .length), Refusal.Base)
-    ∷ (WrongReset (marksOf h text) (h .base) (h .reset), Refusal.Reset)
+    ∷ (WrongListBase (isOld text) (h .base) (h .length), Refusal.Base)
+    ∷ (WrongReset (marksOf (addressDigits text) h text) (h .base) (h .reset), Refusal.Reset)
     ∷ []
   where
     h : Header
@@ -187,14 +191,14 @@ writeGrounds marks base reset page =
     ∷ (WrongBase base (length marks), Refusal.Base)
     ∷ (WrongMark marks, Refusal.Mark)
     ∷ (WrongReset marks base reset, Refusal.Reset)
-    ∷ (WrongPage (length page) (length (listText marks base reset)), Refusal.Page)
+    ∷ (WrongPage (length page) (length (listText newDigits marks base reset)), Refusal.Page)
     ∷ []
 
 abbrev pub WriteAnswers : Type 0
 WriteAnswers =
     (marks : List ℕ) (base reset : ℕ) (page : List ℕ)
     → AnswersBy (writeGrounds marks base reset page) ListWritten.NotWritten
-    (ListWritten.Written (length (listText marks base reset))) (writeList marks base reset page)
+    (ListWritten.Written (length (listText newDigits marks base reset))) (writeList marks base reset page)
 
 -- ---- addresses of an accepted image
 
@@ -221,7 +225,7 @@ WrongRoutineList text = IsRoutineList text → ⊥
 -- 17: 'an address outside the image', 'too many routines', 'no such marking'
 abbrev pub WrongRoutines : List ℕ → ℕ → ℕ → List ℕ → Type 0
 WrongRoutines image base reset text =
-    (StartLines (base % bankSize + length image) (base % bankSize) text → ⊥)
+    (StartLines (routineDigits text) (firstRoutine base text + length image) (firstRoutine base text) text → ⊥)
     ⊎ (routineLimit < startCount (routineMarks base (length image) text))
     ⊎ ((marks : List ℕ) → Admitted image base reset (routineMarks base (length image) text) marks → ⊥)
 
@@ -230,7 +234,7 @@ abbrev pub buildGrounds : List ℕ → ℕ → ℕ → List ℕ → List ℕ →
 buildGrounds image base reset text marks =
     (WrongRoutineList text, Refusal.List)
     ∷ (WrongLength (length image) (length marks), Refusal.Length)
-    ∷ (WrongBase base (length image), Refusal.Base)
+    ∷ (WrongListBase (hasOldLines text) base (length image), Refusal.Base)
     ∷ (WrongRoutines image base reset text, Refusal.Routines)
     ∷ []
 

@@ -6,11 +6,11 @@ use mathlib.Core.List.{List, [], _∷_}
 use lib.Dec.{eqb, ltb, leb}
 use lib.ListN.{getD}
 use Rattle.prelude.specs.Choice.{pick}
-use Rattle.types.specs.Addresses.{bankSize, addressLimit, inBankOf}
+use Rattle.types.specs.Addresses.{addressLimit}
 
--- 'The image is 1 to 16,384 bytes'
+-- 01: 'The image is 1 to 16,384 bytes'; 02's R-7, which overrules it: 'The image may have 65,536 bytes'
 abbrev pub imageLimit : ℕ
-imageLimit = 16_384
+imageLimit = 65_536
 
 -- 'Bit 0: an instruction starts here'
 abbrev pub isStart : ℕ → Bool
@@ -45,23 +45,22 @@ isFormed mark =
     || (isStart mark && ltb mark 128 && not (eqb (markKind mark) 3)
     && (not (eqb (markKind mark) 0) || (eqb (returnM mark) 0 && eqb (returnX mark) 0)))
 
--- number 1: 'image empty or over 16,384; marks (where taken) of another length'
+-- number 1: 'image empty or over 16,384', by R-7 65,536; 'marks (where taken) of another length'
 unfoldable pub lengthFits : ℕ → ℕ → Bool
 lengthFits image marks = ltb 0 image && leb image imageLimit && eqb marks image
 
--- number 2: 'above FFFFFF, or image crosses a bank end'
+-- number 2: 'above FFFFFF', or, by R-7, unless the image is 'ending at or below FFFFFF'
 unfoldable pub baseFits : ℕ → ℕ → Bool
-baseFits base n = ltb base addressLimit && leb (base % bankSize + n) bankSize
+baseFits base n = ltb base addressLimit && leb (base + n) addressLimit
 
 -- the mark at a 24-bit address; outside the image there is none
 unfoldable pub markAt : List ℕ → ℕ → ℕ → ℕ
 markAt marks base address = pick (leb base address) (getD marks (address - base) 0) 0
 
 -- number 3: 'At the reset address stands a start with m=0, x=0, return kind 0.' With the form of a mark that is mark
--- 01. 'The reset address is a 16-bit address in that bank.'
+-- 01. R-7: 'the reset becomes a 24-bit address'; one above FFFFFF is no address of an image, which 2 has tested.
 unfoldable pub resetFits : List ℕ → ℕ → ℕ → Bool
-resetFits marks base reset =
-    ltb reset bankSize && eqb (markAt marks base (inBankOf base reset)) (markOf 0 0 0 0 0)
+resetFits marks base reset = eqb (markAt marks base reset) (markOf 0 0 0 0 0)
 
 -- how many instructions the marks start
 unfoldable pub startCount : List ℕ → ℕ

@@ -6,6 +6,7 @@ pub mod CodeMap
 pub mod Decode
 pub mod Image
 pub mod Rules
+pub mod BankEnds
 pub mod Meaning
 pub mod Verdict
 pub mod MarkList
@@ -14,6 +15,7 @@ pub mod PrintedPage
 pub mod PageReading
 pub mod Locate
 pub mod Routines
+pub mod Mixtures
 pub mod Memory
 pub mod Addressing
 pub mod Arithmetic

@@ -4,7 +4,7 @@
 -- Assumes nothing.
 use mathlib.Core.Path.{_≡_}
 use mathlib.Core.Logic.{_↔_}
-use Prim.Native.Nat.{ℕ, _+_, _%_}
+use Prim.Native.Nat.{ℕ, _+_, _^_}
 use mathlib.Core.Bool.{Bool, true, false, not, _&&_}
 use mathlib.Core.List.{List, [], _∷_, _++_, headD}
 use lib.Dec.{eqb, ltb, leb}
@@ -16,34 +16,47 @@ use Rattle.types.specs.declared.code.Decoded.{Decoded}
 use Rattle.types.specs.declared.refusals.Refusal.{Refusal}
 use Rattle.types.specs.declared.refusals.TestResult.{TestResult}
 use Rattle.types.specs.declared.rules.Verdict.{Verdict}
-use Rattle.types.specs.Addresses.{bankSize}
 use Rattle.types.specs.Refusals.{Tests, firstRefusal}
 use Rattle.prelude.specs.First.{firstFrom}
 use Rattle.prelude.specs.Lists.{passing, allPass, allLists}
-use Rattle.model.specs.Image.{isStart, markAt, startCount, lengthFits, baseFits}
+use Rattle.model.specs.Image.{isStart, markAt, startCount, lengthFits}
 use Rattle.model.specs.Rules.{instructionAt, targetAddress}
-use Rattle.model.specs.Verdict.{startAt, imageTests, verdict}
-use Rattle.model.specs.MarkList.{lines, marksShown, linesLeft}
+use Rattle.model.specs.Verdict.{startAt, verdict}
+use Rattle.model.specs.MarkList.{oldDigits, digitsBy, lines, firstAddress, tabAt, marksShown, linesLeft}
+use Rattle.model.specs.MarkList.{listBaseFits, listTests}
 use Rattle.model.specs.ListForm.{StartLines}
 
 -- ---- the list
 
 -- 'a list in our line form, without the first line, strictly ascending, with a line for each routine': lines of starts,
--- at any addresses of a bank
-abbrev pub IsRoutineList : List ℕ → Type 0
-IsRoutineList text = StartLines bankSize 0 text
+-- at any addresses of four digits or of six
+pub record IsRoutineList (text : List ℕ) : Type 0 where
+  pub old : Bool
+  pub starts : StartLines (digitsBy old) (16 ^ digitsBy old) 0 text
 
--- 14: 'Malformed text' unless the addresses of a bank in turn take all lines
+-- a routine list is old by its first line, which goes on with a tab behind four digits; R-7: 'a routine list without
+-- lines counts as six'
+unfoldable pub hasOldLines : List ℕ → Bool
+hasOldLines text = tabAt text oldDigits
+
+abbrev pub routineDigits : List ℕ → ℕ
+routineDigits text = digitsBy (hasOldLines text)
+
+-- 14: 'Malformed text' unless the addresses of so many digits in turn take all lines
 unfoldable pub isRoutineList : List ℕ → Bool
-isRoutineList text = eqb (length (linesLeft 0 bankSize text)) 0
+isRoutineList text = eqb (length (linesLeft (routineDigits text) 0 (16 ^ routineDigits text) text)) 0
+
+-- the first of the image's addresses, as far as the list's digits show it
+abbrev pub firstRoutine : ℕ → List ℕ → ℕ
+firstRoutine base text = firstAddress (routineDigits text) base
 
 -- the listed routines beside an image of n bytes: at the place of each the mark that its line shows, 00 elsewhere
 unfoldable pub routineMarks : ℕ → ℕ → List ℕ → List ℕ
-routineMarks base n text = marksShown (base % bankSize) n text
+routineMarks base n text = marksShown (routineDigits text) (firstRoutine base text) n text
 
 -- 17: 'an address outside the image', unless the image's addresses take all lines
 unfoldable pub routinesInside : ℕ → ℕ → List ℕ → Bool
-routinesInside base n text = eqb (length (linesLeft (base % bankSize) n text)) 0
+routinesInside base n text = eqb (length (linesLeft (routineDigits text) (firstRoutine base text) n text)) 0
 
 -- 'up to 256 routines'
 abbrev pub routineLimit : ℕ
@@ -139,11 +152,14 @@ leastOf markings = passing (standsInAll markings) markings
 
 -- ---- the answer
 
--- 'no such marking or too many routines, after 14, 1 and 2'; 'a wrong image, base or marks length is as in the check'
+-- 14, 1 and 2; 'a wrong image, base or marks length is as in the check'
+abbrev pub formTests : List ℕ → ℕ → ℕ → ℕ → Tests
+formTests text image marks base = (isRoutineList text, Refusal.List) ∷ listTests (hasOldLines text) image marks base
+
+-- 'no such marking or too many routines, after 14, 1 and 2'
 abbrev pub buildTests : List ℕ → ℕ → ℕ → List ℕ → ℕ → Tests
 buildTests image base reset text marks =
-    (isRoutineList text, Refusal.List)
-    ∷ imageTests (length image) marks base
+    formTests text (length image) marks base
     ++ ((
       routinesFit base (length image) text
           && hasMarking image base reset (routineMarks base (length image) text),
@@ -169,7 +185,7 @@ marksBuilt image base reset text marks =
 pub record WithinLimits (image : List ℕ) (base : ℕ) (text marks : List ℕ) : Type 0 where
   pub form : isRoutineList text ≡ true
   pub right-length : lengthFits (length image) (length marks) ≡ true
-  pub one-bank : baseFits base (length image) ≡ true
+  pub right-base : listBaseFits (hasOldLines text) base (length image) ≡ true
   pub routines-fit : routinesFit base (length image) text ≡ true
 
 -- '.. is refused exactly if no marking passes the check, holds every listed routine as listed, and has all call targets
@@ -200,4 +216,4 @@ RoutinesExactly = (text : List ℕ) → (isRoutineList text ≡ true) ↔ IsRout
 abbrev pub RoutinesWhole : Type 0
 RoutinesWhole =
     (base n : ℕ) (text : List ℕ) → routinesInside base n text ≡ true
-    → text ≡ lines (base % bankSize) (routineMarks base n text)
+    → text ≡ lines (routineDigits text) (firstRoutine base text) (routineMarks base n text)

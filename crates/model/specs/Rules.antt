@@ -16,9 +16,8 @@ use Rattle.types.specs.declared.rules.Requirement.{Requirement}
 use Rattle.types.specs.declared.rules.Requirements.{Requirements}
 use Rattle.prelude.specs.Choice.{pick}
 use Rattle.types.specs.Status.{maskX, maskM}
-use Rattle.types.specs.Addresses.{bankSize, addressLimit}
+use Rattle.types.specs.Addresses.{bankSize, addressLimit, inBankOf}
 use Rattle.model.specs.Image.{isStart, markM, markX, markKind, returnM, returnX}
-use Rattle.types.specs.Addresses.{inBankOf}
 use Rattle.model.specs.Image.{markOf, isFormed, lengthFits, baseFits, markAt, resetFits}
 use Rattle.model.specs.Decode.{decode}
 
@@ -30,6 +29,11 @@ instructionAt image marks at = decode (drop at image) (markM (getD marks at 0)) 
 abbrev pub nextAddress : ℕ → ℕ → ℕ
 nextAddress address n = (address + n) % addressLimit
 
+-- R-7: 'JMP and JSR absolute, and RTS, use the bank of the address just after the instruction': with these low 16 bits,
+-- the address that an instruction of n bytes goes to
+abbrev pub inBankAfter : ℕ → ℕ → ℕ → ℕ
+inBankAfter address n low = inBankOf (nextAddress address n) low
+
 -- an address plus a signed offset, given as a number below twice its half range
 abbrev pub offsetBy : ℕ → ℕ → ℕ → ℕ
 offsetBy half address offset =
@@ -40,13 +44,12 @@ offsetBy half address offset =
 abbrev pub lastByte : ℕ → ℕ → ℕ
 lastByte operand n = operand / 256 ^ (n - 2) % 256
 
--- 'next address plus signed offset (8 or 16 bits)'; 'JMP and JSR absolute .. stay in the instruction's bank'. Of an
--- operand the bits count that the form has.
+-- 'next address plus signed offset (8 or 16 bits)'; of an operand the bits count that the form has
 unfoldable pub targetOf : Target → ℕ → ℕ → ℕ → ℕ
 targetOf Target.NoTarget address n operand = nextAddress address n
 targetOf Target.Offset8 address n operand = offsetBy 128 (nextAddress address n) (lastByte operand n)
 targetOf Target.Offset16 address n operand = offsetBy 32_768 (nextAddress address n) (operand % bankSize)
-targetOf Target.Address16 address n operand = inBankOf address (operand % bankSize)
+targetOf Target.Address16 address n operand = inBankAfter address n (operand % bankSize)
 targetOf Target.Address24 address n operand = operand % addressLimit
 
 -- 'the widths in force after the instruction. Only SEM, CLM, SEP and CLP change them, by their fixed bits': the places
@@ -154,7 +157,7 @@ pub record StartRules (image marks : List ℕ) (base at : ℕ) : Type 0 where
 -- The rules of acceptance, all of them.
 pub record Accepts (image marks : List ℕ) (base reset : ℕ) : Type 0 where
   pub right-length : lengthFits (length image) (length marks) ≡ true
-  pub one-bank : baseFits base (length image) ≡ true
+  pub right-base : baseFits base (length image) ≡ true
   pub formed : (at : ℕ) → at < length marks → isFormed (getD marks at 0) ≡ true
   pub at-reset : resetFits marks base reset ≡ true
   pub at-starts : (at : ℕ) → at < length marks → isStart (getD marks at 0) ≡ true → StartRules image marks base at

@@ -22,9 +22,9 @@ use Rattle.types.specs.declared.machine.Served.{Served}
 use Rattle.types.specs.declared.machine.CallChange.{CallChange}
 use Rattle.types.specs.declared.machine.StepAnswer.{StepAnswer}
 use Rattle.prelude.specs.Choice.{pick}
-use Rattle.types.specs.Addresses.{bankSize, inBankOf}
+use Rattle.types.specs.Addresses.{bankSize}
 use Rattle.model.specs.Decode.{decode}
-use Rattle.model.specs.Rules.{nextAddress, targetAddress, mAfter, xAfter, kindNumber}
+use Rattle.model.specs.Rules.{nextAddress, inBankAfter, targetAddress, mAfter, xAfter, kindNumber}
 use Rattle.prelude.specs.Choice.{bit}
 use Rattle.model.specs.Memory.{Memory, Act, ret, _>>=_, Outcome, done, unmapped, evaluate, inImage}
 use Rattle.model.specs.Memory.{served, stored}
@@ -156,11 +156,11 @@ module _ (c : Core) (i : Instruction) where
       (pushesReturn kind)))
       (stops Stop.Deep)
 
-  -- 'the return pulls it and goes there'; RTS stays in the instruction's bank
+  -- 'the return pulls it and goes there'; RTS, which pulls 16 bits, uses the bank of the address just after itself
   abbrev pub pullsReturn : Kind → Act ℕ
   pullsReturn Kind.ByRts = do
     address ← pulledWord r
-    ret (inBankOf place address)
+    ret (inBankAfter place (i .length) address)
   pullsReturn Kind.ByRtl = pulledLong r
 
   -- 24, 'no open call, other kind, or pulled address not the open call's', whose record is given

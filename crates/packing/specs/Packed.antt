@@ -11,7 +11,7 @@ use Rattle.types.specs.declared.pages.Printed.{Printed}
 use Rattle.types.specs.declared.probes.Located.{Located}
 use Rattle.types.specs.declared.refusals.TestResult.{TestResult}
 use Rattle.types.specs.declared.runs.RunAnswer.{RunAnswer}
-use Rattle.types.specs.Addresses.{addressLimit, bankSize}
+use Rattle.types.specs.Addresses.{addressLimit}
 use Rattle.types.specs.Refusals.{refusalNumber}
 use Rattle.model.specs.Run.{stepLimit, endNumber}
 
@@ -47,7 +47,7 @@ packedRead (ListRead.Read h) = h .base * 256 + h .reset * 4_294_967_296
 
 abbrev pub ReadFits : ListRead → Type 0
 ReadFits (ListRead.NotRead why) = Unit {0}
-ReadFits (ListRead.Read h) = (h .base < addressLimit) × (h .reset < bankSize)
+ReadFits (ListRead.Read h) = (h .base < addressLimit) × (h .reset < addressLimit)
 
 pub record ReadNumbers : Type 0 where
   pub number : ℕ

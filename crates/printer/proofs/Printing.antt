@@ -26,7 +26,7 @@ printable image marks base reset starts accepted counted =
     record {
       size = omega (arith, counted, pages-tell image marks base reset rules .page-size);
       few = omega (arith, counted, starts-most marks, right .few, right .same);
-      addresses = omega (arith, base-whole base (length image) (rules .one-bank), right .same);
+      addresses = omega (arith, base-whole base (length image) (rules .right-base), right .same);
     }
 
 -- by the room

@@ -13,8 +13,8 @@ ghost use lib.ListN.{length, take, drop};
 ghost use Rattle.model.specs.PrintedPage.{pageAfter};
 ghost use Rattle.printout.specs.Printout as spec;
 
-// The most bytes of a page: a row for each byte of the longest image.
-pub const PAGE_LIMIT: usize = 36 * IMAGE_LIMIT;
+// The most bytes of a page: a row for each line of the longest list file, which have 15 bytes or more.
+pub const PAGE_LIMIT: usize = 36 * (LIST_LIMIT / 15);
 
 // The longest page, of zeros. Only its length is promised: so many zeros are too many for a proof to look at.
 pub fn longest_page() -> [u8; PAGE_LIMIT]

@@ -21,6 +21,15 @@ pub fn next_address(address: u32, n: u8) -> u32
     (address + n as u32) % ADDRESS_LIMIT
 }
 
+// The address with these low 16 bits in the bank of the address just after an instruction: where JMP and JSR absolute
+// go, and RTS. Asks for no more than 16 bits: a sum would leave the bank.
+pub fn in_bank_after(address: u32, n: u8, low: u32) -> u32
+    requires { ⌜ (address < addressLimit) × (low < bankSize) ⌝ }
+    ensures { λ r. ⌜ r ≡ rules.inBankAfter address n low ⌝ }
+{
+    in_bank_of(next_address(address, n), low)
+}
+
 // An address plus a signed offset whose half range is 128 or 32,768.
 fn offset_by(half: u32, address: u32, offset: u32) -> u32
     requires { ⌜ (half ≤ 32_768) × (address < addressLimit) × (offset < bankSize) ⌝ }
@@ -54,7 +63,7 @@ pub fn target_of(target: Target, address: u32, n: u8, operand: u64) -> u32
         Target::NoTarget => next_address(address, n),
         Target::Offset8 => offset_by(128, next_address(address, n), last_byte(operand, n)),
         Target::Offset16 => offset_by(32_768, next_address(address, n), low_word(operand)),
-        Target::Address16 => in_bank_of(address, low_word(operand)),
+        Target::Address16 => in_bank_after(address, n, low_word(operand)),
         Target::Address24 => low_long(operand),
     }
 }

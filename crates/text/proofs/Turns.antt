@@ -196,6 +196,11 @@ unfolding weighed
 all-worked {i = zero} none s = omega (arith, s .whole)
 all-worked {i = suc i} none s = absurd (omega arith)
 
+pub worked-small : {radix count v w i : ℕ} {text : List ℕ} → i ≤ 0 → Worked radix count text v w i
+    → v < 255 * radix ^ count
+worked-small {radix} {i = zero} none s = omega (arith, s .small, rw (pow-zero radix) at (s .weight))
+worked-small {i = suc i} none s = absurd (omega arith)
+
 -- ---- digits counted from the last on
 
 -- i digits are counted, and those of the rest come to them

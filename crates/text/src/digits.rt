@@ -30,10 +30,10 @@ fn digit_value(byte: u8) -> u8
 }
 
 // The number that the bytes of a text from a place on, so many, show, worked from the last digit to the first. It asks
-// that the number fits whatever the bytes are, the value of each at most 255.
+// that the number fits whatever the bytes are, the value of each at most 255, and promises how large it gets.
 pub fn number(text: &[u8], at: usize, radix: u32, count: usize) -> u32
     requires { ⌜ (at + count < 18_446_744_073_709_551_616) × (2 ≤ radix) × (255 * radix ^ count ≤ 4_294_967_295) ⌝ }
-    ensures { λ r. ⌜ r ≡ spec.value radix count (drop at (now (text .entry))) ⌝ }
+    ensures { λ r. ⌜ (r ≡ spec.value radix count (drop at (now (text .entry)))) × (r < 255 * radix ^ count) ⌝ }
 {
     let mut value: u32 = 0;
     let mut weight: u32 = 1;

@@ -45,14 +45,14 @@ fn say_score(agreed: u64, records: u32, whole: bool) {
 }
 
 // Tries the records of a file, as many as it says and then nothing more, and says how many agree.
-fn try_records(kind: Kind, file: &[u8], numbers: &mut [u64; NUMBERS]) {
+fn try_records(kind: Kind, long: bool, file: &[u8], numbers: &mut [u64; NUMBERS]) {
     let mut at: usize = 0;
     let records = take_u32(file, &mut at);
     let mut agreed: u64 = 0;
     let mut left = records;
     while 0 < left {
         left -= 1;
-        let trial = trial_at(kind, file, &mut at);
+        let trial = trial_at(kind, file, &mut at, long);
         if trial.agrees {
             agreed = std::num::wrapping_add_u64(agreed, 1);
             count(numbers, trial.number);
@@ -65,7 +65,7 @@ fn try_records(kind: Kind, file: &[u8], numbers: &mut [u64; NUMBERS]) {
 }
 
 // Tries the file of a name, if it is there.
-fn try_named(kind: Kind, name: &[u8], numbers: &mut [u64; NUMBERS]) {
+fn try_named(kind: Kind, long: bool, name: &[u8], numbers: &mut [u64; NUMBERS]) {
     let descriptor = os::open_read(name);
     if descriptor < 0 {
         return;
@@ -75,7 +75,7 @@ fn try_named(kind: Kind, name: &[u8], numbers: &mut [u64; NUMBERS]) {
     libc::close(descriptor);
     say(name);
     say(b": ");
-    try_records(kind, &buffer[..size], numbers);
+    try_records(kind, long, &buffer[..size], numbers);
 }
 
 // A number that no record had has no line.
@@ -92,8 +92,9 @@ fn say_counts(numbers: [u64; NUMBERS]) {
     }
 }
 
-// Tries the files of a kind, 00 to 99 where there is one. A name ends in NN.bin; a missing file is a missing line.
-fn try_files(kind: Kind, name: &mut [u8])
+// Tries the files of a kind, 00 to 99 where there is one, and that of long images and marks. A name ends in NN.bin; a
+// missing file is a missing line.
+fn try_files(kind: Kind, name: &mut [u8], long_name: &[u8])
     requires { ⌜ 6 ≤ length (now name) ⌝ }
 {
     let tens = name.len() - 6;
@@ -102,28 +103,29 @@ fn try_files(kind: Kind, name: &mut [u8])
     while number < 100 {
         name[tens] = b'0' + number / 10;
         name[tens + 1] = b'0' + number % 10;
-        try_named(kind, name, &mut numbers);
+        try_named(kind, false, name, &mut numbers);
         number += 1;
     }
+    try_named(kind, true, long_name, &mut numbers);
     say_counts(numbers);
 }
 
 // All kinds of records, a line each.
 fn main() {
     let mut check = *b"check-00.bin";
-    try_files(Kind::Check, &mut check);
+    try_files(Kind::Check, &mut check, b"check-long.bin");
     let mut step = *b"step-00.bin";
-    try_files(Kind::Step, &mut step);
+    try_files(Kind::Step, &mut step, b"step-long.bin");
     let mut run = *b"run-00.bin";
-    try_files(Kind::Run, &mut run);
+    try_files(Kind::Run, &mut run, b"run-long.bin");
     let mut read = *b"read-00.bin";
-    try_files(Kind::Read, &mut read);
+    try_files(Kind::Read, &mut read, b"read-long.bin");
     let mut write = *b"write-00.bin";
-    try_files(Kind::Write, &mut write);
+    try_files(Kind::Write, &mut write, b"write-long.bin");
     let mut print = *b"print-00.bin";
-    try_files(Kind::Print, &mut print);
+    try_files(Kind::Print, &mut print, b"print-long.bin");
     let mut locate = *b"locate-00.bin";
-    try_files(Kind::Locate, &mut locate);
+    try_files(Kind::Locate, &mut locate, b"locate-long.bin");
     let mut build = *b"build-00.bin";
-    try_files(Kind::Build, &mut build);
+    try_files(Kind::Build, &mut build, b"build-long.bin");
 }

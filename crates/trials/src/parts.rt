@@ -4,7 +4,7 @@ use fields::number;
 ghost use mathlib.Core.Path.{_≡_};
 ghost use lib.ListN.{length};
 
-// A list's length has at most five digits, and that of a buffer of the machine's is a u16.
+// A list's length has at most five digits, and no image, page or buffer of the machine's in a record is longer.
 const SPACE: usize = 100_000;
 
 // More numbers than any list of addresses or places has.
@@ -18,16 +18,6 @@ pub(crate) fn space() -> [u8; SPACE]
     ensures { λ r. ⌜ 100000 ≡ length r ⌝ }
 {
     [0; SPACE]
-}
-
-// A row for each byte of an image that is too long by one.
-const PAGE_SPACE: usize = 589_860;
-
-// A space that pages are lent from.
-pub(crate) fn page_space() -> [u8; PAGE_SPACE]
-    ensures { λ r. ⌜ 589860 ≡ length r ⌝ }
-{
-    [0; PAGE_SPACE]
 }
 
 // A space that lists of numbers are lent from.
@@ -86,14 +76,6 @@ pub(crate) fn take_bytes<'a>(file: &'a [u8], at: &mut usize) -> &'a [u8] {
     take(file, at, size as usize)
 }
 
-// The same where they are there, else none.
-pub(crate) fn take_bytes_if<'a>(there: bool, file: &'a [u8], at: &mut usize) -> &'a [u8] {
-    if there {
-        return take_bytes(file, at);
-    }
-    &file[..0]
-}
-
 // Fills a buffer with bytes that grow by the same number, modulo 256.
 pub(crate) fn fill(buffer: &mut [u8], first: u8, by: u8) {
     let mut byte = first;
@@ -136,15 +118,59 @@ pub(crate) fn take_pieces(file: &[u8], at: &mut usize, buffer: &mut [u8]) {
     }
 }
 
-// A buffer whose length was taken, made twice: one to lend, and one that becomes what the call must leave.
-pub(crate) fn take_buffer(file: &[u8], at: &mut usize, lent: &mut [u8], after: &mut [u8]) {
+// A buffer whose length was taken.
+fn take_filled(file: &[u8], at: &mut usize, buffer: &mut [u8]) {
     let first = take_u8(file, at);
     let by = take_u8(file, at);
-    fill(lent, first, by);
-    fill(after, first, by);
+    fill(buffer, first, by);
+    take_pieces(file, at, buffer);
+}
+
+// The same, made twice: one to lend, and one that becomes what the call must leave.
+pub(crate) fn take_buffer(file: &[u8], at: &mut usize, lent: &mut [u8], after: &mut [u8]) {
     let mut again = *at;
-    take_pieces(file, &mut again, after);
-    take_pieces(file, at, lent);
+    take_filled(file, &mut again, after);
+    take_filled(file, at, lent);
+}
+
+// An image or marks, from a space: bytes behind their length or, in a file of long ones, a long buffer.
+pub(crate) fn take_whole<'a>(
+    file: &[u8],
+    at: &mut usize,
+    long: bool,
+    space: &'a mut [u8],
+) -> &'a mut [u8] {
+    let size = take_u32(file, at) as usize;
+    let whole = front(space, size);
+    if long {
+        take_filled(file, at, whole);
+    } else {
+        take_over(file, at, whole, 0, size);
+    }
+    whole
+}
+
+// The same where they are there, else none.
+pub(crate) fn take_whole_if<'a>(
+    there: bool,
+    file: &[u8],
+    at: &mut usize,
+    long: bool,
+    space: &'a mut [u8],
+) -> &'a mut [u8] {
+    if there {
+        return take_whole(file, at, long, space);
+    }
+    front(space, 0)
+}
+
+// Marks that a call must leave: all of them or, in a file of long ones, a long buffer.
+pub(crate) fn take_after(file: &[u8], at: &mut usize, long: bool, after: &mut [u8]) {
+    if long {
+        take_whole(file, at, long, after);
+    } else {
+        take_over(file, at, after, 0, after.len());
+    }
 }
 
 // The front of a space of numbers, to lend: so many of them, or all that there are.

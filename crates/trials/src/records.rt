@@ -4,17 +4,18 @@ use crate::parts::fill;
 use crate::parts::fill_words;
 use crate::parts::front;
 use crate::parts::front_words;
-use crate::parts::page_space;
 use crate::parts::same_words;
 use crate::parts::space;
+use crate::parts::take_after;
 use crate::parts::take_buffer;
 use crate::parts::take_bytes;
-use crate::parts::take_bytes_if;
 use crate::parts::take_over;
 use crate::parts::take_pieces;
 use crate::parts::take_u16;
 use crate::parts::take_u32;
 use crate::parts::take_u64;
+use crate::parts::take_whole;
+use crate::parts::take_whole_if;
 use crate::parts::take_words;
 use crate::parts::words;
 use check::same;
@@ -52,26 +53,28 @@ pub(crate) struct Trial {
     pub(crate) agrees: bool,
 }
 
-// The record at a place, which moves behind it.
-pub(crate) fn trial_at(kind: Kind, file: &[u8], at: &mut usize) -> Trial {
+// The record at a place, which moves behind it; of a file of long images and marks, or of another.
+pub(crate) fn trial_at(kind: Kind, file: &[u8], at: &mut usize, long: bool) -> Trial {
     match kind {
-        Kind::Check => try_check(file, at),
-        Kind::Step => try_machine(file, at, true),
-        Kind::Run => try_machine(file, at, false),
-        Kind::Read => try_read(file, at),
-        Kind::Write => try_page(file, at, false),
-        Kind::Print => try_page(file, at, true),
-        Kind::Locate => try_locate(file, at),
-        Kind::Build => try_build(file, at),
+        Kind::Check => try_check(file, at, long),
+        Kind::Step => try_machine(file, at, long, true),
+        Kind::Run => try_machine(file, at, long, false),
+        Kind::Read => try_read(file, at, long),
+        Kind::Write => try_page(file, at, long, false),
+        Kind::Print => try_page(file, at, long, true),
+        Kind::Locate => try_locate(file, at, long),
+        Kind::Build => try_build(file, at, long),
     }
 }
 
 // A check and its answer.
-fn try_check(file: &[u8], at: &mut usize) -> Trial {
+fn try_check(file: &[u8], at: &mut usize, long: bool) -> Trial {
     let base = take_u32(file, at);
     let reset = take_u32(file, at);
-    let image = take_bytes(file, at);
-    let marks = take_bytes(file, at);
+    let mut image_space = space();
+    let mut marks_space = space();
+    let image = take_whole(file, at, long, &mut image_space);
+    let marks = take_whole(file, at, long, &mut marks_space);
     let answer = take_u32(file, at);
     Trial {
         number: (answer / 65_536) as usize,
@@ -80,10 +83,11 @@ fn try_check(file: &[u8], at: &mut usize) -> Trial {
 }
 
 // A step or a run. A record of a step asks for one.
-fn try_machine(file: &[u8], at: &mut usize, by_step: bool) -> Trial {
+fn try_machine(file: &[u8], at: &mut usize, long: bool, by_step: bool) -> Trial {
     let base = take_u32(file, at);
     let steps = take_u32(file, at);
-    let image = take_bytes(file, at);
+    let mut image_space = space();
+    let image = take_whole(file, at, long, &mut image_space);
     let state_size = take_u16(file, at) as usize;
     let mut state_space = space();
     let mut state_after_space = space();
@@ -124,7 +128,7 @@ fn run_number(answer: u64) -> usize {
 }
 
 // A list read, and the marks that it leaves.
-fn try_read(file: &[u8], at: &mut usize) -> Trial {
+fn try_read(file: &[u8], at: &mut usize, long: bool) -> Trial {
     let text = take_bytes(file, at);
     let size = take_u32(file, at) as usize;
     let answer = take_u64(file, at);
@@ -135,7 +139,7 @@ fn try_read(file: &[u8], at: &mut usize) -> Trial {
     fill(marks, UNREAD, 0);
     fill(after, UNREAD, 0);
     if answer % 256 == 0 {
-        take_over(file, at, after, 0, size);
+        take_after(file, at, long, after);
     }
     let given = m7700_read_list(text, marks);
     Trial {
@@ -145,15 +149,17 @@ fn try_read(file: &[u8], at: &mut usize) -> Trial {
 }
 
 // A list written or an image printed, and the page that it leaves. A record of a list has no image.
-fn try_page(file: &[u8], at: &mut usize, printed: bool) -> Trial {
+fn try_page(file: &[u8], at: &mut usize, long: bool, printed: bool) -> Trial {
     let base = take_u32(file, at);
     let reset = take_u32(file, at);
-    let image = take_bytes_if(printed, file, at);
-    let marks = take_bytes(file, at);
+    let mut image_space = space();
+    let mut marks_space = space();
+    let image = take_whole_if(printed, file, at, long, &mut image_space);
+    let marks = take_whole(file, at, long, &mut marks_space);
     let size = take_u32(file, at) as usize;
     let answer = take_u64(file, at);
-    let mut lent_space = page_space();
-    let mut after_space = page_space();
+    let mut lent_space = space();
+    let mut after_space = space();
     let page = front(&mut lent_space, size);
     let after = front(&mut after_space, size);
     fill(page, UNWRITTEN, 0);
@@ -173,11 +179,13 @@ fn try_page(file: &[u8], at: &mut usize, printed: bool) -> Trial {
 }
 
 // Addresses located, and the places that it leaves.
-fn try_locate(file: &[u8], at: &mut usize) -> Trial {
+fn try_locate(file: &[u8], at: &mut usize, long: bool) -> Trial {
     let base = take_u32(file, at);
     let reset = take_u32(file, at);
-    let image = take_bytes(file, at);
-    let marks = take_bytes(file, at);
+    let mut image_space = space();
+    let mut marks_space = space();
+    let image = take_whole(file, at, long, &mut image_space);
+    let marks = take_whole(file, at, long, &mut marks_space);
     let count = take_u32(file, at) as usize;
     let mut addresses_space = words();
     let addresses = front_words(&mut addresses_space, count);
@@ -201,26 +209,24 @@ fn try_locate(file: &[u8], at: &mut usize) -> Trial {
 }
 
 // Marks built from a routine list, and those that it leaves.
-fn try_build(file: &[u8], at: &mut usize) -> Trial {
+fn try_build(file: &[u8], at: &mut usize, long: bool) -> Trial {
     let base = take_u32(file, at);
     let reset = take_u32(file, at);
-    let image = take_bytes(file, at);
+    let mut image_space = space();
+    let image = take_whole(file, at, long, &mut image_space);
     let routines = take_bytes(file, at);
-    let size = take_u32(file, at) as usize;
     let mut marks_space = space();
     let mut after_space = space();
-    let marks = front(&mut marks_space, size);
-    let after = front(&mut after_space, size);
     let mut again = *at;
-    take_over(file, &mut again, after, 0, size);
-    take_over(file, at, marks, 0, size);
+    let after = take_whole(file, &mut again, long, &mut after_space);
+    let marks = take_whole(file, at, long, &mut marks_space);
     let answer = take_u64(file, at);
     if answer % 256 == 0 {
-        take_over(file, at, after, 0, size);
+        take_after(file, at, long, after);
     }
     let given = m7700_build_marks(image, base, reset, routines, marks);
     Trial {
         number: (answer % 256) as usize,
-        agrees: marks.len() == size && given == answer && same(marks, after),
+        agrees: given == answer && same(marks, after),
     }
 }

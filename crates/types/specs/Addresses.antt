@@ -2,7 +2,7 @@
 -- Assumes nothing.
 use Prim.Native.Nat.{ℕ, _+_, _*_, _/_}
 
--- 'within one bank (64 KiB)'
+-- a 'bank (64 KiB)'
 abbrev pub bankSize : ℕ
 bankSize = 65_536
 

@@ -3,7 +3,7 @@ ghost use mathlib.Core.Path.{_≡_};
 ghost use Prim.Native.Nat.{_%_, _<_};
 ghost use Rattle.types.specs.Addresses.{bankSize, addressLimit, inBankOf};
 
-// The limits of specs/Image.antt.
+// The limits of specs/Addresses.antt.
 pub const BANK_SIZE: u32 = 65_536;
 
 pub const ADDRESS_LIMIT: u32 = 16_777_216;

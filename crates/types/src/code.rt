@@ -164,8 +164,8 @@ pub enum Flow {
     Halt,
 }
 
-// The form of the target in the operand: a signed offset of 8 or 16 bits, a 16-bit address in the
-// instruction's bank, a 24-bit address.
+// The form of the target in the operand: a signed offset of 8 or 16 bits, a 16-bit address in the bank just after the
+// instruction, a 24-bit address.
 pub enum Target {
     NoTarget,
     Offset8,

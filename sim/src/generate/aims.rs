@@ -1,7 +1,8 @@
 //! Runs and steps aimed at one number, and runs of one program in a row.
 
+use super::lists::broken_base;
 use super::steps::{filled, state_of};
-use super::{gentle, Rng, RunCase, FORMER_CALLS, FORMER_STATE_BYTES};
+use super::{crossing_base, gentle, Rng, RunCase, FORMER_CALLS, FORMER_STATE_BYTES};
 use crate::codes::{entry_of, Word};
 use crate::numbers::*;
 use crate::state::{set_call, set_depth, Registers, CALL_BYTES, HEAD_BYTES, STATE_BYTES};
@@ -36,10 +37,11 @@ pub fn refused_by(rng: &mut Rng, number: u8) -> RunCase {
 fn sound(rng: &mut Rng) -> RunCase {
     let length = 1 + rng.index(8);
     let ram_len = *rng.pick(&[1, 2, 16, 512, 4096]);
-    let base = match rng.below(4) {
+    let base = match rng.below(5) {
         0 => ram_len as u32,
         1 => 0xFF_0000 + (0x1_0000 - length as u32),
         2 => 0x1_0000 - length as u32,
+        3 if length > 1 => crossing_base(rng, length),
         _ => 0xC000,
     };
     let fill = (rng.byte(), *rng.pick(&[0, 1, 3]));
@@ -72,12 +74,7 @@ fn break_rule(rng: &mut Rng, case: &mut RunCase, rule: u8) {
         BASE => {
             let length = case.image.len().max(2);
             case.image.resize(length, 0xEA);
-            let past = 0x1_0000 - rng.below(length as u64 - 1) as u32 - 1;
-            case.base = match rng.below(3) {
-                0 => *rng.pick(&[0x100_0000, 0x100_C000, 0x8000_0000, u32::MAX]),
-                1 => (rng.byte() as u32) << 16 | past,
-                _ => MAX_ADDRESS - rng.below(length as u64 - 1) as u32,
-            };
+            case.base = broken_base(rng, length);
         }
         RAM => {
             let length = match rng.below(4) {
@@ -230,13 +227,14 @@ impl Code {
     }
 }
 
-/// The image's whole length, where its place at a bank's end asks for it.
+/// The image's whole length, where it is placed at a bank's end.
 const WHOLE: usize = 48;
 
 fn aimed_run(rng: &mut Rng, stop: u8) -> RunCase {
     let ram_len = *rng.pick(&[64, 256, 512]);
     let whole = rng.chance(1, 3);
     let base = match rng.below(4) {
+        0 if whole => crossing_base(rng, WHOLE),
         _ if whole => *rng.pick(&[0x1_0000, 0x100_0000]) - WHOLE as u32,
         0 | 1 => ram_len as u32,
         2 => 0xC000,
@@ -426,7 +424,7 @@ fn from_reset(rng: &mut Rng) -> RunCase {
         dpr: rng.below(200) as u16,
         ps: rng.word() & 0x7C7,
         dt: 0,
-        pc: base & 0xFF_0000 | program.case.reset,
+        pc: program.case.reset,
     };
     let fill = (rng.byte(), *rng.pick(&[0, 1, 3]));
     RunCase {

@@ -2,8 +2,9 @@
 //! such that they can't.
 
 use super::checks::good_mark;
+use super::digits::routines_in;
 use super::lists::{broken_base, damage_byte, overlong, reorder, start_line, starts_of};
-use super::{accepted, hostile_check, sound_base, CheckCase, Rng};
+use super::{accepted, crossing_base, hostile_check, sound_base, CheckCase, Rng};
 use crate::build_marks;
 use crate::marks::{self, KIND_RTL, KIND_RTS, RESET_MARK, START};
 use crate::numbers::*;
@@ -120,12 +121,16 @@ fn any(rng: &mut Rng) -> BuildCase {
 }
 
 /// An accepted program with a list of the starts that its calls go to, and of
-/// some that are never called.
+/// some that are never called; one time out of three in four digits, if it lies
+/// within one bank.
 pub fn fitting(rng: &mut Rng) -> BuildCase {
     let program = accepted(rng);
     let listed = listed(rng, &program);
     let mut case = BuildCase::listing(program, &listed);
     case.marks = marks_before(rng, case.image.len());
+    if in_one_bank(case.image.len(), case.base) && rng.chance(1, 3) {
+        case.routines = routines_in(&case.routines, |_| 4);
+    }
     case
 }
 
@@ -150,12 +155,14 @@ fn listed(rng: &mut Rng, program: &CheckCase) -> Vec<u8> {
 pub fn called(program: &CheckCase) -> Vec<u8> {
     let mut listed = vec![0; program.marks.len()];
     for at in (0..listed.len()).filter(|&at| program.marks[at] != 0) {
-        if let [0x20 | 0x22, low, high] = program.image[at..][..3.min(listed.len() - at)] {
-            // A long call's bank is the image's own.
-            let address = u16::from_le_bytes([low, high]);
-            let target = address.wrapping_sub(program.base as u16) as usize;
-            listed[target] = program.marks[target];
-        }
+        let next = program.base + at as u32 + 3;
+        let address = match program.image[at..] {
+            [0x20, low, high, ..] => u32::from_le_bytes([low, high, 0, 0]) | bank(next),
+            [0x22, low, high, bank, ..] => u32::from_le_bytes([low, high, bank, 0]),
+            _ => continue,
+        };
+        let target = (address - program.base) as usize;
+        listed[target] = program.marks[target];
     }
     listed
 }
@@ -191,7 +198,7 @@ pub fn misfit_by(rng: &mut Rng, way: u64) -> BuildCase {
                 listed[*rng.pick(&others)] = good_mark(rng);
             }
         }
-        6 => listed[(program.reset - (program.base & 0xFFFF)) as usize] = good_mark(rng),
+        6 => listed[(program.reset - program.base) as usize] = good_mark(rng),
         7 => program.reset = other_reset(rng, &program),
         8 => program.image[at] ^= 1 << rng.below(8),
         9 => program.image[at] = rng.byte(),
@@ -225,9 +232,10 @@ fn alter_routine(rng: &mut Rng, listed: &mut [u8], way: u64) {
     }
 }
 
-/// At another byte of the image, right outside it, and above FFFF.
+/// At another byte of the image, right outside it, in other banks, and above
+/// FFFFFF.
 fn other_reset(rng: &mut Rng, program: &CheckCase) -> u32 {
-    let first = program.base & 0xFFFF;
+    let first = program.base;
     let end = first + program.image.len() as u32;
     let inside = first + rng.index(program.image.len()) as u32;
     *rng.pick(&[
@@ -235,8 +243,8 @@ fn other_reset(rng: &mut Rng, program: &CheckCase) -> u32 {
         inside,
         end,
         first.wrapping_sub(1),
-        program.reset | 0x1_0000,
-        program.reset.wrapping_sub(0x1_0000),
+        program.reset & 0xFFFF,
+        program.reset ^ 0x1_0000,
         program.reset | 0x100_0000,
         u32::MAX,
     ])
@@ -244,22 +252,22 @@ fn other_reset(rng: &mut Rng, program: &CheckCase) -> u32 {
 
 /// A routine too many, in its order, right outside the image or far from it.
 fn outside(rng: &mut Rng, program: CheckCase, listed: &[u8]) -> BuildCase {
-    let first = program.base & 0xFFFF;
+    let first = program.base;
     let end = first + program.image.len() as u32;
-    let below = *rng.pick(&[0, first / 2, first.saturating_sub(1)]);
-    let above = *rng.pick(&[end, end + 1, 0xFFFF]);
+    let below = *rng.pick(&[0, first & 0xFFFF, bank(first), first.saturating_sub(1)]);
+    let above = *rng.pick(&[end, end + 1, end | 0xFFFF, MAX_ADDRESS]);
     let line = |address: u32| start_line(address, RESET_MARK);
     let mut case = BuildCase::listing(program, listed);
     if below < first && rng.chance(1, 2) {
         case.routines = [line(below).as_bytes(), &case.routines].concat();
-    } else if (end..0x1_0000).contains(&above) {
+    } else if (end..=MAX_ADDRESS).contains(&above) {
         case.routines.extend_from_slice(line(above).as_bytes());
     }
     case
 }
 
 /// Codes with one byte or two, starts of longer ones, and operands that lead
-/// into an image of a few bytes at 00C000.
+/// into an image of a few bytes at 00C000 or across a bank's end.
 const TINY: [u8; 28] = [
     0xEA, 0xF8, 0xD8, 0xE2, 0xC2, 0x30, 0x20, 0x22, 0x60, 0x6B, 0x80, 0xF0, 0xA9, 0xA2, 0xDB, 0xCB,
     0x42, 0x89, 0x4C, 0x00, 0x01, 0x02, 0x03, 0x04, 0x05, 0xFD, 0xFE, 0xC0,
@@ -269,9 +277,11 @@ const TINY: [u8; 28] = [
 fn tiny(rng: &mut Rng) -> BuildCase {
     let length = 1 + rng.index(9);
     let mut image: Vec<u8> = (0..length).map(|_| *rng.pick(&TINY)).collect();
+    let base = *rng.pick(&[0xC000, 0xC000, 0xFFFD, 0x12_FFFE]);
     if length > 4 && rng.chance(1, 2) {
-        let target = 3 + rng.index(length - 3) as u8;
-        image[..3].copy_from_slice(&[0x20, target, 0xC0]);
+        let target = base + 3 + rng.index(length - 3) as u32;
+        let [low, high, ..] = target.to_le_bytes();
+        image[..3].copy_from_slice(&[0x20, low, high]);
         image[length - 1] = *rng.pick(&[0x60, 0xDB]);
     }
     let few = [START, START | KIND_RTS, good_mark(rng)];
@@ -281,10 +291,10 @@ fn tiny(rng: &mut Rng) -> BuildCase {
     };
     let listed: Vec<u8> = (0..length).map(mark).collect();
     let reset = match rng.below(4) {
-        0 => 0xC000 + rng.index(length) as u32,
-        _ => 0xC000,
+        0 => base + rng.index(length) as u32,
+        _ => base,
     };
-    let mut case = BuildCase::listing(at(0xC000, reset, image), &listed);
+    let mut case = BuildCase::listing(at(base, reset, image), &listed);
     case.marks = marks_before(rng, length);
     case
 }
@@ -318,22 +328,37 @@ fn break_text(rng: &mut Rng, text: &mut Vec<u8>) {
         text.extend_from_slice(*rng.pick(&only));
         return;
     }
-    match rng.below(9) {
+    let lines = text.iter().filter(|&&b| b == b'\n').count();
+    match rng.below(11) {
         0 => overlong(rng, text),
         1 => reorder(rng, text),
         2 => text.truncate(rng.index(text.len())),
         3 => {
             text.pop();
         }
-        4 => text.insert(15 * rng.index(text.len() / 15), b'\n'),
-        5 => text.extend_from_slice(*rng.pick(&[&b"\n"[..], b"\0", b"F", b"FFFF\t0\t0\tN\t0\t0"])),
+        4 => text.insert(text.len() / lines * rng.index(lines), b'\n'),
+        5 => {
+            let tails: [&[u8]; 5] = [b"\n", b"\0", b"F", LAST_ADDRESS, b"FFFF\t0\t0\tN\t0\t0\n"];
+            text.extend_from_slice(*rng.pick(&tails));
+        }
         6 => {
             let head = b"I\t00C000\t5\tC000\n";
             *text = [&head[..], text].concat();
         }
+        7 => {
+            let odd = rng.index(lines);
+            *text = routines_in(text, |line| if line == odd { 4 } else { 6 });
+        }
+        8 => {
+            let digits = *rng.pick(&[3, 5, 7, 8]);
+            *text = routines_in(text, |_| digits);
+        }
         _ => damage_byte(rng, text),
     }
 }
+
+/// A line that is not closed.
+const LAST_ADDRESS: &[u8] = b"FFFFFF\t0\t0\tN\t0\t0";
 
 /// Lengths, bases and resets at and past their limits, with no routine, the
 /// reset's or one on the last byte.
@@ -344,8 +369,8 @@ fn hostile(rng: &mut Rng) -> BuildCase {
         base,
         reset,
     } = hostile_check(rng);
-    let first = base & 0xFFFF;
-    let last = (first + image.len() as u32).saturating_sub(1) & 0xFFFF;
+    let first = base & MAX_ADDRESS;
+    let last = (first + image.len() as u32).saturating_sub(1) & MAX_ADDRESS;
     let routines = match rng.below(3) {
         0 => String::new(),
         1 => start_line(first, START),
@@ -360,10 +385,17 @@ fn hostile(rng: &mut Rng) -> BuildCase {
     }
 }
 
-/// At a base that 2 refuses, whatever else may not fit.
+/// At a base that 2 refuses, or over a bank's end with a list in four digits,
+/// whatever else may not fit.
 fn misplaced(rng: &mut Rng) -> BuildCase {
     let mut case = any(rng);
-    case.base = broken_base(rng, case.image.len());
+    let length = case.image.len();
+    case.base = broken_base(rng, length);
+    if length > 1 && rng.chance(1, 2) {
+        case.base = crossing_base(rng, length);
+        case.routines = starts_of(&[START, START], bank(case.base)).into_bytes();
+        case.routines = routines_in(&case.routines, |_| 4);
+    }
     case
 }
 
@@ -387,5 +419,5 @@ pub fn many_routines(rng: &mut Rng, count: usize) -> BuildCase {
         image[length - 1] = 0xDB;
     }
     let base = sound_base(rng, length, 0);
-    BuildCase::listing(at(base, base & 0xFFFF, image), &listed)
+    BuildCase::listing(at(base, base, image), &listed)
 }

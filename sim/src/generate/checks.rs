@@ -2,6 +2,7 @@
 
 use super::{accepted, CheckCase, Rng};
 use crate::marks::well_formed;
+use crate::numbers::MAX_IMAGE;
 
 /// Mostly small cases of all three sorts.
 pub fn check_case(rng: &mut Rng) -> CheckCase {
@@ -45,17 +46,32 @@ pub fn damaged(rng: &mut Rng) -> CheckCase {
             case.marks[*rng.pick(&starts)] = good_mark(rng);
         }
         10 => {
-            case.base = case
-                .base
-                .wrapping_add_signed(*rng.pick(&[-1, 1, 2, 0x1_0000]))
+            let by = *rng.pick(&[-1, 1, 2, 0x1_0000]);
+            case.base = case.base.wrapping_add_signed(by);
+            // The reset moves too, half of the times.
+            if rng.chance(1, 2) {
+                case.reset = case.reset.wrapping_add_signed(by);
+            }
         }
         11 => damage_return(rng, &mut case),
-        _ => case.reset = rng.below(0x1_0010) as u32,
+        _ => case.reset = damaged_reset(rng, &case),
     }
     if rng.chance(1, 16) {
         lengthen(rng, &mut case);
     }
     case
+}
+
+/// An address in the image or right beside it, in bank 0, or in another bank.
+fn damaged_reset(rng: &mut Rng, case: &CheckCase) -> u32 {
+    let near = case
+        .base
+        .wrapping_add(rng.index(case.image.len() + 2) as u32);
+    match rng.below(4) {
+        0 => rng.below(0x1_0010) as u32,
+        1 => case.reset ^ 0x1_0000,
+        _ => near.wrapping_sub(1),
+    }
 }
 
 /// Another return instruction, or other widths where one stands.
@@ -87,7 +103,7 @@ fn lengthen(rng: &mut Rng, case: &mut CheckCase) {
 pub fn hostile_check(rng: &mut Rng) -> CheckCase {
     let small = [0, 1, 1, 2, 3, 7, 16];
     let length = match rng.below(40) {
-        0 => *rng.pick(&[16_383, 16_384, 16_385]),
+        0 => *rng.pick(&[MAX_IMAGE - 1, MAX_IMAGE, MAX_IMAGE + 1]),
         _ => *rng.pick(&small),
     };
     let mut image = vec![0xEA; length];
@@ -113,30 +129,27 @@ pub fn hostile_check(rng: &mut Rng) -> CheckCase {
 
 /// Bases at and past a bank's end and the end of the address space.
 fn hostile_base(rng: &mut Rng, length: u32) -> u32 {
-    let end = 0x1_0000 - length;
-    let within = *rng.pick(&[0, 1, 0xC000, end, end + 1, 0xFFFF]);
+    let end = *rng.pick(&[0x2_0000, 0x13_0000, 0x100_0000]) - length;
     match rng.below(4) {
-        0 => within,
-        1 => 0x12_0000 + within,
-        2 => 0xFF_0000 + within,
-        _ => *rng.pick(&[0xFF_FFFF, 0x100_0000, 0x8000_0000, u32::MAX]),
+        0 => *rng.pick(&[0, 1, 0xC000, 0xFFFF]),
+        1 => *rng.pick(&[0xFF_FFFF, 0x100_0000, 0x8000_0000, u32::MAX]),
+        _ => *rng.pick(&[end - 1, end, end + 1]),
     }
 }
 
-/// Resets at the base, just outside the image, and outside the bank.
+/// Resets at the base, just outside the image, and in other banks.
 fn hostile_reset(rng: &mut Rng, base: u32, length: u32) -> u32 {
-    let within = base & 0xFFFF;
     let outside = [
-        within + length,
-        within.wrapping_sub(1),
-        base,
-        0x1_0000 | within,
+        base.wrapping_add(length),
+        base.wrapping_sub(1),
+        base & 0xFFFF,
+        base ^ 0x1_0000,
+        base | 0x100_0000,
         0,
-        0xFFFF,
         u32::MAX,
     ];
     if rng.chance(1, 2) {
-        within
+        base
     } else {
         *rng.pick(&outside)
     }

@@ -6,7 +6,7 @@ use super::programs::straight_codes;
 use super::{sound_base, Rng};
 use crate::codes::{entry_of, PREFIX_42, PREFIX_89};
 use crate::marks::{KIND_RTL, KIND_RTS, START};
-use crate::numbers::MAX_ROUTINES;
+use crate::numbers::{bank, MAX_ADDRESS, MAX_ROUTINES};
 
 const NOP: u8 = 0xEA;
 const STP: u8 = 0xDB;
@@ -29,24 +29,30 @@ pub fn straight(rng: &mut Rng, length: usize) -> BuildCase {
     }
     image.push(STP);
     let base = sound_base(rng, length, 0);
-    BuildCase::listing(at(base, base & 0xFFFF, image), &[])
+    BuildCase::listing(at(base, base, image), &[])
 }
 
 /// Bytes of a block of `backwards`.
 const BLOCK: usize = 4;
 
-/// Blocks of an instruction and a jump to the block before. The reset is the
-/// last one; the first ends in STP. The length is a multiple of 4.
+/// Blocks of an instruction and a jump to the block before, or a branch where
+/// that lies in another bank than the address just after. The reset is the last
+/// one; the first ends in STP. The length is a multiple of 4.
 pub fn backwards(rng: &mut Rng, length: usize) -> BuildCase {
     let base = sound_base(rng, length, 0);
-    let first = (base & 0xFFFF) as usize;
     let mut image = vec![NOP, NOP, NOP, STP];
     while image.len() < length {
-        let before = (first + image.len() - BLOCK) as u16;
-        let [low, high] = before.to_le_bytes();
-        image.extend_from_slice(&[*rng.pick(&ONE_BYTE), 0x4C, low, high]);
+        let here = base + image.len() as u32;
+        let (before, next) = (here - BLOCK as u32, (here + BLOCK as u32) & MAX_ADDRESS);
+        let (code, operand) = if bank(before) == bank(next) {
+            (0x4C, before as u16)
+        } else {
+            (0x82, (BLOCK as u16 * 2).wrapping_neg())
+        };
+        let [low, high] = operand.to_le_bytes();
+        image.extend_from_slice(&[*rng.pick(&ONE_BYTE), code, low, high]);
     }
-    let reset = (first + length - BLOCK) as u32;
+    let reset = base + (length - BLOCK) as u32;
     BuildCase::listing(at(base, reset, image), &[])
 }
 
@@ -60,11 +66,13 @@ pub fn calling(rng: &mut Rng, length: usize) -> BuildCase {
     let routines = length - MAX_ROUTINES;
     let mut image = Vec::with_capacity(length);
     while image.len() + 4 < routines {
+        let next = base + image.len() as u32 + 3;
         let target = base + (routines + rng.index(MAX_ROUTINES)) as u32;
-        let [low, high, bank, _] = target.to_le_bytes();
-        match is_long(target) {
-            true => image.extend_from_slice(&[0x22, low, high, bank]),
-            false => image.extend_from_slice(&[0x20, low, high]),
+        let [low, high, highest, _] = target.to_le_bytes();
+        if is_long(target) {
+            image.extend_from_slice(&[0x22, low, high, highest]);
+        } else if bank(target) == bank(next) {
+            image.extend_from_slice(&[0x20, low, high]);
         }
     }
     image.resize(routines - 1, NOP);
@@ -78,7 +86,7 @@ pub fn calling(rng: &mut Rng, length: usize) -> BuildCase {
         image.push(code);
         listed.push(START | kind);
     }
-    BuildCase::listing(at(base, base & 0xFFFF, image), &listed)
+    BuildCase::listing(at(base, base, image), &listed)
 }
 
 /// Every other routine is called by JSR long.

@@ -151,7 +151,7 @@ fn islands(rng: &mut Rng) -> CheckCase {
     image.resize(image.len() + rng.index(3), 0xDB);
     marks.resize(image.len(), 0);
     let base = sound_base(rng, image.len(), 0);
-    let reset = (base & 0xFFFF) + before as u32;
+    let reset = base + before as u32;
     CheckCase {
         image,
         marks,
@@ -179,7 +179,7 @@ pub fn crowd(rng: &mut Rng, count: usize) -> LocateCase {
         image,
         marks: vec![START; length],
         base,
-        reset: base & 0xFFFF,
+        reset: base,
     };
     let first = base + before as u32;
     LocateCase::exact(checked, (first..first + count as u32).collect())

@@ -1,9 +1,11 @@
 //! Cases drawn by seed: the same seed gives the same cases everywhere.
 
 mod aims;
+mod banks;
 mod builds;
 mod checks;
 mod depths;
+mod digits;
 mod flows;
 mod hand_made;
 mod lists;
@@ -18,11 +20,13 @@ mod transfers;
 mod values;
 
 pub use aims::{continued_runs, refused_by, stopped_by};
+pub use banks::{bank_checks, bank_programs, bank_runs, bank_steps, BANK_ENDS, BANK_JUMPS};
 pub use builds::{
     build_by, build_case, called, fitting, many_routines, misfit_by, BuildCase, MISFITS,
 };
 pub use checks::{check_case, damaged, hostile_check};
 pub use depths::{depth_runs, depth_steps, FORMER_CALLS, FORMER_STATE_BYTES};
+pub use digits::{digit_lists, digit_routines, in_four, rewritten, routines_in};
 pub use flows::{backwards, calling, straight};
 pub use hand_made::{hand_made, HandMade};
 pub use lists::{
@@ -110,8 +114,24 @@ impl Rng {
     }
 }
 
-/// A base at which an image of this length lies within one bank.
+/// A base at which an image of this length ends at or below FFFFFF; one time
+/// out of three it crosses a bank's end, if it has two bytes or more.
 fn sound_base(rng: &mut Rng, length: usize, lowest: u32) -> u32 {
+    if length > 1 && rng.chance(1, 3) {
+        crossing_base(rng, length).max(lowest)
+    } else {
+        one_bank_base(rng, length, lowest)
+    }
+}
+
+/// A base at which an image of this length crosses a bank's end.
+fn crossing_base(rng: &mut Rng, length: usize) -> u32 {
+    let next_bank = *rng.pick(&[1u32, 1, 1, 2, 0x13, 0x80, 0xFF]) << 16;
+    next_bank - 1 - rng.index(length - 1) as u32
+}
+
+/// A base at which an image of this length lies within one bank.
+fn one_bank_base(rng: &mut Rng, length: usize, lowest: u32) -> u32 {
     let last = 0x1_0000 - length as u32;
     let bank = (*rng.pick(&[0u8, 0, 0, 1, 2, 0x12, 0x7F, 0x80, 0xFE, 0xFF]) as u32) << 16;
     let within = match rng.below(5) {

@@ -300,7 +300,7 @@ fn pulling(rng: &mut Rng, (page, code): Code, layout: Layout, words: bool, s: u1
 pub(super) fn pulled(scene: &mut Scene, kind: u8) -> u32 {
     let low = scene.rng.edge_word() as u32;
     let bank = match kind {
-        1 => scene.instruction() & 0xFF_0000,
+        1 => scene.bank(),
         _ => (scene.rng.edge_byte() as u32) << 16,
     };
     for k in 0..if kind == 1 { 2 } else { 3 } {

@@ -109,7 +109,7 @@ fn break_rule(rng: &mut Rng, case: &mut CheckCase, number: u8) {
     if case.image.len() != case.marks.len() {
         return;
     }
-    let reset = case.reset.wrapping_sub(case.base & 0xFFFF) as usize;
+    let reset = case.reset.wrapping_sub(case.base) as usize;
     match number {
         LENGTH => break_length(rng, case),
         BASE => case.base = broken_base(rng, case.image.len().max(1)),
@@ -118,7 +118,16 @@ fn break_rule(rng: &mut Rng, case: &mut CheckCase, number: u8) {
                 *mark = *rng.pick(&[0, 0x03, 0x05, 0x07, 0x09, 0x71]);
             }
         }
-        RESET => case.reset = *rng.pick(&[case.reset ^ 1, 0x1_0000 | case.reset, 0, u32::MAX]),
+        RESET => {
+            let reset = case.reset;
+            let others = [
+                reset ^ 1,
+                reset ^ 0x1_0000,
+                reset & 0xFFFF,
+                0x100_0000 | reset,
+            ];
+            case.reset = *rng.pick(&[&others[..], &[0, u32::MAX]].concat());
+        }
         MARK => {
             let at = rng.index(case.marks.len().max(1));
             if let Some(mark) = case.marks.get_mut(at) {

@@ -1,9 +1,10 @@
 //! Accepted programs: routines with calls of both kinds, branches near and
 //! far, jumps, width changes and every other carried code.
 
-use super::{sound_base, CheckCase, Rng};
+use super::{one_bank_base, sound_base, CheckCase, Rng};
 use crate::codes::{entry_of, Entry, Mode, Word};
 use crate::marks::{self, KIND_RTL, KIND_RTS, START};
+use crate::numbers::bank;
 use std::sync::OnceLock;
 
 /// How a program is drawn.
@@ -54,6 +55,20 @@ struct Fixup {
     to: To,
     /// The next address will do as a target too.
     goes_on: bool,
+}
+
+impl Fixup {
+    /// Whether the form can name a target at this offset.
+    fn reaches(&self, target: usize, base: u32) -> bool {
+        let distance = target as i64 - self.after as i64;
+        let bank_of = |at: usize| bank(base + at as u32);
+        match self.form {
+            Form::Near => (-128..128).contains(&distance),
+            Form::Far => (-0x8000..0x8000).contains(&distance),
+            Form::Absolute => bank_of(target) == bank_of(self.after),
+            Form::Long => true,
+        }
+    }
 }
 
 /// A code with its page.
@@ -350,7 +365,7 @@ impl<'a> Builder<'a> {
     /// The program at a drawn base, its targets written; the reset is the
     /// start at this offset.
     fn finish(mut self, lowest: u32, reset: usize) -> CheckCase {
-        let base = sound_base(self.rng, self.image.len(), lowest);
+        let base = self.base(lowest);
         for fixup in std::mem::take(&mut self.fixups) {
             self.resolve(&fixup, base);
         }
@@ -358,7 +373,30 @@ impl<'a> Builder<'a> {
             image: self.image,
             marks: self.marks,
             base,
-            reset: (base & 0xFFFF) + reset as u32,
+            reset: base + reset as u32,
+        }
+    }
+
+    /// A base at which each absolute target can be reached: often across a
+    /// bank's end, if there is such a one.
+    fn base(&mut self, lowest: u32) -> u32 {
+        let length = self.image.len();
+        for _ in 0..4 {
+            let base = sound_base(self.rng, length, lowest);
+            if self.fixups.iter().all(|fixup| self.has_target(fixup, base)) {
+                return base;
+            }
+        }
+        one_bank_base(self.rng, length, lowest)
+    }
+
+    /// Whether a fixup has a target in reach at this base. The next address is
+    /// always.
+    fn has_target(&self, fixup: &Fixup, base: u32) -> bool {
+        match fixup.to {
+            To::Routine(index) => fixup.reaches(self.entries[index], base),
+            To::Alike => fixup.goes_on || fixup.reaches(fixup.at, base),
+            To::Next => true,
         }
     }
 
@@ -366,7 +404,7 @@ impl<'a> Builder<'a> {
     fn resolve(&mut self, fixup: &Fixup, base: u32) {
         let target = match fixup.to {
             To::Routine(index) => self.entries[index],
-            To::Alike => self.alike(fixup),
+            To::Alike => self.alike(fixup, base),
             To::Next => fixup.after,
         };
         let distance = target as i64 - fixup.after as i64;
@@ -390,11 +428,10 @@ impl<'a> Builder<'a> {
 
     /// A start with the mark of the instruction's own, in reach; the next
     /// one where the instruction may go on, else the instruction itself.
-    fn alike(&mut self, fixup: &Fixup) -> usize {
+    fn alike(&mut self, fixup: &Fixup, base: u32) -> usize {
         for _ in 0..12 {
             let target = *self.rng.pick(&self.starts);
-            let distance = target as i64 - fixup.after as i64;
-            let reached = !matches!(fixup.form, Form::Near) || (-128..128).contains(&distance);
+            let reached = fixup.reaches(target, base);
             // Few ways back, so that a gentle program comes to its end.
             let back = self.plan.gentle && target <= fixup.at && self.rng.chance(7, 8);
             if reached && !back && self.marks[target] == self.marks[fixup.at] {

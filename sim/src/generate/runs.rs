@@ -2,7 +2,7 @@
 
 use super::steps::filled;
 use super::{gentle, step_case, Rng, RunCase, FORMER_CALLS, FORMER_STATE_BYTES};
-use crate::numbers::MAX_CALLS;
+use crate::numbers::{MAX_CALLS, MAX_IMAGE};
 use crate::state::{set_call, set_depth, Registers, HEAD_BYTES, STATE_BYTES};
 
 /// A run: of a gentle accepted program from its reset, of random bytes, of
@@ -38,7 +38,7 @@ fn program_run(rng: &mut Rng) -> RunCase {
         dpr: rng.below(200) as u16,
         ps: rng.word() & 0x7C7,
         dt: 0,
-        pc: base & 0xFF_0000 | program.case.reset,
+        pc: program.case.reset,
     };
     // Now and then something is amiss: a byte, the direct page in the image
     // or at the end of RAM, the stack at its ends.
@@ -104,7 +104,7 @@ fn random_run(rng: &mut Rng) -> RunCase {
     let mut case = step_case(rng);
     if !case.image.is_empty() && case.image.len() < 64 {
         let length = 16 + rng.index(32);
-        let room = 0x1_0000 - (case.base & 0xFFFF) as usize;
+        let room = 0x100_0000 - case.base as usize;
         case.image = (0..length.min(room)).map(|_| rng.byte()).collect();
     }
     case.steps = step_count(rng);
@@ -141,7 +141,7 @@ pub fn refused_run(rng: &mut Rng) -> RunCase {
     for _ in 0..1 + rng.below(2) {
         match rng.below(9) {
             0 => case.image.clear(),
-            1 => case.image = vec![0xEA; *rng.pick(&[1, 16_384, 16_385])],
+            1 => case.image = vec![0xEA; *rng.pick(&[1, MAX_IMAGE, MAX_IMAGE + 1])],
             2 => {
                 case.base = *rng.pick(&[0xFFFC, 0xFFFD, 0xFF_FFFC, 0xFF_FFFD, 0x100_0000, u32::MAX])
             }

@@ -5,6 +5,7 @@ use super::steps::{filled, patch, state_of};
 use super::{Rng, RunCase};
 use crate::alu;
 use crate::codes::{entry_of, Entry, Mode};
+use crate::numbers::{bank, MAX_ADDRESS};
 use crate::state::Registers;
 
 /// Where RAM and image lie.
@@ -110,6 +111,11 @@ impl<'a> Scene<'a> {
     pub fn instruction(&self) -> u32 {
         let last = self.layout.image_len - self.length();
         self.layout.base + self.at.unwrap_or(last) as u32
+    }
+
+    /// The bank of the address just after it.
+    pub fn bank(&self) -> u32 {
+        bank((self.instruction() + self.length() as u32) & MAX_ADDRESS)
     }
 
     pub fn put(&mut self, address: u32, bytes: &[u8]) {

@@ -1,9 +1,9 @@
 //! Single steps: one instruction, aimed at an address at an edge.
 
-use super::{refused_run, Rng};
+use super::{crossing_base, refused_run, Rng};
 use crate::alu;
 use crate::codes::{entry_of, Entry, Mode, Word};
-use crate::numbers::MAX_CALLS;
+use crate::numbers::{bank, MAX_ADDRESS, MAX_CALLS};
 use crate::state::{set_call, set_depth, Registers, STATE_BYTES};
 
 /// Arguments of a run, with the rule that filled RAM before the patches:
@@ -157,16 +157,18 @@ pub(super) fn state_of(r: &Registers, calls: &[(u32, u8)]) -> Vec<u8> {
     state
 }
 
-/// Right above RAM, at a bank's end, at the end of all, or anywhere.
+/// Right above RAM, at a bank's end or across it, at the end of all, or
+/// anywhere.
 fn step_base(rng: &mut Rng, image_len: usize, ram_len: usize) -> u32 {
     let end = 0x1_0000 - image_len as u32;
-    match rng.below(8) {
+    match rng.below(10) {
         0 | 1 => ram_len as u32,
         2 => end,
         3 => 0xFF_0000 | end,
         4 => 0x1_0000,
         5 => 0xC000,
         6 => 0x12_0000 | end,
+        7 | 8 if image_len > 1 => crossing_base(rng, image_len),
         _ => (ram_len as u32 + rng.below(0x8000) as u32) | (rng.below(3) as u32) << 16,
     }
 }
@@ -377,7 +379,7 @@ impl Aim<'_> {
     fn returning(&mut self, kind: u8) -> Vec<(u32, u8)> {
         let low = self.rng.edge_word();
         let bank = match kind {
-            1 => self.r.pc & 0xFF_0000,
+            1 => bank((self.r.pc + 1) & MAX_ADDRESS),
             _ => (self.rng.edge_byte() as u32) << 16,
         };
         let address = bank | low as u32;

@@ -126,7 +126,7 @@ fn opened(scene: &mut Scene, k: usize, datum: u16) {
     if returns(scene.entry.word) || scene.entry.word == Word::JSR {
         scene.calls = [(0x1234, 1), (0xFF_FFFF, 2)][..k % 3].to_vec();
     }
-    let own_bank = scene.instruction() & 0xFF_0000;
+    let own_bank = scene.bank();
     match scene.entry.word {
         Word::RTS => scene.calls.push((own_bank | datum as u32, 1)),
         Word::RTL => {

@@ -10,7 +10,7 @@ const BEFORE: u8 = 0x5A;
 
 /// The lines of routines in an image at a base.
 fn lines(base: u32, routines: &[(u32, u8)]) -> String {
-    let line = |&(at, mark): &(u32, u8)| start_line((base & 0xFFFF) + at, mark);
+    let line = |&(at, mark): &(u32, u8)| start_line(base + at, mark);
     routines.iter().map(line).collect()
 }
 
@@ -26,7 +26,7 @@ fn refused(number: u64, image: &[u8], base: u32, reset: u32, text: &str) {
     let (answer, marks) = build(image, base, reset, text);
     assert_eq!(
         answer, number,
-        "{image:02X?} {base:06X} {reset:04X} {text:?}"
+        "{image:02X?} {base:06X} {reset:06X} {text:?}"
     );
     assert!(marks.iter().all(|&m| m == BEFORE), "{image:02X?} {text:?}");
 }
@@ -49,16 +49,20 @@ fn lists_are_in_01s_line_form() {
     let image = [
         0xEA, 0xEA, 0x20, 0x0A, 0xC0, 0x22, 0x0B, 0xC0, 0x12, 0xDB, 0x60, 0x6B,
     ];
-    let text = "C00A\t0\t0\tS\t0\t0\nC00B\t0\t0\tL\t0\t0\n";
+    let text = "12C00A\t0\t0\tS\t0\t0\n12C00B\t0\t0\tL\t0\t0\n";
     let least = vec![1, 1, 1, 0, 0, 1, 0, 0, 0, 1, 0x09, 0x11];
-    assert_eq!(build(&image, 0x12_C000, 0xC000, text), (0, least));
+    let built = (0, least);
+    assert_eq!(build(&image, 0x12_C000, 0x12_C000, text), built);
+    let old = text.replace("12C", "C");
+    assert_eq!(build(&image, 0x12_C000, 0x12_C000, &old), built);
     // Each field has its bit.
     let image = [0xDB; 8];
-    let text =
-        "0101\t1\t0\tN\t0\t0\n0102\t0\t1\tN\t0\t0\n0103\t0\t0\tS\t0\t0\n0104\t0\t0\tL\t0\t0\n\
-0105\t0\t0\tS\t1\t0\n0106\t0\t0\tL\t0\t1\n0107\t1\t1\tL\t1\t1\n";
-    let least = vec![0x01, 0x03, 0x05, 0x09, 0x11, 0x29, 0x51, 0x77];
-    assert_eq!(build(&image, 0x7F_0100, 0x0100, text), (0, least));
+    let text = "7F0101\t1\t0\tN\t0\t0\n7F0102\t0\t1\tN\t0\t0\n7F0103\t0\t0\tS\t0\t0\n\
+7F0104\t0\t0\tL\t0\t0\n7F0105\t0\t0\tS\t1\t0\n7F0106\t0\t0\tL\t0\t1\n7F0107\t1\t1\tL\t1\t1\n";
+    let built = (0, vec![0x01, 0x03, 0x05, 0x09, 0x11, 0x29, 0x51, 0x77]);
+    assert_eq!(build(&image, 0x7F_0100, 0x7F_0100, text), built);
+    let old = text.replace("7F", "");
+    assert_eq!(build(&image, 0x7F_0100, 0x7F_0100, &old), built);
 }
 
 /// The marks are filled whole, whatever they hold; so nothing is taken from
@@ -73,9 +77,12 @@ fn marks_are_filled_whole() {
     }
 }
 
-/// A second reader of routine lists: addresses and marks, if the text is one.
-pub fn listed(text: &[u8]) -> Option<Vec<(u32, u8)>> {
+/// A second reader of routine lists: whole addresses and marks, if the text is
+/// one; those in four digits lie in the base's bank.
+pub fn listed(text: &[u8], base: u32) -> Option<Vec<(u32, u8)>> {
     let text = std::str::from_utf8(text).ok()?;
+    let digits = text.find('\t').unwrap_or(6);
+    let bank = if digits == 4 { base >> 16 } else { 0 };
     let mut routines: Vec<(u32, u8)> = Vec::new();
     for line in text.split_inclusive('\n') {
         let fields: Vec<&str> = line.strip_suffix('\n')?.split('\t').collect();
@@ -83,7 +90,7 @@ pub fn listed(text: &[u8]) -> Option<Vec<(u32, u8)>> {
             return None;
         };
         let is_digit = |c: char| c.is_ascii_digit() || ('A'..='F').contains(&c);
-        if address.len() != 4 || !address.chars().all(is_digit) {
+        if ![4, 6].contains(&digits) || address.len() != digits || !address.chars().all(is_digit) {
             return None;
         }
         let bit = |field: &str| ["0", "1"].iter().position(|b| *b == field);
@@ -93,7 +100,7 @@ pub fn listed(text: &[u8]) -> Option<Vec<(u32, u8)>> {
             return None;
         }
         let mark = 1 + 2 * bit(m)? + 4 * bit(x)? + 8 * kind + 32 * return_m + 64 * return_x;
-        let address = u32::from_str_radix(address, 16).ok()?;
+        let address = u32::from_str_radix(address, 16).ok()? + (bank << 16);
         if routines.last().is_some_and(|last| last.0 >= address) {
             return None;
         }
@@ -106,19 +113,19 @@ pub fn listed(text: &[u8]) -> Option<Vec<(u32, u8)>> {
 fn agrees_on_text(text: &[u8]) -> u64 {
     let (base, length) = (0x12_C0F8, 32);
     let mut marks = vec![BEFORE; length];
-    let answer = build_marks(&[0xDB; 32], base, 0xC0FF, text, &mut marks);
+    let answer = build_marks(&[0xDB; 32], base, 0x12_C0FF, text, &mut marks);
     let mut least = vec![0; length];
     least[7] = 1;
     let fits = |&(address, mark): &(u32, u8)| {
-        let inside = (0xC0F8..0xC118).contains(&address);
-        inside && (address != 0xC0FF || mark == 1)
+        let inside = (base..base + 32).contains(&address);
+        inside && (address != 0x12_C0FF || mark == 1)
     };
-    let expected = match listed(text) {
+    let expected = match listed(text, base) {
         None => 14,
         Some(routines) if !routines.iter().all(fits) => 17,
         Some(routines) => {
             for (address, mark) in routines {
-                least[address as usize - 0xC0F8] = mark;
+                least[(address - base) as usize] = mark;
             }
             0
         }
@@ -134,11 +141,17 @@ fn agrees_on_text(text: &[u8]) -> u64 {
 }
 
 /// Each byte of a list replaced by each other, each byte put in at each
-/// place, a byte left out, the text cut off and begun there.
+/// place, a byte left out, the text cut off and begun there; in six digits and
+/// in four.
 #[test]
 fn a_list_damaged_everywhere() {
-    let text = lines(0xC0F8, &[(1, 0x01), (7, 0x01), (8, 0x2F), (31, 0x71)]);
-    let text = text.as_bytes();
+    let whole = lines(0x12_C0F8, &[(1, 0x01), (7, 0x01), (8, 0x2F), (31, 0x71)]);
+    let old = whole.replace("12C", "C");
+    damaged_everywhere(whole.as_bytes());
+    damaged_everywhere(old.as_bytes());
+}
+
+fn damaged_everywhere(text: &[u8]) {
     let mut seen = BTreeSet::new();
     for at in 0..=text.len() {
         let (front, rest) = text.split_at(at);
@@ -154,57 +167,84 @@ fn a_list_damaged_everywhere() {
     assert_eq!(seen, BTreeSet::from([0, 14, 17]));
 }
 
-/// Lines that are not quite in form, before a good one, between and behind.
+/// Lines that are not quite in form, before a good one, between and behind, in
+/// four digits and in six.
 #[test]
 fn malformed_lines_are_14() {
     let good = ["C0FA\t0\t0\tN\t0\t0\n", "C110\t1\t0\tS\t0\t1\n"];
-    assert_eq!(agrees_on_text(good.concat().as_bytes()), 0);
-    for line in [
-        "\n",
-        "\r\n",
-        " \n",
-        "\t\n",
-        "I\t12C0F8\t32\tC0FF\n",
-        "I\n",
-        "C100",
-        "C100\n",
-        "C100\t0\t0\tN\t0\t0",
-        "C100\t0\t0\tN\t0\t0\r\n",
-        "C100\t0\t0\tN\t0\t0\t\n",
-        "C100\t0\t0\tN\t0\t0 \n",
-        "C100\t0\t0\tN\t0\n",
-        "C100\t0\t0\tN\t0\t0\t0\n",
-        "C100 0 0 N 0 0\n",
-        "C100,0,0,N,0,0\n",
-        "c100\t0\t0\tN\t0\t0\n",
-        "C10O\t0\t0\tN\t0\t0\n",
-        "100\t0\t0\tN\t0\t0\n",
-        "0C100\t0\t0\tN\t0\t0\n",
-        "12C100\t0\t0\tN\t0\t0\n",
-        "C100\t2\t0\tN\t0\t0\n",
-        "C100\t0\t2\tN\t0\t0\n",
-        "C100\t00\t0\tN\t0\t0\n",
-        "C100\t\t0\tN\t0\t0\n",
-        "C100\t0\t0\tn\t0\t0\n",
-        "C100\t0\t0\tH\t0\t0\n",
-        "C100\t0\t0\t0\t0\t0\n",
-        "C100\t0\t0\tSL\t0\t0\n",
-        "C100\t0\t0\tN\t1\t0\n",
-        "C100\t0\t0\tN\t0\t1\n",
-        "C100\t0\t0\tS\t2\t0\n",
-        "C100\t0\t0\tS\t0\t2\n",
-        "C100\t0\t0\tS\t1\n",
-    ] {
-        for text in [
-            line.to_string(),
-            [line, good[0], good[1]].concat(),
-            [good[0], line, good[1]].concat(),
-            [good[0], good[1], line].concat(),
-        ] {
-            assert_eq!(agrees_on_text(text.as_bytes()), 14, "{text:?}");
+    let whole = |text: String| text.replace("C0FA", "12C0FA").replace("C1", "12C1");
+    let old = |text: String| text;
+    for written in [whole as fn(String) -> String, old] {
+        assert_eq!(agrees_on_text(written(good.concat()).as_bytes()), 0);
+        for line in LINES {
+            for text in [
+                line.to_string(),
+                [line, good[0], good[1]].concat(),
+                [good[0], line, good[1]].concat(),
+                [good[0], good[1], line].concat(),
+            ] {
+                let text = written(text);
+                assert_eq!(agrees_on_text(text.as_bytes()), 14, "{text:?}");
+            }
         }
     }
 }
+
+/// Four digits and six in one list, at each place; other counts of digits.
+#[test]
+fn mixtures_are_14() {
+    let addresses = ["C0FA", "C100", "C110"];
+    for chosen in 0..8 {
+        let line = |k: usize| match chosen >> k & 1 {
+            0 => format!("{}\t0\t0\tS\t0\t0\n", addresses[k]),
+            _ => format!("12{}\t0\t0\tS\t0\t0\n", addresses[k]),
+        };
+        let text: String = (0..3).map(line).collect();
+        let number = if chosen == 0 || chosen == 7 { 0 } else { 14 };
+        assert_eq!(agrees_on_text(text.as_bytes()), number, "{text:?}");
+    }
+    for digits in 1..10 {
+        let text = format!("{:0digits$X}\t0\t0\tS\t0\t0\n", 0xF);
+        let number = if matches!(digits, 4 | 6) { 17 } else { 14 };
+        assert_eq!(agrees_on_text(text.as_bytes()), number, "{text:?}");
+    }
+}
+
+const LINES: [&str; 33] = [
+    "\n",
+    "\r\n",
+    " \n",
+    "\t\n",
+    "I\t12C0F8\t32\tC0FF\n",
+    "I\n",
+    "C100",
+    "C100\n",
+    "C100\t0\t0\tN\t0\t0",
+    "C100\t0\t0\tN\t0\t0\r\n",
+    "C100\t0\t0\tN\t0\t0\t\n",
+    "C100\t0\t0\tN\t0\t0 \n",
+    "C100\t0\t0\tN\t0\n",
+    "C100\t0\t0\tN\t0\t0\t0\n",
+    "C100 0 0 N 0 0\n",
+    "C100,0,0,N,0,0\n",
+    "c100\t0\t0\tN\t0\t0\n",
+    "C10O\t0\t0\tN\t0\t0\n",
+    "100\t0\t0\tN\t0\t0\n",
+    "0C100\t0\t0\tN\t0\t0\n",
+    "C100\t2\t0\tN\t0\t0\n",
+    "C100\t0\t2\tN\t0\t0\n",
+    "C100\t00\t0\tN\t0\t0\n",
+    "C100\t\t0\tN\t0\t0\n",
+    "C100\t0\t0\tn\t0\t0\n",
+    "C100\t0\t0\tH\t0\t0\n",
+    "C100\t0\t0\t0\t0\t0\n",
+    "C100\t0\t0\tSL\t0\t0\n",
+    "C100\t0\t0\tN\t1\t0\n",
+    "C100\t0\t0\tN\t0\t1\n",
+    "C100\t0\t0\tS\t2\t0\n",
+    "C100\t0\t0\tS\t0\t2\n",
+    "C100\t0\t0\tS\t1\n",
+];
 
 /// Strictly ascending: an address twice, with equal or other fields, and
 /// descending neighbours are 14, whether or not they are in the image.
@@ -217,6 +257,10 @@ fn unordered_lines_are_14() {
         ("FFFF", "FFFF"),
         ("FFFF", "0000"),
         ("0000", "0000"),
+        ("12C100", "12C100"),
+        ("12C101", "12C100"),
+        ("13C0FA", "12C100"),
+        ("FFFFFF", "000000"),
     ] {
         for rest in ["0\t0\tN\t0\t0\n", "0\t0\tS\t0\t0\n"] {
             let text = format!("{first}\t0\t0\tN\t0\t0\n{second}\t{rest}");
@@ -234,29 +278,35 @@ fn unordered_lines_are_14() {
 /// last byte of each.
 #[test]
 fn an_address_outside_is_17() {
-    for base in [0x00_0000, 0x00_0001, 0x12_C000, 0xFF_FFFB, 0xFF_FFFC] {
-        let first = base & 0xFFFFu32;
-        let inside = |address: u32| (first..first + 4).contains(&address);
-        let near = (0..8).map(|k| first.wrapping_add(k).wrapping_sub(2) & 0xFFFF);
-        for address in near.chain([0, 0x4000, 0xFFFF]) {
+    for base in [
+        0x00_0000, 0x00_0001, 0x00_FFFE, 0x12_C000, 0xFF_FFFB, 0xFF_FFFC,
+    ] {
+        let inside = |address: u32| (base..base + 4).contains(&address);
+        let near = (0..8).map(|k| base.wrapping_add(k).wrapping_sub(2) & 0xFF_FFFF);
+        let far = [0, 0x4000, base & 0xFFFF, base ^ 0x1_0000, 0xFF_FFFF];
+        for address in near.chain(far) {
             let text = start_line(address, 0x01);
-            let (answer, _) = build(&[0xDB; 4], base, first, &text);
+            let (answer, _) = build(&[0xDB; 4], base, base, &text);
             let expected = if inside(address) { 0 } else { 17 };
-            assert_eq!(answer, expected, "{base:06X} {address:04X}");
+            assert_eq!(answer, expected, "{base:06X} {address:06X}");
         }
+    }
+    // In four digits an address lies in the base's bank.
+    for (address, number) in [("BFFF", 17), ("C000", 0), ("C003", 0), ("C004", 17)] {
+        let text = format!("{address}\t0\t0\tN\t0\t0\n");
+        assert_eq!(build(&[0xDB; 4], 0x12_C000, 0x12_C000, &text).0, number);
     }
 }
 
 /// A reset outside the image is 17, also where its low 16 bits would not be.
 #[test]
 fn a_reset_outside_is_17() {
-    for base in [0x00_0000, 0x12_C000, 0xFF_FFFC] {
-        let first = base & 0xFFFFu32;
+    for base in [0x00_0000, 0x12_C000, 0x12_FFFE, 0xFF_FFFC] {
         for at in 0..4 {
-            assert_eq!(build(&[0xDB; 4], base, first + at, "").0, 0);
+            assert_eq!(build(&[0xDB; 4], base, base + at, "").0, 0);
         }
-        let beside = [first.wrapping_sub(1), first + 4, u32::MAX];
-        let other_bit = (16..32).map(|bit| first + 1 ^ 1 << bit);
+        let beside = [base.wrapping_sub(1), base + 4, u32::MAX];
+        let other_bit = (16..32).map(|bit| base + 1 ^ 1 << bit);
         for reset in beside.into_iter().chain(other_bit) {
             refused(17, &[0xDB; 4], base, reset, "");
             refused(17, &[0xDB; 4], base, reset, &lines(base, &[(1, 1)]));
@@ -285,7 +335,7 @@ fn as_many_as_256() {
         &image,
         0xC000,
         0xC000,
-        &format!("{all}FFFF\t0\t0\tN\t0\t0\n"),
+        &format!("{all}00FFFF\t0\t0\tN\t0\t0\n"),
     );
 }
 
@@ -299,9 +349,10 @@ fn a_malformed_line_is_14_wherever() {
         let text = lines(0xC000, &routines);
         for bad in [
             "\n",
-            "FFFF\t0\t0\tN\t1\t0\n",
-            "C001\t0\t0\tN\t0\t0\n",
-            "FFFF\t0\t0\tN\t0\t0",
+            "FFFFFF\t0\t0\tN\t1\t0\n",
+            "00C001\t0\t0\tN\t0\t0\n",
+            "FFFFFF\t0\t0\tN\t0\t0",
+            "FFFF\t0\t0\tN\t0\t0\n",
         ] {
             refused(14, &image, 0xC000, 0xC000, &format!("{text}{bad}"));
             refused(14, &image, 0xC000, 0xC000, &format!("{bad}{text}"));
@@ -324,8 +375,8 @@ fn numbers_in_their_order() {
     let too_many: String = (0xC000..0xC200).map(|a| start_line(a, 0x01)).collect();
     for text in ["", &outside, &too_many, &lines(0xC000, &[(0, 0x09)])] {
         // 1: no byte, one too many, marks of other lengths.
-        for base in [0xC000, 0xFFFF, 0x100_0000] {
-            for (image_len, marks_len) in [(0, 0), (0, 1), (16_385, 16_385), (4, 0), (4, 3), (4, 5)]
+        for base in [0xC000, 0xFF_FFFF, 0x100_0000] {
+            for (image_len, marks_len) in [(0, 0), (0, 1), (65_537, 65_537), (4, 0), (4, 3), (4, 5)]
             {
                 let image = vec![0xDB; image_len];
                 let mut marks = vec![BEFORE; marks_len];
@@ -336,38 +387,72 @@ fn numbers_in_their_order() {
                 assert!(marks.iter().all(|&m| m == BEFORE));
             }
         }
-        // 2: past a bank's end, above FFFFFF.
-        for base in [0xFFFD, 0xFFFF, 0xFF_FFFD, 0x100_0000, u32::MAX] {
-            for reset in [base & 0xFFFF, 0, u32::MAX] {
+        // 2: past FFFFFF, above it.
+        for base in [0xFF_FFFD, 0xFF_FFFF, 0x100_0000, u32::MAX] {
+            for reset in [base, 0, u32::MAX] {
                 refused(2, &[0xDB; 4], base, reset, text);
                 refused(2, &[0x00; 4], base, reset, text);
             }
-            refused(14, &[0xDB; 4], base, base & 0xFFFF, &format!("{text}\n"));
+            refused(14, &[0xDB; 4], base, base, &format!("{text}\n"));
         }
     }
 }
 
-/// Addresses in banks other than 0, up to a bank's end and to FFFFFF: calls
-/// and jumps stay in the bank, branches too.
+/// 2 for a list in four digits over a bank's end, before any 17: whatever the
+/// routines are, too many too. Behind 14 and 1. A list without lines has none.
+#[test]
+fn four_digits_over_a_banks_end_are_2() {
+    let many: String = (0..300).map(|a| start_line(a, 0x01)).collect();
+    let many = generate::routines_in(many.as_bytes(), |_| 4);
+    let many = String::from_utf8(many).unwrap();
+    for text in [
+        "FFFE\t0\t0\tN\t0\t0\n",
+        "0000\t0\t0\tN\t0\t0\n",
+        "8000\t1\t0\tS\t0\t0\n",
+        &many,
+    ] {
+        for base in [0xFFFD, 0xFFFF, 0x12_FFFE, 0xFE_FFFF, 0xFF_FFFD] {
+            for (reset, code) in [(base, 0xDB), (0, 0xDB), (u32::MAX, 0x00)] {
+                refused(2, &[code; 4], base, reset, text);
+                refused(14, &[code; 4], base, reset, &format!("{text}\n"));
+            }
+            let mut marks = [BEFORE; 3];
+            assert_eq!(
+                build_marks(&[0xDB; 4], base, 0, text.as_bytes(), &mut marks),
+                1
+            );
+        }
+        // Up to the bank's end it is read.
+        let (answer, _) = build(&[0xDB; 4], 0x12_FFFC, 0x12_FFFC, text);
+        assert_eq!(answer, if text.starts_with("FFFE") { 0 } else { 17 });
+    }
+    assert_eq!(build(&[0xDB; 4], 0x12_FFFE, 0x12_FFFE, "").0, 0);
+    assert_eq!(
+        build(&[0xDB; 4], 0x12_FFFE, 0x12_FFFF, &start_line(0x13_0001, 9)).0,
+        0
+    );
+}
+
+/// Addresses in banks other than 0, up to a bank's end and to FFFFFF.
 #[test]
 fn addresses_in_their_bank() {
     for base in [0x00_FFFB, 0x12_FFFB, 0xFF_FFFB] {
         let text = "FFFF\t0\t0\tS\t0\t0\n";
-        let built = build(&[0x20, 0xFF, 0xFF, 0xDB, 0x60], base, 0xFFFB, text);
+        let built = build(&[0x20, 0xFF, 0xFF, 0xDB, 0x60], base, base, text);
         assert_eq!(built, (0, vec![1, 0, 0, 1, 0x09]));
-        let built = build(&[0x4C, 0xFF, 0xFF, 0x00, 0xDB], base, 0xFFFB, "");
+        let built = build(&[0x4C, 0xFF, 0xFF, 0x00, 0xDB], base, base, "");
         assert_eq!(built, (0, vec![1, 0, 0, 0, 1]));
         // Straight on and by a branch past the end; back before the first.
-        refused(17, &[0xEA; 5], base, 0xFFFB, "");
-        refused(17, &[0xF0, 0x03, 0xDB, 0xDB, 0xDB], base, 0xFFFB, "");
-        refused(17, &[0x80, 0xFD, 0xDB, 0xDB, 0xDB], base, 0xFFFB, "");
+        refused(17, &[0xEA; 5], base, base, "");
+        refused(17, &[0xF0, 0x03, 0xDB, 0xDB, 0xDB], base, base, "");
+        refused(17, &[0x80, 0xFD, 0xDB, 0xDB, 0xDB], base, base, "");
     }
     for (bank, number) in [(0x12, 0), (0x11, 17), (0x13, 17), (0x00, 17), (0xFF, 17)] {
         let image = [0x22, 0xFF, 0xFF, bank, 0xDB, 0x6B];
         let text = "FFFF\t0\t0\tL\t0\t0\n";
-        assert_eq!(build(&image, 0x12_FFFA, 0xFFFA, text).0, number);
+        assert_eq!(build(&image, 0x12_FFFA, 0x12_FFFA, text).0, number);
         let image = [0x5C, 0xFF, 0xFF, bank, 0xDB, 0xDB];
-        assert_eq!(build(&image, 0x12_FFFA, 0xFFFA, "").0, number);
+        assert_eq!(build(&image, 0x12_FFFA, 0x12_FFFA, "").0, number);
     }
     // From 000000 back is FFFFFx, which is no byte of it.
     refused(17, &[0x80, 0xFD], 0, 0, "");
@@ -407,7 +492,7 @@ fn least_of(program: &CheckCase, listed: &[u8]) -> Vec<u8> {
         image, base, reset, ..
     } = program;
     assert_eq!(check(image, &marks, *base, *reset), 0);
-    let mut roots = BTreeSet::from([(reset - (base & 0xFFFF)) as usize]);
+    let mut roots = BTreeSet::from([(reset - base) as usize]);
     for (at, &mark) in listed.iter().enumerate().filter(|(_, m)| **m != 0) {
         assert_eq!(marks[at], mark);
         roots.insert(at);
@@ -470,11 +555,11 @@ fn every_code_leads_on() {
 fn the_longest_images() {
     let mut rng = Rng::new(64);
     for flow in [generate::straight, generate::backwards, generate::calling] {
-        let mut case = flow(&mut rng, 16_384);
+        let mut case = flow(&mut rng, 65_536);
         let (answer, marks) = case.answer();
         assert_eq!(answer, 0);
         assert_eq!(check(&case.image, &marks, case.base, case.reset), 0);
-        assert!(marks.iter().filter(|&&m| m != 0).count() > 4_000);
+        assert!(marks.iter().filter(|&&m| m != 0).count() > 16_000);
         case.image.push(0xDB);
         assert_eq!(case.answer().0, 1);
         case.marks.push(0);
@@ -482,14 +567,14 @@ fn the_longest_images() {
     }
     // Every byte a start, and both ways of branches wherever they lead.
     let (answer, marks) = build(
-        &[vec![0xEA; 16_383], vec![0xDB]].concat(),
+        &[vec![0xEA; 65_535], vec![0xDB]].concat(),
         0xC000,
         0xC000,
         "",
     );
-    assert_eq!((answer, marks), (0, vec![1; 16_384]));
-    let image = [[0xF0, 0x02].repeat(8_190), vec![0xDB; 4]].concat();
+    assert_eq!((answer, marks), (0, vec![1; 65_536]));
+    let image = [[0xF0, 0x02].repeat(32_766), vec![0xDB; 4]].concat();
     let (answer, marks) = build(&image, 0xC000, 0xC000, "");
     assert_eq!(answer, 0);
-    assert_eq!(marks.iter().filter(|&&m| m != 0).count(), 8_192);
+    assert_eq!(marks.iter().filter(|&&m| m != 0).count(), 32_768);
 }

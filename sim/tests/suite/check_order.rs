@@ -26,9 +26,11 @@ fn nops(length: usize) -> (Vec<u8>, Vec<u8>) {
 #[test]
 fn length_is_1_before_all() {
     assert_eq!(check(&[], &[], u32::MAX, u32::MAX), 1 << 16);
-    let (image, marks) = nops(16_384);
-    assert_eq!(check(&image, &marks, 0xC000, 0xC000), 0);
-    let (image, marks) = nops(16_385);
+    for length in [16_384, 16_385, 65_535, 65_536] {
+        let (image, marks) = nops(length);
+        assert_eq!(check(&image, &marks, 0xC000, 0xC000), 0);
+    }
+    let (image, marks) = nops(65_537);
     assert_eq!(check(&image, &marks, 0x8000, 0x8000), 1 << 16);
     let (image, marks) = nops(4);
     assert_eq!(check(&image, &marks[..3], u32::MAX, 0), 1 << 16);
@@ -39,13 +41,16 @@ fn length_is_1_before_all() {
 #[test]
 fn base_is_2_before_marks() {
     let (image, marks) = nops(4);
-    assert_eq!(check(&image, &marks, 0xFFFC, 0xFFFC), 0);
-    assert_eq!(check(&image, &marks, 0xFFFFFC, 0xFFFC), 0);
-    assert_eq!(check(&image, &marks, 0, 0), 0);
-    assert_eq!(check(&image, &[0xFF; 4], 0xFFFD, 0xFFFD), 2 << 16);
-    assert_eq!(check(&image, &marks, 0xFFFFFD, 0xFFFD), 2 << 16);
-    assert_eq!(check(&image, &marks, 0x1000000, 0), 2 << 16);
-    assert_eq!(check(&image, &marks, u32::MAX, 0), 2 << 16);
+    for base in [0, 0xFFFC, 0xFFFD, 0xFFFF, 0x12FFFE, 0xFFFFFC] {
+        assert_eq!(check(&image, &marks, base, base), 0, "{base:06X}");
+    }
+    for base in [0xFFFFFD, 0xFFFFFF, 0x1000000, 0x100C000, u32::MAX] {
+        assert_eq!(check(&image, &marks, base, base), 2 << 16);
+        assert_eq!(check(&image, &[0xFF; 4], base, 0), 2 << 16);
+    }
+    let (image, marks) = nops(65_536);
+    assert_eq!(check(&image, &marks, 0xFF0000, 0xFF0000), 0);
+    assert_eq!(check(&image, &marks, 0xFF0001, 0xFF0001), 2 << 16);
 }
 
 #[test]
@@ -71,6 +76,7 @@ fn reset_is_3_before_starts() {
         ([1, 1], 0xC002),
         ([1, 1], 0x1C000),
         ([1, 1], 0x10C000),
+        ([1, 1], 0x100C000),
         ([1, 1], u32::MAX),
         ([3, 1], 0xC000),
         ([5, 1], 0xC000),
@@ -79,8 +85,10 @@ fn reset_is_3_before_starts() {
     ] {
         assert_eq!(check(&image, &marks, 0xC000, reset), 3 << 16);
     }
-    // The reset address lies in the image's bank, and may be any start.
-    assert_eq!(check(&[0xDB, 0xDB], &[1, 1], 0x12C000, 0xC001), 0);
+    // The reset is a whole address, and may be any start.
+    for (reset, answer) in [(0x12C001, 0), (0xC001, 3 << 16), (0x13C001, 3 << 16)] {
+        assert_eq!(check(&[0xDB, 0xDB], &[1, 1], 0x12C000, reset), answer);
+    }
 }
 
 /// A lone prefix as the last byte is 6, an uncarried code is 5 also where
@@ -147,10 +155,10 @@ fn successors_stay_in_the_image() {
     refuses(&[0x5C, 0x00, 0xC0, 0x01], &[1, 0, 0, 0], 8, 0);
     accepts(&[0xDB], &[1]);
     accepts(&[0xCB], &[1]);
-    // JMP absolute stays in the bank; 24-bit wraps never reach the image.
-    assert_eq!(check(&[0x4C, 0, 0xC0], &[1, 0, 0], 0x12C000, 0xC000), 0);
-    assert_eq!(check(&[0xEA], &[1], 0xFFFFFF, 0xFFFF), 8 << 16);
-    assert_eq!(check(&[0x80, 0x00], &[1, 0], 0xFFFFFE, 0xFFFE), 8 << 16);
+    // JMP absolute has a bank; from FFFFFF on it goes to 000000.
+    assert_eq!(check(&[0x4C, 0, 0xC0], &[1, 0, 0], 0x12C000, 0x12C000), 0);
+    assert_eq!(check(&[0xEA], &[1], 0xFFFFFF, 0xFFFFFF), 8 << 16);
+    assert_eq!(check(&[0x80, 0x00], &[1, 0], 0xFFFFFE, 0xFFFFFE), 8 << 16);
     assert_eq!(check(&[0x80, 0x80], &[1, 0], 0, 0), 8 << 16);
 }
 

@@ -82,10 +82,10 @@ impl Case<'_> {
 
     /// Where a branch, jump or call goes.
     fn target(&self, mode: &str, bytes: &[u8], next: i64) -> i64 {
-        let bank = (self.base & 0xFF0000) as i64;
+        let bank = next % 0x1000000 / 0x10000 * 0x10000;
         let word_at = |k: usize| bytes[k] as i64 | (bytes[k + 1] as i64) << 8;
         match (mode, bytes.len()) {
-            ("ABS", 3) => bank | word_at(1),
+            ("ABS", 3) => bank + word_at(1),
             ("ABL", 4) => word_at(1) | (bytes[3] as i64) << 16,
             ("REL", 3) => next + word_at(1) - if bytes[2] >= 0x80 { 0x10000 } else { 0 },
             _ => {
@@ -199,13 +199,12 @@ impl Case<'_> {
                 all.extend(numbers.into_iter().map(|number| (number, offset)));
             }
         }
-        let place = reset as i64 + (self.base & 0xFF0000) as i64;
         let start = Mark {
             widths: (0, 0),
             kind: 0,
             at_return: (0, 0),
         };
-        if reset > 0xFFFF || self.at(place) != Some(start) {
+        if self.at(reset as i64) != Some(start) {
             all.insert((3, 0));
         }
         all
@@ -235,7 +234,7 @@ fn agree(map: &[Line], image: &[u8], marks: &[u8], base: u32, reset: u32) -> u32
     let expected = first(&case.broken(reset));
     assert_eq!(
         answer, expected,
-        "{image:02X?} {marks:02X?} {base:06X} {reset:04X}"
+        "{image:02X?} {marks:02X?} {base:06X} {reset:06X}"
     );
     answer
 }
@@ -323,11 +322,23 @@ fn drawn_small_markings() {
         if rng.chance(1, 20) {
             marks[rng.below(length as u64) as usize] = rng.byte();
         }
-        let base = *rng.pick(&[0xC000, 0, 0x12FFF0, 0xFFFFF0]);
-        let reset = (base & 0xFFFF) + rng.below(2) as u32;
+        let base = *rng.pick(&[0xC000, 0, 0x12FFF0, 0x12FFFE, 0xFFFD, 0xFFFFF0]);
+        let reset = base + rng.below(2) as u32;
         seen.insert(agree(&map, &image, &marks, base, reset) >> 16);
     }
     assert_eq!(seen, BTreeSet::from([0, 3, 4, 5, 6, 7, 8, 9, 10]));
+}
+
+/// Programs around the ends of banks, whole and changed.
+#[test]
+fn cases_around_bank_ends() {
+    let map = code_map();
+    let mut seen = BTreeSet::new();
+    for case in generate::bank_checks() {
+        let answer = agree(&map, &case.image, &case.marks, case.base, case.reset);
+        seen.insert(answer >> 16);
+    }
+    assert_eq!(seen, BTreeSet::from([0, 3, 8, 9]));
 }
 
 /// The generator's cases, where their lengths are good.

@@ -59,12 +59,13 @@ fn branches_cross_banks_and_wrap() {
     goes_to(&[0xA9, 0, 0], 0x1FFFD, Z, 0x20000);
 }
 
-/// JMP absolute stays in the instruction's bank, also at the bank's end;
-/// the manual's example of JMP long is 5C 56 34 12.
+/// JMP absolute has the bank of the address just after it (02, R-7); the
+/// manual's example of JMP long is 5C 56 34 12.
 #[test]
 fn jumps_replace_pc_or_both() {
     goes_to(&[0x4C, 0x34, 0x12], 0x5C000, 0, 0x51234);
-    goes_to(&[0x4C, 0x34, 0x12], 0x5FFFD, 0, 0x51234);
+    goes_to(&[0x4C, 0x34, 0x12], 0x5FFFC, 0, 0x51234);
+    goes_to(&[0x4C, 0x34, 0x12], 0x5FFFD, 0, 0x61234);
     goes_to(&[0x5C, 0x56, 0x34, 0x12], 0xC000, 0, 0x123456);
     goes_to(&[0x5C, 0x56, 0x34, 0x12], 0xFFFFFC, 0, 0x123456);
 }
@@ -87,20 +88,20 @@ fn jsr_long_pushes_the_bank_first() {
     assert_eq!(bench.calls, [(0x5C004, 2)]);
 }
 
-/// At a bank's end the instruction behind lies in the next bank: JSR's
-/// target stays in the instruction's bank, its return address does not, and
-/// an RTS in that bank finds another address than the open call's.
+/// At a bank's end the instruction behind lies in the next bank: JSR's target
+/// and its return address do too, and an RTS there fits.
 #[test]
 fn calls_at_a_bank_end() {
-    let mut image = vec![0xEA; 0x10];
-    image[0] = 0x60;
-    image[13..].copy_from_slice(&[0x20, 0xF0, 0xFF]);
-    let mut bench = Bench::at(0x5FFF0, &image);
-    bench.r.pc = 0x5FFFD;
+    let mut bench = Bench::at(0x5FFFD, &[0x20, 0x02, 0x00, 0xDB, 0xEA, 0x60]);
     assert_eq!(bench.run(1), (0, 1, 1));
     assert_eq!(bench.calls, [(0x60000, 1)]);
-    assert_eq!(bench.r.pc, 0x5FFF0);
-    bench.stops(24);
+    assert_eq!(bench.r.pc, 0x60002);
+    assert_eq!(bench.ram[0x1FE..0x200], [0, 0]);
+    assert_eq!(bench.run(9), (22, 1, 0));
+    assert_eq!(bench.r.pc, 0x60000);
+    let mut wrapped = Bench::at(0xFFFFFD, &[0x20, 0x34, 0x12]);
+    assert_eq!(wrapped.run(1), (0, 1, 1));
+    assert_eq!((wrapped.r.pc, wrapped.calls), (0x1234, vec![(0, 1)]));
     let mut long = Bench::at(0x5FFFC, &[0x22, 0, 0, 6]);
     assert_eq!(long.run(1), (0, 1, 1));
     assert_eq!(long.ram[0x1FD..0x200], [0, 0, 6]);
@@ -127,15 +128,25 @@ fn returns_pull_what_was_pushed() {
     assert_eq!(rtl.calls, []);
 }
 
-/// RTS as a bank's last byte stays in that bank.
+/// RTS has the bank of the address just after it: as a bank's last byte the
+/// next one, as FFFFFF's instruction bank 0.
 #[test]
-fn rts_at_a_bank_end_stays() {
-    let mut rts = Bench::at(0x5FFFF, &[0x60]);
-    rts.r.s = 0x80;
-    rts.ram[0x81..0x83].copy_from_slice(&[0x34, 0x12]);
-    rts.calls = vec![(0x51234, 1)];
-    assert_eq!(rts.run(1), (0, 1, 0));
-    assert_eq!(rts.r.pc, 0x51234);
+fn rts_in_the_last_and_the_first_byte_of_a_bank() {
+    for (at, bank, other) in [
+        (0x5FFFE, 5, 6),
+        (0x5FFFF, 6, 5),
+        (0x60000, 6, 5),
+        (0xFFFFFF, 0, 0xFF),
+    ] {
+        let mut rts = Bench::at(at, &[0x60]);
+        rts.r.s = 0x80;
+        rts.ram[0x81..0x83].copy_from_slice(&[0x34, 0x12]);
+        rts.calls = vec![(other << 16 | 0x1234, 1)];
+        rts.stops(24);
+        rts.calls = vec![(bank << 16 | 0x1234, 1)];
+        assert_eq!(rts.run(1), (0, 1, 0));
+        assert_eq!(rts.r.pc, bank << 16 | 0x1234);
+    }
 }
 
 /// Calls down to 24 and back, counted in the answer.

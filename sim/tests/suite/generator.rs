@@ -461,8 +461,9 @@ fn continued_runs_continue() {
     assert!(refused > 50 && steps > 1_000, "{refused} and {steps}");
 }
 
-/// Of the texts that are not quite lists few are read: the list itself, and
-/// it with other widths or without a line. None is there twice.
+/// Of the texts that are not quite lists few are read: the list itself in six
+/// digits and in four, and it with other widths or without a line. None is there
+/// twice.
 #[test]
 fn out_of_form_is_mostly_14() {
     let mut count = BTreeMap::new();
@@ -471,7 +472,7 @@ fn out_of_form_is_mostly_14() {
         *count.entry(case.answer().0 as u8).or_insert(0) += 1;
         seen.insert((case.text, case.marks_len));
     }
-    assert!(count[&14] > 250 && count[&0] >= 5, "{count:?}");
+    assert!(count[&14] > 500 && count[&0] >= 10, "{count:?}");
     assert!(count[&1] >= 8 && count[&3] >= 1, "{count:?}");
-    assert!(seen.len() + 60 > count.values().sum::<usize>(), "{count:?}");
+    assert_eq!(seen.len(), count.values().sum::<usize>());
 }

@@ -21,16 +21,18 @@ fn each_marking(choices: &[Vec<u8>], visit: &mut impl FnMut(&[u8])) {
     from(0, &mut vec![0; choices.len()], choices, visit)
 }
 
-/// An image of a few bytes at 00C000.
+/// An image of a few bytes.
 struct Tiny<'a> {
     image: &'a [u8],
+    base: u32,
     /// The offset of the reset.
     reset: usize,
 }
 
 impl Tiny<'_> {
     fn is_accepted(&self, marking: &[u8]) -> bool {
-        check(self.image, marking, 0xC000, 0xC000 + self.reset as u32) == 0
+        let reset = self.base + self.reset as u32;
+        check(self.image, marking, self.base, reset) == 0
     }
 
     /// All markings of good form that pass the check, however many there are
@@ -51,16 +53,19 @@ impl Tiny<'_> {
     fn fits(&self, marking: &[u8], listed: &[u8]) -> bool {
         let held = listed.iter().zip(marking).all(|(&l, &m)| l == 0 || l == m);
         let calls = (0..marking.len()).filter(|&at| marking[at] != 0);
-        held && calls.into_iter().all(|at| match self.image[at] {
-            0x20 => self.is_listed(&self.image[at + 1..at + 3], listed),
-            0x22 => self.image[at + 3] == 0 && self.is_listed(&self.image[at + 1..at + 3], listed),
+        held && calls.into_iter().all(|at| match self.image[at..] {
+            [0x20, low, high, ..] => {
+                let next = self.base + at as u32 + 3;
+                self.is_listed([low, high, (next >> 16) as u8], listed)
+            }
+            [0x22, low, high, bank, ..] => self.is_listed([low, high, bank], listed),
             _ => true,
         })
     }
 
-    fn is_listed(&self, target: &[u8], listed: &[u8]) -> bool {
-        let address = u16::from_le_bytes([target[0], target[1]]);
-        let offset = address.wrapping_sub(0xC000) as usize;
+    fn is_listed(&self, [low, high, bank]: [u8; 3], listed: &[u8]) -> bool {
+        let address = u32::from_le_bytes([low, high, bank, 0]);
+        let offset = address.wrapping_sub(self.base) as usize;
         listed.get(offset).is_some_and(|&mark| mark != 0)
     }
 
@@ -69,8 +74,8 @@ impl Tiny<'_> {
         let program = CheckCase {
             image: self.image.to_vec(),
             marks: Vec::new(),
-            base: 0xC000,
-            reset: 0xC000 + self.reset as u32,
+            base: self.base,
+            reset: self.base + self.reset as u32,
         };
         let case = BuildCase::listing(program, listed);
         match case.answer() {
@@ -149,8 +154,8 @@ const ALPHABET: [u8; 16] = [
     0xDB, 0xEA, 0xF8, 0xD8, 0xE2, 0x30, 0x60, 0x6B, 0x80, 0xF0, 0xFE, 0x00, 0x01, 0xA9, 0x42, 0xC2,
 ];
 
-/// Images of two bytes with each reset, and all of one byte, with every list
-/// that there is: no routine, or one of any form, on each byte.
+/// Images of two bytes across a bank's end with each reset, and all of one byte,
+/// with every list that there is: no routine, or one of any form, on each byte.
 #[test]
 fn all_lists_of_two_bytes() {
     let good = good_marks();
@@ -160,6 +165,7 @@ fn all_lists_of_two_bytes() {
             let image = [first, second];
             let tiny = Tiny {
                 image: &image,
+                base: 0xFFFF,
                 reset,
             };
             let accepted = tiny.accepted();
@@ -172,6 +178,7 @@ fn all_lists_of_two_bytes() {
     for byte in 0..=255 {
         let tiny = Tiny {
             image: &[byte],
+            base: 0xFFFF,
             reset: 0,
         };
         let accepted = tiny.accepted();
@@ -210,6 +217,7 @@ fn all_markings_of_three_and_four_bytes() {
         };
         let tiny = Tiny {
             image: &image,
+            base: *rng.pick(&[0xC000, 0x12_FFFE]),
             reset,
         };
         let accepted = tiny.accepted();
@@ -226,18 +234,21 @@ fn all_markings_of_three_and_four_bytes() {
 
 /// A call takes five bytes at least: its own three, the one after and the
 /// target's, or the reset's before a routine that calls itself. Such images,
-/// their target on the list so or otherwise.
+/// their target on the list so or otherwise; also across a bank's end.
 #[test]
 fn calls_in_five_bytes() {
     let mut rng = Rng::new(67);
     let (mut built, mut refused) = (0, 0);
-    for _ in 0..200 {
+    for _ in 0..500 {
+        let base: u32 = *rng.pick(&[0xC000, 0xFFFD, 0xFFFE, 0x12_FFFC]);
         let target = *rng.pick(&[1, 3, 4, 4, 4, 4]);
+        let [low, high, ..] = (base + target).to_le_bytes();
+        let [first_low, first_high, ..] = (base + 1).to_le_bytes();
         let last = *rng.pick(&[0xDB, 0xDB, 0x60, 0x60, 0xF8, 0x6B]);
         let stop = *rng.pick(&[0xDB, 0xDB, 0xDB, 0xEA, 0xF8]);
         let image = match rng.chance(2, 3) {
-            true => [0x20, target, 0xC0, stop, last],
-            false => [stop, 0x20, 1, 0xC0, last],
+            true => [0x20, low, high, stop, last],
+            false => [stop, 0x20, first_low, first_high, last],
         };
         let reset = if rng.chance(1, 8) { rng.index(5) } else { 0 };
         let mut listed = [0; 5];
@@ -249,6 +260,7 @@ fn calls_in_five_bytes() {
         }
         let tiny = Tiny {
             image: &image,
+            base,
             reset,
         };
         match agree_by_choices(&tiny, &listed) {
@@ -259,17 +271,18 @@ fn calls_in_five_bytes() {
     assert!(built > 20 && refused > 50, "{built} and {refused}");
 }
 
-/// The reset's offset and the routines' marks of a case at 00C000, if it has
-/// few bytes that neither of them hold and would be refused with 17 alone.
+/// The reset's offset and the routines' marks of a case, if it has few bytes
+/// that neither of them hold and would be refused with 17 alone.
 fn few_free(case: &BuildCase) -> Option<(usize, Vec<u8>)> {
     let length = case.image.len();
-    let reset = case.reset.checked_sub(0xC000)? as usize;
-    if case.base != 0xC000 || case.marks.len() != length || !(3..10).contains(&length) {
+    let reset = case.reset.checked_sub(case.base)? as usize;
+    let placed = case.base.checked_add(length as u32)? <= 0x100_0000;
+    if !placed || case.marks.len() != length || !(3..10).contains(&length) {
         return None;
     }
     let mut marks = vec![0; length];
-    for (address, mark) in listed(&case.routines)? {
-        *marks.get_mut(address.checked_sub(0xC000)? as usize)? = mark;
+    for (address, mark) in listed(&case.routines, case.base)? {
+        *marks.get_mut(address.checked_sub(case.base)? as usize)? = mark;
     }
     let free = (0..length).filter(|&at| at != reset && marks[at] == 0);
     (reset < length && free.count() <= 3).then_some((reset, marks))
@@ -287,8 +300,8 @@ fn drawn_cases_by_their_meaning() {
         let Some((reset, marks)) = few_free(&case) else {
             continue;
         };
-        let image = &case.image;
-        match agree_by_choices(&Tiny { image, reset }, &marks) {
+        let (image, base) = (&case.image, case.base);
+        match agree_by_choices(&Tiny { image, base, reset }, &marks) {
             true => built += 1,
             false => refused += 1,
         }
@@ -304,7 +317,12 @@ fn hand_made_cases_by_their_meaning() {
         let (image, listed) = (made.image, made.listed());
         let free = (1..image.len()).filter(|&at| listed[at] == 0).count();
         if free <= 4 {
-            let built = agree_by_choices(&Tiny { image, reset: 0 }, &listed);
+            let tiny = Tiny {
+                image,
+                base: 0xC000,
+                reset: 0,
+            };
+            let built = agree_by_choices(&tiny, &listed);
             assert_eq!(built, made.least.is_some());
             tried += 1;
         }
@@ -318,6 +336,7 @@ fn hand_made_cases_by_their_meaning() {
 fn without_the_list_there_is_no_least() {
     let tiny = Tiny {
         image: &[0x20, 0x04, 0xC0, 0xDB, 0xDB],
+        base: 0xC000,
         reset: 0,
     };
     assert!(tiny.is_accepted(&[1, 0, 0, 1, 0x09]));

@@ -43,7 +43,7 @@ const WHERE: [(u32, u32); 15] = [
 /// Asks for addresses in that image at a base, with so many places.
 fn ask(base: u32, addresses: &[u32], places_len: usize) -> (u64, Vec<u32>) {
     let mut places = vec![BEFORE; places_len];
-    let reset = (base & 0xFFFF) + 3;
+    let reset = base + 3;
     let answer = locate(&IMAGE, &MARKS, base, reset, addresses, &mut places);
     (answer, places)
 }
@@ -57,8 +57,10 @@ fn wanted(base: u32) -> Vec<u32> {
     WHERE.iter().map(place).collect()
 }
 
-/// Within a bank, up to its end, up to FFFFFF, and from 000000.
-const BASES: [u32; 5] = [0x00_0000, 0x00_C000, 0x12_FFF1, 0x13_0000, 0xFF_FFF1];
+/// Within a bank, up to its end, across it, up to FFFFFF, and from 000000.
+const BASES: [u32; 7] = [
+    0x00_0000, 0x00_C000, 0x12_FFF1, 0x12_FFF6, 0x12_FFFF, 0x13_0000, 0xFF_FFF1,
+];
 
 #[test]
 fn starts_later_bytes_gaps_and_bytes_below() {
@@ -263,16 +265,16 @@ fn the_checks_own_refusals_go_first() {
 /// refusal there.
 #[test]
 fn the_longest_image() {
-    let mut image = vec![0xEA; 16_384];
-    image[16_383] = 0xDB;
-    let marks = vec![1; 16_384];
+    let mut image = vec![0xEA; 65_536];
+    image[65_535] = 0xDB;
+    let marks = vec![1; 65_536];
     let mut places = [BEFORE];
     let mut ask = |image: &[u8]| {
         let addresses = [0xFF_FFFF];
-        locate(image, &marks, 0xFF_C000, 0xC000, &addresses, &mut places)
+        locate(image, &marks, 0xFF_0000, 0xFF_0000, &addresses, &mut places)
     };
-    assert_eq!(ask(&image), 16_384 << 8);
-    image[16_383] = 0x00;
-    assert_eq!(ask(&image), 5 | 16_383 << 8);
+    assert_eq!(ask(&image), 65_536 << 8);
+    image[65_535] = 0x00;
+    assert_eq!(ask(&image), 5 | 65_535 << 8);
     assert_eq!(places, [0x1FF_FFFF]);
 }

@@ -2,12 +2,14 @@
 
 mod addressing;
 mod arithmetic;
+mod banks;
 mod build;
 mod check_order;
 mod check_rules;
 mod codemap;
 mod common;
 mod depth;
+mod digits;
 mod flags_and_bits;
 mod flow;
 mod generator;

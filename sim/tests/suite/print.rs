@@ -10,7 +10,7 @@ use std::collections::{BTreeMap, BTreeSet};
 fn printed(image: &[u8], marks: &[u8], base: u32) -> String {
     let rows = marks.iter().filter(|m| **m != 0).count();
     let mut page = vec![0x55; 36 * rows];
-    let answer = print(image, marks, base, base & 0xFFFF, &mut page);
+    let answer = print(image, marks, base, base, &mut page);
     assert_eq!(answer, 36 * rows as u64 * 256, "{image:02X?}");
     String::from_utf8(page).unwrap()
 }
@@ -109,7 +109,9 @@ fn addresses_have_six_digits() {
     for (base, first, last) in [
         (0x00_0000, "000000", "000003"),
         (0x00_FFFC, "00FFFC", "00FFFF"),
+        (0x00_FFFD, "00FFFD", "010000"),
         (0x01_0000, "010000", "010003"),
+        (0x12_FFFF, "12FFFF", "130002"),
         (0x9A_BCDE, "9ABCDE", "9ABCE1"),
         (0xFF_FFFC, "FFFFFC", "FFFFFF"),
     ] {
@@ -262,17 +264,19 @@ fn pages_short_exact_and_long() {
     }
 }
 
-/// 16,384 rows, exact and a byte short.
+/// 65,536 rows, exact and a byte short.
 #[test]
 fn the_longest_page() {
-    let mut image = vec![0xEA; 16_384];
-    image[16_383] = 0xDB;
-    let marks = vec![1; 16_384];
-    let page = printed(&image, &marks, 0xFF_C000);
-    assert_eq!(page.len(), 589_824);
-    assert!(page.ends_with("FFFFFF DB                STP  0 0 N\n"));
-    let mut short = vec![0x55; 589_823];
-    assert_eq!(print(&image, &marks, 0xFF_C000, 0xC000, &mut short), 15);
+    let mut image = vec![0xEA; 65_536];
+    image[65_535] = 0xDB;
+    let marks = vec![1; 65_536];
+    for (base, last) in [(0xFF_0000, "FFFFFF"), (0x12_8000, "137FFF")] {
+        let page = printed(&image, &marks, base);
+        assert_eq!(page.len(), 2_359_296);
+        assert!(page.ends_with(&format!("{last} DB                STP  0 0 N\n")));
+    }
+    let mut short = vec![0x55; 2_359_295];
+    assert_eq!(print(&image, &marks, 0xFF_0000, 0xFF_0000, &mut short), 15);
     assert!(short.iter().all(|&b| b == 0x55));
 }
 
@@ -281,12 +285,13 @@ fn the_longest_page() {
 pub type Refused = (&'static [u8], &'static [u8], u32, u32, u64);
 
 #[rustfmt::skip]
-pub const REFUSED: [Refused; 14] = [
+pub const REFUSED: [Refused; 15] = [
     (&[],                        &[],              0xC000,     0xC000,   1),
     (&[0xDB],                    &[1, 0],          u32::MAX,   0xC000,   1),
-    (&[0xEA, 0xDB],              &[1, 1],          0xFFFF,     0xFFFF,   2),
+    (&[0xEA, 0xDB],              &[1, 1],          0xFF_FFFF,  0xFF_FFFF, 2),
     (&[0xDB],                    &[1],             0x100_0000, 0,        2),
     (&[0xDB],                    &[1],             0xC000,     0x1_C000, 3),
+    (&[0xDB],                    &[1],             0xC000,     0x100_C000, 3),
     (&[0xDB],                    &[1],             0xC000,     0xC001,   3),
     (&[0xDB, 0xDB, 0xDB],        &[1, 0, 0x81],    0xC000,     0xC001,   4 | 2 << 8),
     (&[0xEA, 0x00],              &[1, 1],          0xC000,     0xC000,   5 | 1 << 8),
@@ -313,8 +318,9 @@ fn the_checks_own_refusals_go_first() {
 /// An offset past 255 has its bits above 16 too.
 #[test]
 fn offsets_of_16_bits() {
-    let mut image = vec![0xEA; 16_384];
-    image[16_383] = 0x00;
-    let answer = print(&image, &vec![1; 16_384], 0x12_0000, 0, &mut []);
-    assert_eq!(answer, 5 | 16_383 << 8);
+    let mut image = vec![0xEA; 65_536];
+    image[65_535] = 0x00;
+    let marks = vec![1; 65_536];
+    let answer = print(&image, &marks, 0x12_8000, 0x12_8000, &mut []);
+    assert_eq!(answer, 5 | 65_535 << 8);
 }

@@ -87,8 +87,8 @@ fn files_and_their_limits() {
     assert_eq!(program(&none, &list), "L\n");
     assert_eq!(program(&image, &none), "L\n");
     assert_eq!(program(&image, &std::env::temp_dir()), "L\n");
-    let longest = file("longest", &[0xEA; 16_384]);
-    let too_long = file("too-long", &[0xEA; 16_385]);
+    let longest = file("longest", &[0xEA; 65_536]);
+    let too_long = file("too-long", &[0xEA; 65_537]);
     assert_eq!(program(&longest, &list), "R\t1\t0\n");
     assert_eq!(program(&too_long, &list), "L\n");
     let most = file("most", &[b'I'; 61_440]);

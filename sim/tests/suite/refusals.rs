@@ -51,15 +51,17 @@ fn a_sound_run_is_not_refused() {
 #[test]
 fn length_is_1() {
     assert_eq!(refusal(|r| r.image.clear()), 1);
-    assert_eq!(refusal(|r| r.image = vec![0xEA; 16_384]), 0);
-    assert_eq!(refusal(|r| r.image = vec![0xEA; 16_385]), 1);
+    assert_eq!(refusal(|r| r.image = vec![0xEA; 16_385]), 0);
+    assert_eq!(refusal(|r| r.image = vec![0xEA; 65_536]), 0);
+    assert_eq!(refusal(|r| r.image = vec![0xEA; 65_537]), 1);
     assert_eq!(refusal(|r| (r.image, r.base) = (Vec::new(), u32::MAX)), 1);
 }
 
 #[test]
 fn base_is_2() {
     assert_eq!(refusal(|r| r.base = 0xFFFC), 0);
-    assert_eq!(refusal(|r| r.base = 0xFFFD), 2);
+    assert_eq!(refusal(|r| r.base = 0xFFFD), 0);
+    assert_eq!(refusal(|r| r.base = 0x12FFFF), 0);
     assert_eq!(refusal(|r| r.base = 0xFFFFFC), 0);
     assert_eq!(refusal(|r| r.base = 0xFFFFFD), 2);
     assert_eq!(refusal(|r| r.base = 0x1000000), 2);

@@ -24,15 +24,15 @@ fn the_same_seed_gives_the_same_bytes() {
 fn kept_files_stay() {
     let files = files(DEFAULT_SEED);
     for (kind, kept) in [
-        ("check", 0x609C_1CB5_EDEC_D7E0u64),
-        ("read", 0x8A72_0899_4990_ADA0),
-        ("write", 0x2715_9E08_4B43_DBF8),
-        ("print", 0xBFD2_0B57_B7A6_4DA3),
-        ("locate", 0x46BF_DD1B_E326_CC19),
-        ("build", 0x5074_28B2_0E1E_33AA),
+        ("check", 0x24B5_00CD_C46F_2892u64),
+        ("read", 0x07C8_DFBB_906E_1483),
+        ("write", 0x26B2_3034_693E_2E6B),
+        ("print", 0x480D_A9B8_3BF8_37B9),
+        ("locate", 0x92C9_B147_CB17_9F4F),
+        ("build", 0xC38C_4BA6_3BBF_1F65),
     ] {
         let mut hash = 0xCBF2_9CE4_8422_2325u64;
-        for (name, bytes) in files.iter().filter(|(name, _)| name.starts_with(kind)) {
+        for (name, bytes) in files.iter().filter(|(name, _)| kind_of(name).0 == kind) {
             for &byte in name.as_bytes().iter().chain(bytes) {
                 hash = (hash ^ byte as u64).wrapping_mul(0x100_0000_01B3);
             }
@@ -71,6 +71,10 @@ impl<'a> Reader<'a> {
 
     fn buffer(&mut self) -> Vec<u8> {
         let length = self.number(2) as usize;
+        self.filled(length)
+    }
+
+    fn filled(&mut self, length: usize) -> Vec<u8> {
         let (first, by) = (self.number(1) as u8, self.number(1) as u8);
         let mut bytes: Vec<u8> = (0..length)
             .map(|k| first.wrapping_add(by.wrapping_mul(k as u8)))
@@ -80,14 +84,41 @@ impl<'a> Reader<'a> {
     }
 }
 
+/// A file's kind, and whether its images and marks are long buffers.
+fn kind_of(name: &str) -> (&str, bool) {
+    let (kind, rest) = name.split_once('-').unwrap();
+    (kind, rest == "long.bin")
+}
+
+impl Reader<'_> {
+    /// Image or marks.
+    fn sized(&mut self, long: bool) -> Vec<u8> {
+        if !long {
+            let bytes = self.bytes().to_vec();
+            assert!(bytes.len() < 2_000, "{} bytes", bytes.len());
+            return bytes;
+        }
+        let length = self.number(4) as usize;
+        self.filled(length)
+    }
+
+    /// Marks after a call, of which there are so many.
+    fn known(&mut self, long: bool, length: usize) -> Vec<u8> {
+        if long {
+            return self.sized(long);
+        }
+        self.take(length).to_vec()
+    }
+}
+
 /// Reads one record, tries it, and returns its number.
-fn try_record(kind: &str, r: &mut Reader) -> u64 {
+fn try_record((kind, long): (&str, bool), r: &mut Reader) -> u64 {
     match kind {
         "check" => {
             let (base, reset) = (r.number(4) as u32, r.number(4) as u32);
-            let (image, marks) = (r.bytes(), r.bytes());
+            let (image, marks) = (r.sized(long), r.sized(long));
             let answer = r.number(4);
-            assert_eq!(check(image, marks, base, reset) as u64, answer);
+            assert_eq!(check(&image, &marks, base, reset) as u64, answer);
             answer >> 16
         }
         "read" => {
@@ -96,15 +127,15 @@ fn try_record(kind: &str, r: &mut Reader) -> u64 {
             let answer = r.number(8);
             let mut expected = marks.clone();
             if answer & 0xFF == 0 {
-                expected = r.take(marks.len()).to_vec();
+                expected = r.known(long, marks.len());
             }
             assert_eq!(read_list(text, &mut marks), answer);
-            assert_eq!(marks, expected);
+            assert!(marks == expected, "{}", text.escape_ascii());
             answer & 0xFF
         }
         "write" => {
             let (base, reset) = (r.number(4) as u32, r.number(4) as u32);
-            let marks = r.bytes();
+            let marks = r.sized(long);
             let mut page = vec![0xA5; r.number(4) as usize];
             let answer = r.number(8);
             let mut expected = page.clone();
@@ -112,20 +143,20 @@ fn try_record(kind: &str, r: &mut Reader) -> u64 {
                 let text = r.take((answer >> 8) as usize);
                 expected[..text.len()].copy_from_slice(text);
             }
-            assert_eq!(write_list(marks, base, reset, &mut page), answer);
+            assert_eq!(write_list(&marks, base, reset, &mut page), answer);
             assert_eq!(page, expected);
             answer & 0xFF
         }
-        "print" => try_print(r),
-        "locate" => try_locate(r),
-        "build" => try_build(r),
-        _ => try_run(r),
+        "print" => try_print(r, long),
+        "locate" => try_locate(r, long),
+        "build" => try_build(r, long),
+        _ => try_run(r, long),
     }
 }
 
-fn try_print(r: &mut Reader) -> u64 {
+fn try_print(r: &mut Reader, long: bool) -> u64 {
     let (base, reset) = (r.number(4) as u32, r.number(4) as u32);
-    let (image, marks) = (r.bytes(), r.bytes());
+    let (image, marks) = (r.sized(long), r.sized(long));
     let mut page = vec![0xA5; r.number(4) as usize];
     let answer = r.number(8);
     let mut expected = page.clone();
@@ -133,14 +164,14 @@ fn try_print(r: &mut Reader) -> u64 {
         let rows = r.take((answer >> 8) as usize);
         expected[..rows.len()].copy_from_slice(rows);
     }
-    assert_eq!(print(image, marks, base, reset, &mut page), answer);
+    assert_eq!(print(&image, &marks, base, reset, &mut page), answer);
     assert!(page == expected, "{image:02X?} {marks:02X?}");
     answer & 0xFF
 }
 
-fn try_locate(r: &mut Reader) -> u64 {
+fn try_locate(r: &mut Reader, long: bool) -> u64 {
     let (base, reset) = (r.number(4) as u32, r.number(4) as u32);
-    let (image, marks) = (r.bytes(), r.bytes());
+    let (image, marks) = (r.sized(long), r.sized(long));
     let count = r.number(4) as usize;
     let addresses: Vec<u32> = (0..count).map(|_| r.number(4) as u32).collect();
     let mut places = vec![0xA5A5_A5A5; r.number(4) as usize];
@@ -150,36 +181,36 @@ fn try_locate(r: &mut Reader) -> u64 {
     if answer & 0xFF == 0 {
         expected[..count].fill_with(|| r.number(4) as u32);
     }
-    let given = locate(image, marks, base, reset, &addresses, &mut places);
+    let given = locate(&image, &marks, base, reset, &addresses, &mut places);
     assert_eq!(given, answer);
     assert!(places == expected, "{image:02X?} {marks:02X?}");
     answer & 0xFF
 }
 
-fn try_build(r: &mut Reader) -> u64 {
+fn try_build(r: &mut Reader, long: bool) -> u64 {
     let (base, reset) = (r.number(4) as u32, r.number(4) as u32);
-    let (image, routines) = (r.bytes(), r.bytes());
-    let mut marks = r.bytes().to_vec();
+    let (image, routines) = (r.sized(long), r.bytes());
+    let mut marks = r.sized(long);
     let answer = r.number(8);
     let mut expected = marks.clone();
     if answer & 0xFF == 0 {
-        expected = r.take(marks.len()).to_vec();
+        expected = r.known(long, marks.len());
     }
-    let given = build_marks(image, base, reset, routines, &mut marks);
+    let given = build_marks(&image, base, reset, routines, &mut marks);
     assert_eq!(given, answer);
     assert!(marks == expected, "{image:02X?}");
     answer
 }
 
-fn try_run(r: &mut Reader) -> u64 {
+fn try_run(r: &mut Reader, long: bool) -> u64 {
     let (base, steps) = (r.number(4) as u32, r.number(4) as u32);
-    let image = r.bytes();
+    let image = r.sized(long);
     let (mut state, mut ram) = (r.buffer(), r.buffer());
     let answer = r.number(8);
     let (mut state_after, mut ram_after) = (state.clone(), ram.clone());
     r.pieces(&mut state_after);
     r.pieces(&mut ram_after);
-    assert_eq!(run(image, base, &mut state, &mut ram, steps), answer);
+    assert_eq!(run(&image, base, &mut state, &mut ram, steps), answer);
     assert!(state == state_after && ram == ram_after);
     match answer & 0xFF {
         0 => answer >> 8 & 0xFF,
@@ -191,10 +222,10 @@ fn try_run(r: &mut Reader) -> u64 {
 fn try_all() -> BTreeMap<(String, u64), u32> {
     let mut count = BTreeMap::new();
     for (name, bytes) in files(DEFAULT_SEED) {
-        let (kind, _) = name.split_once('-').unwrap();
+        let (kind, long) = kind_of(&name);
         let mut reader = Reader(&bytes);
         for _ in 0..reader.number(4) {
-            let number = try_record(kind, &mut reader);
+            let number = try_record((kind, long), &mut reader);
             *count.entry((kind.to_string(), number)).or_default() += 1;
         }
         assert!(reader.0.is_empty(), "{name} has bytes behind its records");
@@ -258,8 +289,8 @@ fn build_parts<'a>(r: &mut Reader<'a>) -> (&'a [u8], &'a [u8], u64) {
     (image, routines, answer)
 }
 
-/// At most 800 records, few of them long: with the longest image, with 256
-/// routines and with one more, with a malformed line behind 299 others.
+/// At most 800 records, few of them long: with 256 routines and with one more,
+/// with a malformed line behind 299 others.
 #[test]
 fn build_records_are_few() {
     let (mut records, mut long) = (0, 0);
@@ -271,21 +302,40 @@ fn build_records_are_few() {
             records += 1;
             long += (image.len() + routines.len() > 300) as u32;
             let lines = routines.iter().filter(|&&b| b == b'\n').count();
-            seen.insert((image.len().max(16_383), lines.clamp(256, 300), answer));
+            seen.insert((lines.clamp(256, 300), answer));
         }
     }
     assert!((400..=800).contains(&records), "{records}");
     assert!(long < 30, "{long}");
-    for wanted in [
-        (16_384, 256, 0),
-        (16_385, 256, 1),
-        (16_383, 256, 0),
-        (16_383, 257, 17),
-        (16_383, 300, 17),
-        (16_383, 300, 14),
-    ] {
+    for wanted in [(256, 0), (257, 17), (300, 17), (300, 14)] {
         assert!(seen.contains(&wanted), "{wanted:?}");
     }
+}
+
+/// Long images and marks stand in the long files alone: in each kind one of
+/// 65,536 bytes that is not refused for its length, another of 65,537 that is,
+/// and only a handful.
+#[test]
+fn long_images_are_few() {
+    let mut records = 0;
+    for (name, bytes) in files(DEFAULT_SEED) {
+        let (kind, long) = kind_of(&name);
+        if !long {
+            assert!(bytes.len() <= MAX_FILE);
+            continue;
+        }
+        let mut r = Reader(&bytes);
+        let count = r.number(4);
+        let mut numbers = BTreeSet::new();
+        for _ in 0..count {
+            numbers.insert(try_record((kind, long), &mut r));
+        }
+        assert!(numbers.iter().any(|&number| number != 1 && number != 2));
+        assert!(numbers.contains(&1), "{kind}");
+        assert!(bytes.len() < 3_000, "{name} has {} bytes", bytes.len());
+        records += count;
+    }
+    assert!(records <= 25, "{records}");
 }
 
 /// Page, code and widths of each row in a record of a print file.
@@ -321,7 +371,7 @@ struct Ran {
 fn ran(kind: &str) -> Vec<Ran> {
     let mut all = Vec::new();
     for (name, bytes) in files(DEFAULT_SEED) {
-        if !name.starts_with(kind) {
+        if kind_of(&name) != (kind, false) {
             continue;
         }
         let mut r = Reader(&bytes);

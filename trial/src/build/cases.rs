@@ -1,15 +1,16 @@
 //! Cases for the building of marks beyond the generator's own: long images,
-//! and sweeps over codes, flows, texts, tiny images, numbers of routines and
-//! limits.
+//! and sweeps over codes, flows, texts, tiny images, ends of banks, numbers of
+//! routines and limits.
 
-use crate::check::cases::{self as checks, mixed_code, FLOWS};
+use crate::check::cases::{self as checks, bases, mixed_code, small, FLOWS};
 use crate::lists::cases::{every_damage, every_order};
 use sim7700::generate::{
-    backwards, build_by, build_case, called, calling, codes_in_a_row, every_code, hand_made,
-    start_line, straight, BuildCase, CheckCase, HandMade, Rng,
+    backwards, bank_programs, build_by, build_case, called, calling, codes_in_a_row,
+    digit_routines, every_code, hand_made, routines_in, start_line, straight, BuildCase, CheckCase,
+    HandMade, Rng,
 };
 use sim7700::marks::{is_start, well_formed, KIND, START};
-use sim7700::numbers::{MAX_IMAGE, MAX_ROUTINES};
+use sim7700::numbers::{MAX_ADDRESS, MAX_IMAGE, MAX_ROUTINES};
 
 const NOP: u8 = 0xEA;
 const BEQ: u8 = 0xF0;
@@ -61,12 +62,17 @@ pub fn sweeps(rng: &mut Rng, mut visit: impl FnMut(&BuildCase)) {
     // Every start on the list, whether the check accepts it or not.
     checks::sweeps(rng, |program| visit(&every_start(program)));
     every_flow(&mut visit);
-    for program in every_code(rng).into_iter().chain(codes_in_a_row(rng)) {
+    let programs = every_code(rng).into_iter().chain(codes_in_a_row(rng));
+    for program in programs.chain(bank_programs()) {
         visit(&every_routine(program));
     }
+    digit_routines().iter().for_each(&mut visit);
     every_text(&mut visit);
     every_tiny(&mut visit);
-    every_call(&mut visit);
+    // In a bank, and around its end.
+    for base in [0xC000, 0xFFFD, 0xFFFE, 0x12_FFFC] {
+        every_call(base, &mut visit);
+    }
     every_count(&mut visit);
     every_limit(&mut visit);
     longest(rng, &mut visit);
@@ -85,9 +91,8 @@ fn every_start(program: &CheckCase) -> BuildCase {
 /// A program with a list of what is called and of what returns.
 fn every_routine(program: CheckCase) -> BuildCase {
     let mut listed = called(&program);
-    let returning = |mark: &u8| mark & KIND != 0;
     for (place, &mark) in listed.iter_mut().zip(&program.marks) {
-        if returning(&mark) && program.image.len() < MAX_ROUTINES {
+        if mark & KIND != 0 {
             *place = mark;
         }
     }
@@ -97,16 +102,6 @@ fn every_routine(program: CheckCase) -> BuildCase {
 /// All marks of good form, none among them.
 fn good_marks() -> Vec<u8> {
     (0..=255).filter(|&mark| well_formed(mark)).collect()
-}
-
-/// An image at 00C000 with the reset on its first byte.
-fn small(image: &[u8]) -> CheckCase {
-    CheckCase {
-        image: image.to_vec(),
-        marks: vec![0; image.len()],
-        base: 0xC000,
-        reset: 0xC000,
-    }
 }
 
 /// Instructions whose rule looks at marks, all marks of good form at the
@@ -126,10 +121,11 @@ fn every_flow(visit: &mut impl FnMut(&BuildCase)) {
 }
 
 /// A list for an image of STP, in which each byte but the reset's may be any
-/// routine: damaged at each byte, its lines in other orders.
+/// routine, in six digits and in four: damaged at each byte, its lines in other
+/// orders, some of them in other digits.
 fn every_text(visit: &mut impl FnMut(&BuildCase)) {
     let mut program = small(&[STP; 32]);
-    (program.base, program.reset) = (0x12_C0F8, 0xC0FF);
+    (program.base, program.reset) = (0x12_C0F8, 0x12_C0FF);
     let mut listed = [0; 32];
     (listed[1], listed[7], listed[8], listed[31]) = (0x01, 0x01, 0x2F, 0x71);
     let case = BuildCase::listing(program, &listed);
@@ -139,8 +135,14 @@ fn every_text(visit: &mut impl FnMut(&BuildCase)) {
             ..case.clone()
         })
     };
-    every_damage(&case.routines, &mut visit_text);
-    every_order(&case.routines, &mut visit_text);
+    for text in [&case.routines, &routines_in(&case.routines, |_| 4)] {
+        every_damage(text, &mut visit_text);
+        every_order(text, &mut visit_text);
+    }
+    for choice in 0..1 << 4 {
+        let digits = |line: usize| if choice >> line & 1 == 1 { 4 } else { 6 };
+        visit_text(routines_in(&case.routines, digits));
+    }
 }
 
 /// Codes of one byte and more, and operands.
@@ -170,11 +172,13 @@ fn every_tiny(visit: &mut impl FnMut(&BuildCase)) {
 
 /// Calls in five bytes to each byte of the image and beside it, with each
 /// routine on the last byte, alone and with another one.
-fn every_call(visit: &mut impl FnMut(&BuildCase)) {
+fn every_call(base: u32, visit: &mut impl FnMut(&BuildCase)) {
     let ends = [NOP, STP, 0xF8, 0xD8, 0x60, 0x6B];
     for (target, after) in (0..6).flat_map(|t| ends.map(|after| (t, after))) {
+        let [low, high, ..] = (base + target).to_le_bytes();
         for last in ends {
-            let program = small(&[0x20, target, 0xC0, after, last]);
+            let mut program = small(&[0x20, low, high, after, last]);
+            (program.base, program.reset) = (base, base);
             for mark in good_marks() {
                 for other in [0, 0x01, 0x03, 0x09] {
                     let listed = [0, 0, 0, other, mark];
@@ -204,7 +208,7 @@ fn every_count(visit: &mut impl FnMut(&BuildCase)) {
     }
     let listed = [&[0], &[START; MAX_ROUTINES][..]].concat();
     let case = BuildCase::listing(program, &listed);
-    let lines: Vec<&[u8]> = case.routines.chunks(15).collect();
+    let lines: Vec<&[u8]> = case.routines.chunks(17).collect();
     for place in 1..MAX_ROUTINES {
         let mut twice = lines.clone();
         twice[place] = lines[place - 1];
@@ -223,8 +227,7 @@ fn every_count(visit: &mut impl FnMut(&BuildCase)) {
 /// of banks, with resets and routines in and outside the image.
 fn every_limit(visit: &mut impl FnMut(&BuildCase)) {
     for length in [0, 1, 2, MAX_IMAGE - 1, MAX_IMAGE, MAX_IMAGE + 1] {
-        let end = 0x1_0000 - length as u32;
-        for base in [0, 0xC000, end, end + 1, 0xFF_0000 + end, 0x100_0000] {
+        for base in bases(length as u32) {
             for marks_len in [length, length + 1, length.saturating_sub(1)] {
                 every_reset(length, marks_len, base, visit);
             }
@@ -233,13 +236,13 @@ fn every_limit(visit: &mut impl FnMut(&BuildCase)) {
 }
 
 /// An image of STP: resets and routines on its first byte and its last and
-/// beside these, resets in other banks, a text that is no list.
+/// beside these, the routines in six digits and in four; resets in other banks, a
+/// text that is no list.
 fn every_reset(length: usize, marks_len: usize, base: u32, visit: &mut impl FnMut(&BuildCase)) {
-    let first = base & 0xFFFF;
-    let end = first.wrapping_add(length as u32);
-    let near = [first.wrapping_sub(1), first, end.wrapping_sub(1), end];
-    let line = |address: u32| start_line(address & 0xFFFF, START).into_bytes();
-    for reset in near.into_iter().chain([first + 0x1_0000, u32::MAX]) {
+    let end = base.wrapping_add(length as u32);
+    let near = [base.wrapping_sub(1), base, end.wrapping_sub(1), end];
+    let line = |address: u32| start_line(address & MAX_ADDRESS, START).into_bytes();
+    for reset in near.into_iter().chain([base ^ 0x1_0000, u32::MAX]) {
         let mut case = BuildCase {
             image: vec![STP; length],
             base,
@@ -250,6 +253,8 @@ fn every_reset(length: usize, marks_len: usize, base: u32, visit: &mut impl FnMu
         visit(&case);
         for address in near {
             case.routines = line(address);
+            visit(&case);
+            case.routines = routines_in(&case.routines, |_| 4);
             visit(&case);
         }
         case.routines.push(b'\n');

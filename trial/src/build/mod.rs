@@ -21,10 +21,10 @@ pub const NUMBERS: [Named; 5] = [
     (17, "routines"),
 ];
 
-/// Images and marks somewhat over 01's limit are lent too.
+/// Images and marks somewhat over the limit are lent too.
 const CAPACITY: usize = MAX_IMAGE + 512;
 /// A line for each address of a bank, and some more.
-const TEXT_CAPACITY: usize = 15 * 0x1_0000 + 64;
+const TEXT_CAPACITY: usize = 17 * 0x1_0000 + 64;
 
 /// A function with the shape of `m7700_build_marks`.
 pub type Call =
@@ -109,7 +109,7 @@ impl Display for Shown<'_> {
             marks,
         } = self.0;
         let text = routines.escape_ascii();
-        writeln!(f, "  base {base:06X}, reset {reset:04X}")?;
+        writeln!(f, "  base {base:06X}, reset {reset:06X}")?;
         writeln!(f, "  routines, {} bytes: {text}", routines.len())?;
         writeln!(f, "  image, {} bytes: {}", image.len(), hex(image))?;
         write!(f, "  marks, {} bytes: {}", marks.len(), hex(marks))

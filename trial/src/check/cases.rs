@@ -1,10 +1,11 @@
 //! Cases for the check beyond the generator's own: long images, and sweeps
-//! over all codes and all pairs of marks.
+//! over all codes and all pairs of marks, around the ends of banks, and over
+//! lengths, bases and resets.
 
 use sim7700::codes::{entry_of, Word, PREFIX_42, PREFIX_89};
-use sim7700::generate::{accepted, check_case, CheckCase, Rng};
+use sim7700::generate::{accepted, bank_checks, check_case, CheckCase, Rng, BANK_ENDS};
 use sim7700::marks::{self, well_formed, START};
-use sim7700::numbers::MAX_IMAGE;
+use sim7700::numbers::{MAX_ADDRESS, MAX_IMAGE};
 
 const NOP: u8 = 0xEA;
 const STP: u8 = 0xDB;
@@ -36,15 +37,16 @@ fn long(rng: &mut Rng) -> CheckCase {
     case
 }
 
-/// An accepted image of exactly this length: accepted programs one behind
-/// another, then NOPs and a last STP.
+/// An accepted image of exactly this length at any base: accepted programs one
+/// behind another, then NOPs and a last STP. Over a bank's end goes a program
+/// that is accepted there.
 pub fn mixed_code(rng: &mut Rng, length: usize) -> CheckCase {
-    let within = rng.below((0x1_0000 - length) as u64 + 1) as u32;
+    let base = any_base(rng, length);
     let mut whole = CheckCase {
         image: Vec::with_capacity(length),
         marks: Vec::with_capacity(length),
-        base: (rng.byte() as u32) << 16 | within,
-        reset: within,
+        base,
+        reset: base,
     };
     let mut misfits = 0;
     while misfits < 8 {
@@ -55,6 +57,9 @@ pub fn mixed_code(rng: &mut Rng, length: usize) -> CheckCase {
             continue;
         }
         move_to(&mut part, whole.base + at as u32);
+        if sim7700::check(&part.image, &part.marks, part.base, part.reset) != 0 {
+            continue;
+        }
         if at == 0 {
             whole.reset = part.reset;
         }
@@ -65,6 +70,11 @@ pub fn mixed_code(rng: &mut Rng, length: usize) -> CheckCase {
     whole.image.push(STP);
     whole.marks.resize(length, START);
     whole
+}
+
+/// A base at which an image of this length ends at or below FFFFFF.
+pub fn any_base(rng: &mut Rng, length: usize) -> u32 {
+    rng.below(0x100_0000 - length as u64 + 1) as u32
 }
 
 /// Moves a program to another base: absolute targets and the reset follow.
@@ -82,7 +92,7 @@ fn move_to(case: &mut CheckCase, base: u32) {
         let moved = u32::from_le_bytes(address).wrapping_add(by);
         target.copy_from_slice(&moved.to_le_bytes()[..bytes]);
     }
-    case.reset = case.reset.wrapping_add(by) & 0xFFFF;
+    case.reset = case.reset.wrapping_add(by);
     case.base = base;
 }
 
@@ -110,6 +120,117 @@ pub fn sweeps(rng: &mut Rng, mut visit: impl FnMut(&CheckCase)) {
     every_form(&mut visit);
     for instruction in FLOWS {
         every_marking(instruction, &mut visit);
+    }
+    bank_checks().iter().for_each(&mut visit);
+    for end in BANK_ENDS.into_iter().chain([MAX_ADDRESS + 1]) {
+        around(end, &mut visit);
+    }
+    every_place(|case| visit(&case));
+}
+
+/// Bytes on either side of an end.
+const BESIDE: usize = 8;
+
+/// STP on each byte beside a bank's end, and each instruction with a target at
+/// each place among them, to each address there in its bank and beside it.
+fn around(end: u32, visit: &mut impl FnMut(&CheckCase)) {
+    let base = end - BESIDE as u32;
+    let length = if end > MAX_ADDRESS {
+        BESIDE
+    } else {
+        2 * BESIDE
+    };
+    for to in base - 1..=base + length as u32 {
+        let [low, middle, high, _] = to.to_le_bytes();
+        for code in [0x4C, 0x20] {
+            every_first(base, length, &[code, low, middle], to, visit);
+        }
+        for high in [high.wrapping_sub(1), high, high.wrapping_add(1)] {
+            every_first(base, length, &[0x5C, low, middle, high], to, visit);
+            every_first(base, length, &[0x22, low, middle, high], to, visit);
+        }
+    }
+    for by in -(length as i8)..length as i8 {
+        let [low, high] = (by as i16).to_le_bytes();
+        for branch in [&[0x80, low][..], &[0xF0, low], &[0x82, low, high]] {
+            every_first(base, length, branch, base, visit);
+        }
+    }
+    for other in [
+        &[NOP][..],
+        &[STP],
+        &[0x60],
+        &[0xA9, 0, 0],
+        &[0x3C, 0, 0, 0, 0, 0],
+    ] {
+        every_first(base, length, other, base, visit);
+    }
+}
+
+/// An instruction at each place; the target's byte marked as a start of each
+/// kind.
+fn every_first(
+    base: u32,
+    length: usize,
+    instruction: &[u8],
+    to: u32,
+    visit: &mut impl FnMut(&CheckCase),
+) {
+    for first in 0..=length - instruction.len() {
+        let mut case = CheckCase {
+            image: vec![STP; length],
+            marks: vec![START; length],
+            base,
+            reset: base,
+        };
+        case.image[first..][..instruction.len()].copy_from_slice(instruction);
+        case.marks[first + 1..first + instruction.len()].fill(0);
+        let target = to.wrapping_sub(base) as usize;
+        for kind in [0, marks::KIND_RTS, marks::KIND_RTL] {
+            if let Some(mark @ 1..) = case.marks.get_mut(target) {
+                *mark = START | kind;
+            }
+            visit(&case);
+        }
+    }
+}
+
+/// Lengths around the limit, marks of other lengths, at bases around the ends
+/// of banks and of all addresses, with resets in and outside the image.
+pub fn every_place(mut visit: impl FnMut(CheckCase)) {
+    for length in [0, 1, 2, MAX_IMAGE - 1, MAX_IMAGE, MAX_IMAGE + 1] {
+        for base in bases(length as u32) {
+            for marks_len in [length, length + 1, length.saturating_sub(1)] {
+                every_reset(length, marks_len, base, &mut visit);
+            }
+        }
+    }
+}
+
+/// From 000000 on, up to and across a bank's end, up to FFFFFF and past it.
+pub fn bases(length: u32) -> [u32; 8] {
+    let (end, last) = (0x2_0000 - length, 0x100_0000 - length);
+    [0, 0xC000, 0xFFFF, end, end + 1, last, last + 1, 0x100_0000]
+}
+
+/// STP on the first byte and on the last, and resets around them.
+fn every_reset(length: usize, marks_len: usize, base: u32, visit: &mut impl FnMut(CheckCase)) {
+    let mut marks = vec![0; marks_len];
+    for mark in marks.iter_mut().step_by(length.saturating_sub(1).max(1)) {
+        *mark = START;
+    }
+    let end = base + length as u32;
+    let beside = [base.wrapping_sub(1), base, end.wrapping_sub(1), end];
+    for reset in beside
+        .into_iter()
+        .chain([base ^ 0x1_0000, base | 0x100_0000])
+    {
+        visit(CheckCase {
+            image: vec![STP; length],
+            marks: marks.clone(),
+            base,
+            reset,
+        });
     }
 }
 
@@ -198,8 +319,8 @@ fn every_marking(instruction: &[u8], visit: &mut impl FnMut(&CheckCase)) {
     }
 }
 
-/// An image at 00C000, no marks yet.
-fn small(image: &[u8]) -> CheckCase {
+/// An image at 00C000 with the reset on its first byte, no marks yet.
+pub fn small(image: &[u8]) -> CheckCase {
     CheckCase {
         image: image.to_vec(),
         marks: vec![0; image.len()],

@@ -25,7 +25,7 @@ pub const NUMBERS: [Named; 11] = [
     (10, "return"),
 ];
 
-/// A byte or two over 01's limit are drawn too.
+/// A byte or two over the limit are drawn too.
 const CAPACITY: usize = sim7700::numbers::MAX_IMAGE + 16;
 
 /// A function with the shape of `m7700_check`.
@@ -109,7 +109,7 @@ impl Display for Shown<'_> {
     fn fmt(&self, f: &mut Formatter) -> fmt::Result {
         let case = self.0;
         let (image, marks) = (hex(&case.image), hex(&case.marks));
-        writeln!(f, "  base {:06X}, reset {:04X}", case.base, case.reset)?;
+        writeln!(f, "  base {:06X}, reset {:06X}", case.base, case.reset)?;
         writeln!(f, "  image, {} bytes: {image}", case.image.len())?;
         write!(f, "  marks, {} bytes: {marks}", case.marks.len())
     }

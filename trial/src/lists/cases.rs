@@ -1,7 +1,11 @@
 //! Cases for lists beyond the generator's own: long lists, and sweeps over
-//! damage at every byte, lines in every order, and lengths around the limits.
+//! damage at every byte, lines in every order, addresses in four and six digits,
+//! and lengths around the limits.
 
-use sim7700::generate::{read_case, write_case, ReadCase, Rng, WriteCase};
+use crate::check::cases::{any_base, bases};
+use sim7700::generate::{
+    bank_programs, digit_lists, in_four, read_case, rewritten, write_case, ReadCase, Rng, WriteCase,
+};
 use sim7700::marks::{well_formed, RESET_MARK};
 use sim7700::numbers::MAX_IMAGE;
 use sim7700::write_list;
@@ -22,10 +26,19 @@ pub fn drawn_write(rng: &mut Rng) -> WriteCase {
     }
 }
 
-/// A long list, half of them with a byte changed.
+/// A long list, some of them in four digits, half of them with a byte changed.
 fn long_read(rng: &mut Rng) -> ReadCase {
-    let marked = long(rng);
+    let mut marked = long(rng);
+    let old = rng.chance(1, 4);
+    if old && rng.chance(1, 2) {
+        // Where it fits, if it can.
+        marked.base = (marked.base & 0xFF_0000) | (0x1_0000 - marked.marks.len()) as u32;
+        marked.reset = marked.base;
+    }
     let mut text = marked.list();
+    if old {
+        text = in_four(&text);
+    }
     if rng.chance(1, 2) {
         let at = rng.index(text.len());
         text[at] ^= 1 << rng.below(8);
@@ -66,7 +79,7 @@ pub struct Marked {
 impl Marked {
     /// The list, as the simulator writes it.
     pub fn list(&self) -> Vec<u8> {
-        let mut page = vec![0; 15 * self.marks.len() + 20];
+        let mut page = vec![0; LINE * self.marks.len() + 22];
         let answer = write_list(&self.marks, self.base, self.reset, &mut page);
         assert_eq!(answer & 0xFF, 0, "not written");
         page.truncate((answer >> 8) as usize);
@@ -86,29 +99,30 @@ impl Marked {
 /// Marks with a start on every byte, the reset's the first.
 pub fn every_start(rng: &mut Rng, length: usize) -> Marked {
     let starts: Vec<u8> = (1..=255).filter(|&mark| well_formed(mark)).collect();
-    let within = rng.below((0x1_0000 - length) as u64 + 1) as u32;
+    let base = any_base(rng, length);
     let mut marks: Vec<u8> = (0..length).map(|_| *rng.pick(&starts)).collect();
     marks[0] = RESET_MARK;
     Marked {
         marks,
-        base: (rng.byte() as u32) << 16 | within,
-        reset: within,
+        base,
+        reset: base,
     }
 }
 
-/// Short markings that are swept: 01's case 1; a call of each kind, at the end
-/// of a bank; one byte; the least of a length of three digits.
+/// Short markings that are swept: 01's case 1; a call of each kind, up to FFFFFF
+/// and across a bank's end; one byte; the least of a length of three digits.
 fn short() -> Vec<Marked> {
     let marked = |marks: &[u8], base: u32| Marked {
         marks: marks.to_vec(),
         base,
-        reset: base & 0xFFFF,
+        reset: base,
     };
     let mut sparse = vec![0; 100];
     (sparse[0], sparse[99]) = (0x01, 0x07);
     vec![
         marked(&[0x01, 0, 0, 0x01, 0x03, 0, 0x03], 0x00_C000),
         marked(&[0x01, 0, 0, 0x03, 0x69, 0x35, 0x0B, 0x51], 0xFF_FFF8),
+        marked(&[0x01, 0, 0, 0x03, 0x69, 0x35, 0x0B, 0x51], 0x12_FFFB),
         marked(&[0x01], 0x00_0000),
         marked(&sparse, 0x12_09AF),
     ]
@@ -119,8 +133,11 @@ pub fn read_sweeps(mut visit: impl FnMut(&ReadCase)) {
     for marked in short() {
         let (text, marks_len) = (marked.list(), marked.marks.len());
         let mut visit_text = |text| visit(&ReadCase { text, marks_len });
-        every_damage(&text, &mut visit_text);
-        every_order(&text, &mut visit_text);
+        for text in [&text, &in_four(&text)] {
+            every_damage(text, &mut visit_text);
+            every_order(text, &mut visit_text);
+        }
+        every_mixture(&text, &mut visit_text);
         for marks_len in (0..marks_len + 3).chain(MAX_IMAGE - 1..MAX_IMAGE + 2) {
             visit(&ReadCase {
                 text: text.clone(),
@@ -128,8 +145,18 @@ pub fn read_sweeps(mut visit: impl FnMut(&ReadCase)) {
             });
         }
     }
+    digit_lists().iter().for_each(&mut visit);
     every_head(&mut visit);
     longest_order(&mut visit);
+}
+
+/// Four digits in some lines, six in the others, each choice of lines.
+fn every_mixture(text: &[u8], visit: &mut impl FnMut(Vec<u8>)) {
+    let lines = text.iter().filter(|&&byte| byte == b'\n').count();
+    for choice in 0..1u32 << lines {
+        let digits = |line: usize| if choice >> line & 1 == 1 { 4 } else { 6 };
+        visit(rewritten(text, digits));
+    }
 }
 
 /// Each byte changed to each other, each put in at each place, and the text
@@ -176,17 +203,17 @@ const LENGTHS: [&str; 18] = [
     "10",
     "99",
     "100",
-    "16383",
-    "16384",
-    "016384",
     "16385",
+    "65535",
     "65536",
+    "065536",
+    "65537",
     "99999",
     "100000",
     "18446744073709551617",
 ];
 const BASES: [&str; 9] = [
-    "000000", "00C000", "00FFFF", "01C000", "FFC000", "FFC001", "FFFFFF", "0C000", "100C000",
+    "000000", "00C000", "00FFFF", "120000", "FF0000", "FF0001", "FFFFFF", "0C000", "100C000",
 ];
 
 /// First lines with numbers around their limits and overlong ones.
@@ -194,7 +221,9 @@ fn every_head(visit: &mut impl FnMut(&ReadCase)) {
     for base in BASES {
         let low = &base[base.len() - 4..];
         for length in LENGTHS {
-            for reset in ["0000", low, "FFFF", "C00", "0C000"] {
+            for reset in [
+                "0000", low, "FFFF", "C00", "0C000", base, "000000", "FFFFFF",
+            ] {
                 every_first_start(base, length, reset, visit);
             }
         }
@@ -202,12 +231,17 @@ fn every_head(visit: &mut impl FnMut(&ReadCase)) {
 }
 
 /// A first line alone, and with a start at the image's first byte, at its last
-/// one, and past it.
+/// one, and past it, in as many digits as the reset.
 fn every_first_start(base: &str, length: &str, reset: &str, visit: &mut impl FnMut(&ReadCase)) {
-    let low = usize::from_str_radix(&base[base.len() - 4..], 16).expect("a base");
-    let number = length.parse().unwrap_or(0usize);
+    let digits = reset.len();
+    let shown = &base[base.len().saturating_sub(digits)..];
+    let first = usize::from_str_radix(shown, 16).expect("a base");
+    let number = length.parse().unwrap_or(0usize).min(1 << 20);
     let head = format!("I\t{base}\t{length}\t{reset}\n");
-    let with_start = |offset| format!("{head}{:04X}\t0\t0\tN\t0\t0\n", low + offset);
+    let with_start = |offset| {
+        let address = first + offset;
+        format!("{head}{address:0digits$X}\t0\t0\tN\t0\t0\n")
+    };
     for text in [
         head.clone(),
         with_start(0),
@@ -224,7 +258,7 @@ fn every_first_start(base: &str, length: &str, reset: &str, visit: &mut impl FnM
 }
 
 /// Bytes of a start's line.
-const LINE: usize = 15;
+const LINE: usize = 17;
 
 /// The longest list, then with two lines exchanged and with one in its next
 /// one's place: at its beginning, around powers of two and at its end.
@@ -237,7 +271,7 @@ fn longest_order(visit: &mut impl FnMut(&ReadCase)) {
         })
     };
     let first = text.len() - LINE * MAX_IMAGE;
-    for line in [0, 255, 4_095, 4_368, 8_191, MAX_IMAGE - 2] {
+    for line in [0, 255, 4_095, 4_368, 32_767, MAX_IMAGE - 2] {
         let at = first + LINE * line;
         let mut exchanged = text.clone();
         exchanged[at..at + 2 * LINE].rotate_left(LINE);
@@ -259,8 +293,17 @@ pub fn write_sweeps(mut visit: impl FnMut(&WriteCase)) {
             visit(&case);
         }
         // Room for a start more.
-        case.page_len = exact + 15;
+        case.page_len = exact + LINE;
         every_mark(case, &mut visit);
+    }
+    for program in bank_programs() {
+        let marked = Marked {
+            marks: program.marks,
+            base: program.base,
+            reset: program.reset,
+        };
+        let exact = marked.list().len();
+        visit(&marked.with_page(exact));
     }
     every_place(&mut visit);
     longest(&mut visit);
@@ -287,23 +330,20 @@ fn every_place(visit: &mut impl FnMut(&WriteCase)) {
         for mark in marks.iter_mut().step_by(length.saturating_sub(1).max(1)) {
             *mark = RESET_MARK;
         }
-        let end = 0x1_0000 - length as u32;
-        for base in [0, 0xC000, end, end + 1, 0xFF_0000 + end] {
-            every_reset(&marks, base, visit);
-        }
-        for base in [0xFF_FFFF, 0x100_0000, u32::MAX] {
+        let others = [0xFF_FFFF, u32::MAX];
+        for base in bases(length as u32).into_iter().chain(others) {
             every_reset(&marks, base, visit);
         }
     }
 }
 
-/// Resets in front of the image, at its first byte and its last, and past the
-/// bank.
+/// Resets in front of the image, at its first byte and its last, behind it, and
+/// in other banks.
 fn every_reset(marks: &[u8], base: u32, visit: &mut impl FnMut(&WriteCase)) {
-    let low = base & 0xFFFF;
-    let last = low + marks.len().saturating_sub(1) as u32;
-    let past = [low + 0x1_0000, base, u32::MAX];
-    for reset in [low.wrapping_sub(1), low, last].into_iter().chain(past) {
+    let end = base.wrapping_add(marks.len() as u32);
+    let beside = [base.wrapping_sub(1), base, end.wrapping_sub(1), end];
+    let others = [base & 0xFFFF, base ^ 0x1_0000, base | 0x100_0000, u32::MAX];
+    for reset in beside.into_iter().chain(others) {
         visit(&WriteCase {
             marks: marks.to_vec(),
             base,

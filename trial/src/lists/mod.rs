@@ -12,9 +12,9 @@ use sim7700::numbers::MAX_IMAGE;
 use writer::Writer;
 
 /// Marks somewhat over 01's limit are lent too.
-const MARKS_CAPACITY: usize = 20_000;
+const MARKS_CAPACITY: usize = 100_000;
 /// A list of the most starts, with room for lines too many.
-const TEXT_CAPACITY: usize = 15 * MAX_IMAGE + 4_096;
+const TEXT_CAPACITY: usize = 17 * MAX_IMAGE + 4_096;
 
 /// Compares the library with the simulator: the sweeps, then `count` drawn
 /// cases, for reader and writer in turn. The reader's tally, and the writer's.

@@ -75,7 +75,7 @@ impl Display for Shown<'_> {
     fn fmt(&self, f: &mut Formatter) -> fmt::Result {
         let case = self.0;
         let (length, marks) = (case.marks.len(), hex(&case.marks));
-        writeln!(f, "  base {:06X}, reset {:04X}", case.base, case.reset)?;
+        writeln!(f, "  base {:06X}, reset {:06X}", case.base, case.reset)?;
         writeln!(f, "  page of {} bytes", case.page_len)?;
         write!(f, "  marks, {length} bytes: {marks}")
     }

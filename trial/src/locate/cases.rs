@@ -2,7 +2,9 @@
 //! over markings, choices of addresses, their numbers, order and limits.
 
 use crate::check::cases::{self as checks, mixed_code, one_byte_codes};
-use sim7700::generate::{every_code, locate_by, locate_case, CheckCase, LocateCase, Rng};
+use sim7700::generate::{
+    bank_programs, every_code, locate_by, locate_case, CheckCase, LocateCase, Rng,
+};
 use sim7700::marks::START;
 use sim7700::numbers::{MAX_IMAGE, MAX_PROBE};
 
@@ -55,8 +57,8 @@ pub fn spread(rng: &mut Rng, checked: CheckCase, count: usize) -> LocateCase {
 pub fn sweeps(rng: &mut Rng, mut visit: impl FnMut(&LocateCase)) {
     // What the check refuses, and all bytes of what it accepts.
     checks::sweeps(rng, |case| visit(&whole(case)));
-    for checked in every_code(rng) {
-        visit(&whole(&checked));
+    for checked in every_code(rng).iter().chain(&bank_programs()) {
+        visit(&whole(checked));
     }
     for checked in short() {
         every_choice(&checked, &mut visit);
@@ -65,7 +67,7 @@ pub fn sweeps(rng: &mut Rng, mut visit: impl FnMut(&LocateCase)) {
         every_bit(&checked, &mut visit);
     }
     every_count(&mut visit);
-    every_limit(&mut visit);
+    checks::every_place(|checked| every_edge(checked, &mut visit));
     every_offset(&mut visit);
     for checked in [one_byte_codes(rng, MAX_IMAGE), mixed_code(rng, MAX_IMAGE)] {
         every_part(&checked, &mut visit);
@@ -73,16 +75,23 @@ pub fn sweeps(rng: &mut Rng, mut visit: impl FnMut(&LocateCase)) {
     }
 }
 
-/// All bytes of an image.
+/// All bytes of an image, or one more of them than can be asked for.
 fn whole(checked: &CheckCase) -> LocateCase {
-    let end = checked.base + checked.image.len() as u32;
-    LocateCase::exact(checked.clone(), (checked.base..end).collect())
+    let count = checked.image.len().min(MAX_PROBE + 1);
+    let addresses = (checked.base..).take(count).collect();
+    LocateCase::exact(checked.clone(), addresses)
 }
 
-/// Short images that are swept: 01's case 1; up to FFFFFF with bytes before
-/// its first start and gaps; one byte at 000000.
-fn short() -> [CheckCase; 3] {
+/// Short images that are swept: 01's case 1; up to FFFFFF and across a bank's
+/// end with bytes before the first start and gaps; one byte at 000000.
+fn short() -> [CheckCase; 4] {
     [
+        at(
+            0x12_FFFA,
+            2,
+            &[NOP, NOP, 0xA9, 0x34, 0x12, 0x80, 0x01, NOP, STP, NOP],
+            &[0, 0, 0x01, 0, 0, 0x01, 0, 0, 0x01, 0],
+        ),
         at(
             0x00_C000,
             0,
@@ -105,7 +114,7 @@ fn at(base: u32, reset: u32, image: &[u8], marks: &[u8]) -> CheckCase {
         image: image.to_vec(),
         marks: marks.to_vec(),
         base,
-        reset: (base & 0xFFFF) + reset,
+        reset: base + reset,
     }
 }
 
@@ -197,46 +206,20 @@ fn every_count(visit: &mut impl FnMut(&LocateCase)) {
     }
 }
 
-/// Lengths around the limit, marks of other lengths, at bases around the ends
-/// of banks, with resets in and outside the image.
-fn every_limit(visit: &mut impl FnMut(&LocateCase)) {
-    for length in [0, 1, 2, MAX_IMAGE - 1, MAX_IMAGE, MAX_IMAGE + 1] {
-        let end = 0x1_0000 - length as u32;
-        for base in [0, 0xC000, end, end + 1, 0xFF_0000 + end, 0x100_0000] {
-            for marks_len in [length, length + 1, length.saturating_sub(1)] {
-                every_reset(length, marks_len, base, visit);
-            }
-        }
-    }
-}
-
-/// STP on the first byte and on the last; the first and last byte asked for
-/// with those beside the image, all of them and each alone.
-fn every_reset(length: usize, marks_len: usize, base: u32, visit: &mut impl FnMut(&LocateCase)) {
-    let mut marks = vec![0; marks_len];
-    for mark in marks.iter_mut().step_by(length.saturating_sub(1).max(1)) {
-        *mark = START;
-    }
-    let (low, end) = (base & 0xFFFF, base + length as u32);
-    let mut checked = at(base, 0, &vec![STP; length], &marks);
+/// The first and last byte of an image with those beside it, all of them and
+/// each alone.
+fn every_edge(checked: CheckCase, visit: &mut impl FnMut(&LocateCase)) {
+    let (base, end) = (checked.base, checked.base + checked.image.len() as u32);
     let asked = [base.wrapping_sub(1), base, end.wrapping_sub(1), end];
-    for reset in [
-        low.wrapping_sub(1),
-        low,
-        low + length as u32,
-        low + 0x1_0000,
-    ] {
-        checked.reset = reset;
-        visit(&LocateCase::exact(checked.clone(), asked.to_vec()));
-        for address in asked {
-            visit(&LocateCase::exact(checked.clone(), vec![address]));
-        }
+    visit(&LocateCase::exact(checked.clone(), asked.to_vec()));
+    for address in asked {
+        visit(&LocateCase::exact(checked.clone(), vec![address]));
     }
 }
 
 /// A code that is not carried, at an offset for each bit.
 fn every_offset(visit: &mut impl FnMut(&LocateCase)) {
-    for bit in 0..14 {
+    for bit in 0..16 {
         let mut image = vec![NOP; MAX_IMAGE];
         image[1 << bit] = BRK;
         let checked = at(0, 0, &image, &[START; MAX_IMAGE]);
@@ -246,7 +229,7 @@ fn every_offset(visit: &mut impl FnMut(&LocateCase)) {
 
 /// All bytes of a long image, 256 in a call; its last byte alone.
 fn every_part(checked: &CheckCase, visit: &mut impl FnMut(&LocateCase)) {
-    let all = whole(checked).addresses;
+    let all: Vec<u32> = (checked.base..).take(checked.image.len()).collect();
     for part in all.chunks(MAX_PROBE) {
         visit(&LocateCase::exact(checked.clone(), part.to_vec()));
     }

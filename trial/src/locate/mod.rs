@@ -29,7 +29,7 @@ pub const NUMBERS: [Named; 13] = [
     (16, "addresses"),
 ];
 
-/// A byte or two over 01's limit are drawn too.
+/// A byte or two over the limit are drawn too.
 const CAPACITY: usize = MAX_IMAGE + 16;
 /// Numbers of 32 bits, many more than 256.
 const LIST_CAPACITY: usize = 4 * 1_024;
@@ -142,7 +142,7 @@ impl Display for Shown<'_> {
         let (image, marks) = (hex(&checked.image), hex(&checked.marks));
         writeln!(
             f,
-            "  base {:06X}, reset {:04X}",
+            "  base {:06X}, reset {:06X}",
             checked.base, checked.reset
         )?;
         writeln!(f, "  {} addresses: {addresses:06X?}", addresses.len())?;

@@ -2,7 +2,9 @@
 //! all codes and markings, bytes, addresses, page lengths and limits.
 
 use crate::check::cases::{self as checks, mixed_code, one_byte_codes};
-use sim7700::generate::{every_code, print_by, print_case, CheckCase, PrintCase, Rng};
+use sim7700::generate::{
+    bank_programs, every_code, print_by, print_case, CheckCase, PrintCase, Rng,
+};
 use sim7700::marks::START;
 use sim7700::numbers::MAX_IMAGE;
 use sim7700::ROW_BYTES;
@@ -48,13 +50,19 @@ pub fn sweeps(rng: &mut Rng, mut visit: impl FnMut(&PrintCase)) {
     for checked in every_code(rng) {
         every_end(&PrintCase::exact(checked), &mut visit);
     }
-    for checked in short() {
+    for checked in short().into_iter().chain(bank_programs()) {
         every_page(&checked, &mut visit);
         every_mark(&checked, &mut visit);
     }
     every_byte(&mut visit);
     every_address(&mut visit);
-    every_place(&mut visit);
+    // Pages for no row and for both.
+    checks::every_place(|checked| {
+        for page_len in [0, 2 * ROW_BYTES] {
+            let checked = checked.clone();
+            visit(&PrintCase { checked, page_len });
+        }
+    });
     every_offset(&mut visit);
     every_end(
         &PrintCase::exact(one_byte_codes(rng, MAX_IMAGE)),
@@ -96,7 +104,7 @@ fn at(base: u32, image: &[u8], marks: &[u8]) -> CheckCase {
         image: image.to_vec(),
         marks: marks.to_vec(),
         base,
-        reset: base & 0xFFFF,
+        reset: base,
     }
 }
 
@@ -144,45 +152,9 @@ fn every_address(visit: &mut impl FnMut(&PrintCase)) {
     }
 }
 
-/// Lengths around the limit, marks of other lengths, at bases around the ends
-/// of banks, with resets in and outside the image, and pages for no row and
-/// for both.
-fn every_place(visit: &mut impl FnMut(&PrintCase)) {
-    for length in [0, 1, 2, MAX_IMAGE - 1, MAX_IMAGE, MAX_IMAGE + 1] {
-        let end = 0x1_0000 - length as u32;
-        for base in [0, 0xC000, end, end + 1, 0xFF_0000 + end, 0x100_0000] {
-            for marks_len in [length, length + 1, length.saturating_sub(1)] {
-                every_reset(length, marks_len, base, visit);
-            }
-        }
-    }
-}
-
-/// STP on the first byte and on the last, and resets around them.
-fn every_reset(length: usize, marks_len: usize, base: u32, visit: &mut impl FnMut(&PrintCase)) {
-    let mut marks = vec![0; marks_len];
-    for mark in marks.iter_mut().step_by(length.saturating_sub(1).max(1)) {
-        *mark = START;
-    }
-    let low = base & 0xFFFF;
-    let mut case = PrintCase::exact(at(base, &vec![STP; length], &marks));
-    for reset in [
-        low.wrapping_sub(1),
-        low,
-        low + length as u32,
-        low + 0x1_0000,
-    ] {
-        case.checked.reset = reset;
-        for page_len in [0, 2 * ROW_BYTES] {
-            case.page_len = page_len;
-            visit(&case);
-        }
-    }
-}
-
 /// A code that is not carried, at an offset for each bit.
 fn every_offset(visit: &mut impl FnMut(&PrintCase)) {
-    for bit in 0..14 {
+    for bit in 0..16 {
         let mut image = vec![NOP; MAX_IMAGE];
         image[1 << bit] = BRK;
         visit(&PrintCase::exact(at(0, &image, &[START; MAX_IMAGE])));

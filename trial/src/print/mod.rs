@@ -29,7 +29,7 @@ pub const NUMBERS: [Named; 12] = [
     (15, "page"),
 ];
 
-/// A byte or two over 01's limit are drawn too.
+/// A byte or two over the limit are drawn too.
 const CAPACITY: usize = MAX_IMAGE + 16;
 /// The most rows, with room for some too many.
 const PAGE_CAPACITY: usize = ROW_BYTES * CAPACITY;
@@ -116,7 +116,7 @@ impl Display for Shown<'_> {
         let (image, marks) = (hex(&checked.image), hex(&checked.marks));
         writeln!(
             f,
-            "  base {:06X}, reset {:04X}",
+            "  base {:06X}, reset {:06X}",
             checked.base, checked.reset
         )?;
         writeln!(f, "  page of {page_len} bytes")?;

@@ -79,7 +79,7 @@ fn begun(rng: &mut Rng, noise: &Noise, program: &CheckCase, ram_len: usize) -> R
         .filter(|&at| is_start(program.marks[at]))
         .collect();
     let at = match rng.below(3) {
-        0 => (program.reset - (program.base & 0xFFFF)) as usize,
+        0 => (program.reset - program.base) as usize,
         _ => *rng.pick(&starts),
     };
     let mut state = vec![0; STATE_BYTES];

@@ -10,7 +10,7 @@ use crate::steps::noise::Noise;
 use crate::tally::{Named, Tally};
 use lister::Lister;
 use lists::List;
-use sim7700::generate::{depth_runs, Rng};
+use sim7700::generate::{bank_runs, depth_runs, Rng};
 
 /// The answers with 01's words.
 pub const NUMBERS: [Named; 14] = [
@@ -55,16 +55,17 @@ pub fn trial(count: u64, seed: u64) -> [Tally; 2] {
 }
 
 /// Compares a machine with the simulator's: the longest run, runs to each
-/// number of open calls, `count` drawn ones, and a list of runs over an accepted program for every fifth. The
-/// tallies of runs alone and in lists.
+/// number of open calls and around the ends of banks, `count` drawn ones, and a
+/// list of runs over an accepted program for every fifth. The tallies of runs
+/// alone and in lists.
 pub fn tried(mut lister: Lister, count: u64, seed: u64) -> [Tally; 2] {
     let mut rng = Rng::new(seed);
     let noise = Noise::new(&mut rng);
     let mut alone = Tally::of("runs alone", &NUMBERS, LEAST);
     let mut listed = Tally::of("runs in lists", &LIST_NUMBERS, LEAST);
     alone.note(lister.alone(&alone::longest()));
-    for case in depth_runs(&mut rng) {
-        alone.note(lister.alone(&case));
+    for case in depth_runs(&mut rng).iter().chain(&bank_runs(&mut rng)) {
+        alone.note(lister.alone(case));
     }
     for turn in 0..count {
         alone.note(lister.alone(&alone::drawn(&mut rng, &noise)));

@@ -4,7 +4,7 @@ use super::noise::Noise;
 use crate::machine::Instruction;
 use sim7700::codes::Word;
 use sim7700::generate::{Rng, RunCase};
-use sim7700::numbers::{MAX_ADDRESS, MAX_CALLS};
+use sim7700::numbers::{bank, MAX_ADDRESS, MAX_CALLS};
 use sim7700::state::{depth, set_call, set_depth, Registers, CALL_BYTES, HEAD_BYTES, STATE_BYTES};
 
 const DEPTHS: [usize; 6] = [0, 1, 2, MAX_CALLS - 1, MAX_CALLS, MAX_CALLS];
@@ -44,7 +44,10 @@ fn returning(case: &RunCase) -> Option<(u32, u8)> {
     let instruction = Instruction::of(&case.image, case.base, &registers)?;
     let pulled = |k: u16| (byte_at(case, registers.s.wrapping_add(k)) as u32) << (8 * (k - 1));
     match instruction.entry.word {
-        Word::RTS => Some((registers.pc & 0xFF_0000 | pulled(1) | pulled(2), 1)),
+        Word::RTS => {
+            let next = (registers.pc + 1) & MAX_ADDRESS;
+            Some((bank(next) | pulled(1) | pulled(2), 1))
+        }
         Word::RTL => Some((pulled(1) | pulled(2) | pulled(3), 2)),
         _ => None,
     }

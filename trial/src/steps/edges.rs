@@ -8,21 +8,22 @@ use crate::machine::{carried, code_bytes, Code};
 use sim7700::alu::{D, M, X};
 use sim7700::codes::entry_of;
 use sim7700::generate::{
-    aimed_step, crossed_steps, depth_steps, edge_step, placed_steps, valued_steps, Rng, RunCase,
-    EDGES,
+    aimed_step, bank_steps, crossed_steps, depth_steps, edge_step, placed_steps, valued_steps, Rng,
+    RunCase, EDGES,
 };
 use sim7700::state::{self, Registers, STATE_BYTES};
 
 const WIDTHS: [u16; 4] = [0, X, M, M | X];
 
 /// Hands each case of the sweeps to `visit`: refusals, stops at each of their
-/// places, pairs of edge values, each number of open calls, and each code at each pair of widths with edge
-/// values and at each edge.
+/// places, pairs of edge values, each number of open calls, ends of banks, and
+/// each code at each pair of widths with edge values and at each edge.
 pub fn swept(rng: &mut Rng, mut visit: impl FnMut(&RunCase)) {
     refusals::swept(rng, &mut visit);
     placed_steps(rng).iter().for_each(&mut visit);
     crossed_steps(rng).iter().for_each(&mut visit);
     depth_steps(rng).iter().for_each(&mut visit);
+    bank_steps(rng).iter().for_each(&mut visit);
     for page in 0..3 {
         for code in 0..=255 {
             for widths in WIDTHS {
@@ -84,8 +85,9 @@ impl Place {
         let image_len = length + rng.index(5);
         let end = 0x1_0000 - image_len as u32;
         let behind = ram_len as u32;
+        let across = 0x13_0000 - rng.index(image_len) as u32;
         let bases = [behind, behind + 1, 0xC000, end, 0x1_0000, 0x12_0000 | end];
-        let base = *rng.pick(&[&bases[..], &[0xFF_0000 | end]].concat());
+        let base = *rng.pick(&[&bases[..], &[0xFF_0000 | end, across]].concat());
         Place {
             ram_len,
             base,

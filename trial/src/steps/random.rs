@@ -2,6 +2,7 @@
 
 use super::calls::{litter, reopen};
 use super::noise::Noise;
+use crate::check::cases::any_base;
 use crate::machine::{carried, put_code};
 use sim7700::alu::D;
 use sim7700::generate::{refused_by, Rng, RunCase};
@@ -52,15 +53,17 @@ fn image(rng: &mut Rng, noise: &Noise) -> (Vec<u8>, usize) {
     (image, at)
 }
 
-/// Right behind RAM, at the end of a bank, or anywhere above RAM.
+/// Right behind RAM, up to the end of a bank or across it, or anywhere above
+/// RAM.
 fn base(rng: &mut Rng, ram_len: usize, image_len: usize) -> u32 {
-    let last = 0x1_0000 - image_len as u32;
-    let bank = (rng.byte() as u32) << 16;
-    match rng.below(5) {
+    let end = *rng.pick(&[0x2_0000, 0x13_0000, 0x100_0000]);
+    let last = end - image_len as u32;
+    match rng.below(6) {
         0 | 1 => ram_len as u32,
-        2 => *rng.pick(&[0, bank, 0xFF_0000]) | last,
-        3 => (ram_len as u32 + rng.below(0x4000) as u32).min(last),
-        _ => bank.max(0x1_0000) + rng.below(last as u64 + 1) as u32,
+        2 => last,
+        3 => ram_len as u32 + rng.below(0x4000) as u32,
+        4 if end <= MAX_ADDRESS => last + rng.index(image_len) as u32,
+        _ => any_base(rng, image_len).max(ram_len as u32),
     }
 }
 

@@ -36,7 +36,7 @@ pub fn swept(rng: &mut Rng, mut visit: impl FnMut(&RunCase)) {
 
 /// Around RAM's lengths, around the ends of banks, and past FFFFFF.
 fn bases(length: u32) -> [u32; 14] {
-    let end = 0x1_0000 - length;
+    let (end, last) = (0x2_0000 - length, 0x100_0000 - length);
     [
         0,
         1,
@@ -47,8 +47,8 @@ fn bases(length: u32) -> [u32; 14] {
         end,
         end + 1,
         0xFFFF,
-        0xFF_0000 + end,
-        0xFF_0000 + end + 1,
+        last,
+        last + 1,
         0xFF_FFFF,
         0x100_0000,
         u32::MAX,

@@ -3,15 +3,18 @@
 
 use crate::stand_in::{Made, Twist};
 use sim7700::codes::Word;
+use sim7700::numbers::bank;
 use sim7700::state::{self, set_depth, CALL_BYTES, HEAD_BYTES, STATE_BYTES};
 
-pub const FAULTS: [(&str, Twist); 23] = [
+pub const FAULTS: [(&str, Twist); 25] = [
     ("the address of a call's last byte pushed", last_byte_pushed),
     (
         "the address of a call's last byte in the entry",
         last_byte_kept,
     ),
-    ("a call's target in the next bank", target_in_next_bank),
+    ("a call's target in its own bank", target_in_own_bank),
+    ("a jump's target in its own bank", jump_in_own_bank),
+    ("a return in its own bank", return_in_own_bank),
     (
         "the reserved bytes not cleared at an opened call",
         reserved_kept,
@@ -56,11 +59,26 @@ fn last_byte_kept(made: &mut Made) {
     }
 }
 
-fn target_in_next_bank(made: &mut Made) {
+/// Goes on in the bank of the instruction itself, if it is this one.
+fn in_own_bank(made: &mut Made, word: Word, code: u8) {
     let Some(it) = made.instruction() else { return };
-    let next = made.before().pc + it.length as u32;
-    if made.does(Word::JSR) && it.code == 0x20 {
-        made.put(|r| r.pc = next & 0xFF_0000 | r.pc & 0xFFFF);
+    let own = bank(made.before().pc);
+    if made.does(word) && it.code == code {
+        made.put(|r| r.pc = own | r.pc & 0xFFFF);
+    }
+}
+
+fn target_in_own_bank(made: &mut Made) {
+    in_own_bank(made, Word::JSR, 0x20);
+}
+
+fn jump_in_own_bank(made: &mut Made) {
+    in_own_bank(made, Word::JMP, 0x4C);
+}
+
+fn return_in_own_bank(made: &mut Made) {
+    if made.does(Word::RTS) && bank(made.before().pc) != bank(made.after().pc) {
+        made.stop_with(24);
     }
 }
 
@@ -96,8 +114,8 @@ fn return_with(made: &mut Made, word: Word, byte: usize, value: u8) {
 
 fn bank_not_compared(made: &mut Made) {
     if made.number() == 24 {
-        let bank = (made.before().pc >> 16) as u8;
-        return_with(made, Word::RTS, 2, bank);
+        let next = made.before().pc + 1;
+        return_with(made, Word::RTS, 2, (next >> 16) as u8);
     }
 }
 

@@ -54,7 +54,8 @@ returns-2 c =
     let args = test .before .before .before .before .before .before .before .args in
     let same = taken-list (args .image .now) (args .base .now) (args .reset .now) (args .text .now) _
     (test .before .is-taken .ensures) (test .if1 .left) in
-    let put = rw (numbers .before .number .ensures, numbers .number2 .ensures, same) at (list .put-list .ensures) in (
+    let put =
+    rw (numbers .before .number .ensures .0, numbers .number2 .ensures .0, same) at (list .put-list .ensures) in (
       put,
       front-part (spec.builtList (args .image .now) (args .base .now) (args .reset .now) (args .text .now))
           (args .page .now) _ _ (put .0) (put .1),

@@ -2,7 +2,7 @@
 -- Assumes nothing.
 use native.Mathlib.Omega.{arith}
 use borrow.Author.Needs.{needs}
-use Rattle.locator.proofs.Answers.{as-many, in-bank, refused-then, fit, room, places-found}
+use Rattle.locator.proofs.Answers.{as-many, in-space, refused-then, fit, room, places-found}
 use Rattle.locator.proofs.locate.Statement.{statement}
 use Rattle.locator.proofs.locate.Tie as tie
 
@@ -12,7 +12,7 @@ test-addresses-requires c κs =
     let args = start .args in
     omega (
       arith,
-      in-bank (args .image .now) (args .marks .now) (args .base) (start .pre .0) (args .addresses .now)
+      in-space (args .image .now) (args .marks .now) (args .base) (start .pre .0) (args .addresses .now)
           (args .places .now) (start .pre .1),
     )
 
@@ -32,7 +32,7 @@ pass-marks-requires c κs =
     let passes = told .enum-told .given .1 in (
       as-many (args .image .now) (args .marks .now) (args .base) (start .pre .0) (args .addresses .now)
           (args .places .now) (start .pre .1),
-      in-bank (args .image .now) (args .marks .now) (args .base) (start .pre .0) (args .addresses .now)
+      in-space (args .image .now) (args .marks .now) (args .base) (start .pre .0) (args .addresses .now)
           (args .places .now) (start .pre .1),
       fit (args .image .now) (args .marks .now) (args .base) (start .pre .0) (args .addresses .now) (args .places .now)
           (start .pre .1) (tested .test-addresses .result) (tested .test-addresses .ensures) passes,

@@ -70,7 +70,7 @@ returns-4 c =
     let by-list = printing .print-by-list .ensures in
     let answer = told .enum-told .given .1 in
     let same = within-limits (args .image .now) (args .text .now) (limit .before .if1 .left) (limit .if2 .left)
-    ∙ none-taken (args .image .now) (args .text .now) _ _ (args .page .now) (start .pre)
+    ∙ none-taken (args .image .now) (args .text .now) _ _ (args .page .now) (limit .before .if1 .left) (start .pre)
     (rw (by-list .0) at answer) in
     let left = rw answer at (by-list .1) in
     (rw (same, ← left) (line .put-answer-line3 .ensures .0), line .put-answer-line3 .ensures .1)

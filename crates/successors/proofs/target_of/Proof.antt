@@ -14,8 +14,8 @@ offset-by-requires-2 : tie.Need-offset-by-requires-2
 offset-by-requires-2 c κs =
     (omega arith, omega (arith, c .before .next-address3 .ensures), c .low-word .ensures .1)
 
-in-bank-of-requires : tie.Need-in-bank-of-requires
-in-bank-of-requires c κs = c .low-word2 .ensures .1
+in-bank-after-requires : tie.Need-in-bank-after-requires
+in-bank-after-requires c κs = (c .before .before .before .pre .0, c .low-word2 .ensures .1)
 
 returns : tie.Need-returns
 unfolding targetOf
@@ -43,7 +43,7 @@ returns-3 c =
 
 returns-4 : tie.Need-returns-4
 unfolding targetOf
-returns-4 c = rw (c .before .before .enum-told4 .given .1, c .in-bank-of .ensures, c .before .low-word2 .ensures .0)
+returns-4 c = rw (c .before .before .enum-told4 .given .1, c .in-bank-after .ensures, c .before .low-word2 .ensures .0)
 
 returns-5 : tie.Need-returns-5
 unfolding targetOf
@@ -55,5 +55,5 @@ target-of-spec =
     (tie.spec
     (λ c. search needs) (λ c κs. search needs) (λ c. search needs) (λ c κs. search needs) (λ c κs. search needs)
     offset-by-requires (λ c. search needs) (λ c κs. search needs) (λ c κs. search needs) offset-by-requires-2
-    (λ c. search needs) (λ c κs. search needs) in-bank-of-requires (λ c. search needs) (λ c κs. search needs)
+    (λ c. search needs) (λ c κs. search needs) in-bank-after-requires (λ c. search needs) (λ c κs. search needs)
     returns returns-2 returns-3 returns-4 returns-5)

@@ -5,10 +5,10 @@ use Rattle.trials.proofs.try_records.Statement.{statement}
 use Rattle.trials.proofs.try_records.Tie as tie
 
 abbrev Inv-loop : tie.InvT-loop
-Inv-loop kind file numbers₀ at₀ records agreed₀ left₀ numbers at agreed left = Unit {0}
+Inv-loop kind long file numbers₀ at₀ records agreed₀ left₀ numbers at agreed left = Unit {0}
 
 abbrev μ-loop : tie.MeasureT-loop
-μ-loop kind file numbers₀ at₀ records agreed₀ left₀ numbers at agreed left = left
+μ-loop kind long file numbers₀ at₀ records agreed₀ left₀ numbers at agreed left = left
 
 pub try-records-spec : {M : Type 1} → statement M
 try-records-spec =

@@ -9,6 +9,7 @@ mod runs;
 
 use clock::{row, Input};
 use sim7700::generate::{backwards, calling, straight, BuildCase, CheckCase, Rng};
+use sim7700::numbers::MAX_IMAGE;
 use std::env;
 use std::process::ExitCode;
 use trial7700::check::cases::{mixed_code, one_byte_codes};
@@ -20,7 +21,9 @@ const CALLS: usize = 20;
 const SEED: u64 = 7700;
 /// Bytes of code that the benchmarks of check, page, location and building go
 /// through in a call.
-const BYTES: usize = 131_072;
+const BYTES: usize = 262_144;
+/// The longest image, and one of half its bytes.
+const LENGTHS: [(usize, &str); 2] = [(MAX_IMAGE, "65,536"), (MAX_IMAGE / 2, "32,768")];
 
 fn main() -> ExitCode {
     let args: Vec<String> = env::args().skip(1).collect();
@@ -41,10 +44,12 @@ fn main() -> ExitCode {
 
 fn check() {
     println!("accepted images, ns per byte        library  simulator  ratio");
-    let whole = checked("mixed, 16,384", &drawn(mixed_code, 16_384));
-    let half = checked("mixed, 8,192", &drawn(mixed_code, 8_192));
-    checked("one-byte, 16,384", &drawn(one_byte_codes, 16_384));
-    linear("mixed code", whole, half);
+    let times = LENGTHS.map(|(length, said)| {
+        let images = drawn(mixed_code, length);
+        checked(&format!("mixed, {said}"), &images)
+    });
+    checked("one-byte, 65,536", &drawn(one_byte_codes, MAX_IMAGE));
+    linear("mixed code", times);
 }
 
 /// Different images of a length, together so many bytes at every length: one
@@ -56,27 +61,28 @@ fn drawn<T>(draw: fn(&mut Rng, usize) -> T, length: usize) -> Vec<T> {
 }
 
 fn lists() {
-    let marked = |length| every_start(&mut Rng::new(SEED), length);
-    let (whole, half) = (marked(16_384), marked(8_192));
     println!("lists of starts, ns per start       library  simulator  ratio");
-    let times = [written(&whole), read(&whole)];
-    let halves = [written(&half), read(&half)];
-    linear("written", times[0], halves[0]);
-    linear("read", times[1], halves[1]);
+    let marked = LENGTHS.map(|(length, _)| every_start(&mut Rng::new(SEED), length));
+    linear("written", marked.each_ref().map(written));
+    linear("read", marked.each_ref().map(read));
 }
 
 fn print() {
     println!("printed images, ns per byte         library  simulator  ratio");
-    let whole = pages::printed("mixed, 16,384", CALLS, &drawn(mixed_code, 16_384));
-    let half = pages::printed("mixed, 8,192", CALLS, &drawn(mixed_code, 8_192));
-    linear("printed", whole, half);
+    let times = LENGTHS.map(|(length, said)| {
+        let images = drawn(mixed_code, length);
+        pages::printed(&format!("mixed, {said}"), CALLS, &images)
+    });
+    linear("printed", times);
 }
 
 fn locate() {
     println!("256 addresses, ns per byte          library  simulator  ratio");
-    let whole = locates::located("mixed, 16,384", CALLS, drawn(mixed_code, 16_384));
-    let half = locates::located("mixed, 8,192", CALLS, drawn(mixed_code, 8_192));
-    linear("located", whole, half);
+    let times = LENGTHS.map(|(length, said)| {
+        let images = drawn(mixed_code, length);
+        locates::located(&format!("mixed, {said}"), CALLS, images)
+    });
+    linear("located", times);
 }
 
 fn build() {
@@ -87,16 +93,18 @@ fn build() {
         ("calls", calling),
     ];
     for (name, sort) in sorts {
-        let whole = builds::built(&format!("{name}, 16,384"), CALLS, &drawn(sort, 16_384));
-        let half = builds::built(&format!("{name}, 8,192"), CALLS, &drawn(sort, 8_192));
-        linear(name, whole, half);
+        let times = LENGTHS.map(|(length, said)| {
+            let images = drawn(sort, length);
+            builds::built(&format!("{name}, {said}"), CALLS, &images)
+        });
+        linear(name, times);
     }
 }
 
 /// Near 2 is linear.
-fn linear(name: &str, whole: f64, half: f64) {
+fn linear(name: &str, [whole, half]: [f64; 2]) {
     let ratio = whole / half;
-    println!("library, {name}, t(16,384) / t(8,192): {ratio:.2}");
+    println!("library, {name}, t(65,536) / t(32,768): {ratio:.2}");
 }
 
 /// Times the check of accepted images; the library's best time of one in ns.

@@ -8,7 +8,7 @@ use Rattle.builder.proofs.close.close_up.Statement.{statement}
 use Rattle.builder.proofs.close.close_up.Tie as tie
 
 -- where the reset was put
-module _ (c : tie.After-put-reset) where
+module _ (c : tie.After-put) where
   abbrev listed : tie.After-list-starts
   listed = c .before .before .before .before
 
@@ -27,7 +27,7 @@ work-requires c κs =
     let reset = lent .before in
     let pre = start reset .pre in (
       codes .pages .ensures,
-      reset .put-reset .ensures .0,
+      reset .put .ensures .1,
       lent .marks .given ∙ pre .1,
       omega (arith, lent .marks .given, pre .1, pre .3),
       omega (arith, lent .marks .given, pre .1, pre .2),
@@ -39,9 +39,9 @@ returns c =
     let codes = worked .before .before .before .before in
     let reset = codes .before .before .before .before in
     let args = start reset .args in
-    let begun = begins (args .image .now) (args .base) (args .reset) (args .marks .now) (reset .put-reset .last .0)
-    (reset .put-reset .last .1 .0) (reset .put-reset .result) (start reset .pre .1) (reset .put-reset .ensures .1)
-    (reset .put-reset .ensures .0) in
+    let begun = begins (args .image .now) (args .base) (args .reset) (args .marks .now) (reset .put .last .0)
+    (reset .put .last .1 .0) (reset .put .result) (start reset .pre .1) (reset .put .ensures .0)
+    (reset .put .ensures .1) in
     closed (args .image .now) (args .base) (args .reset) (args .marks .now) (worked .work .last .1 .1 .0)
     (worked .work .last .1 .1 .1 .0) (worked .work .result) (worked .work .ensures (args .reset) (args .marks .now)
     begun)

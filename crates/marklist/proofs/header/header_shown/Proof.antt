@@ -17,23 +17,27 @@ number-requires-2 c κs =
     let digits = c .before in
     (omega (arith, few digits), omega arith, power-small (digits .length-digits-shown .result) (few digits))
 
-add-number-2 : tie.Need-add-number-2
-add-number-2 c = omega (arith, few (c .before .before))
+add-reset-at : tie.Need-add-reset-at-2
+add-reset-at c = omega (arith, few (c .before .before))
 
-number-requires-3 : tie.Need-number-requires-3
-number-requires-3 c κs = omega (arith, few (c .before .before))
+reset-at-requires : tie.Need-reset-at-requires
+reset-at-requires c κs =
+    let base = c .before .before in
+    (omega (arith, few (base .before)), base .number .ensures .1)
 
 returns : tie.Need-returns
 unfolding spec.headerShown
 returns c =
+    let base = c .before .before .before in
     rw (
-      c .before .before .number .ensures,
-      c .before .number2 .ensures,
-      c .number3 .ensures,
-      c .before .before .before .length-digits-shown .ensures,
+      c .reset-at .ensures,
+      c .before .is-old .ensures,
+      base .number .ensures .0,
+      c .before .before .number2 .ensures .0,
+      base .before .length-digits-shown .ensures,
     )
 
 pub header-shown-spec : {M : Type 1} → statement M
 header-shown-spec =
     tie.close (tie.spec (λ c κs. search needs) (λ c κs. search needs) number-requires-2 (λ c. search needs)
-    add-number-2 number-requires-3 returns)
+    add-reset-at (λ c κs. search needs) reset-at-requires returns)

@@ -1,6 +1,7 @@
 -- The text is compared with the first line of what it shows, written into a line of its own.
 -- Assumes nothing.
 use Rattle.model.specs.MarkList as spec
+use Rattle.model.specs.MarkList.{digitsBy}
 use borrow.Author.Tests.{lt-ltb, le-ltb}
 use Rattle.marklist.proofs.HeaderLaws.{small-header, line-long, line-begin, begin-long}
 use borrow.Author.Needs.{needs}
@@ -12,18 +13,22 @@ unfolding spec.isHeader
 returns c = rw (le-ltb (c .before .before .before .args .h .length) spec.lengthLimit (c .if1 .taken))
 
 put-header-requires : tie.Need-put-header-requires
-put-header-requires c κs = small-header (c .before .before .before .before .args .h)
+put-header-requires c κs =
+    let args = c .before .before .before .before .args in
+    small-header (args .old) (args .h)
 
 array-share-prefix-line : tie.Need-array-share-prefix-line
 array-share-prefix-line c =
     let put = c .before .before in
-    line-long (put .before .before .before .before .before .args .h) (c .header-size .result)
+    line-long (digitsBy (put .before .before .before .before .before .args .old))
+    (put .before .before .before .before .before .args .h) (c .header-size .result)
     (put .put-header .last .0) _ (c .header-size .ensures) (put .put-header .ensures)
 
 slice-aggregate-starts-with : tie.Need-slice-aggregate-starts-with
 slice-aggregate-starts-with c =
     let put = c .before .before .before in
-    begin-long (put .before .before .before .before .before .args .h) (c .before .header-size .result)
+    begin-long (digitsBy (put .before .before .before .before .before .args .old))
+    (put .before .before .before .before .before .args .h) (c .before .header-size .result)
     (put .put-header .last .0) _ (c .before .header-size .ensures) (put .put-header .ensures)
 
 returns-2 : tie.Need-returns-2
@@ -34,7 +39,8 @@ returns-2 c =
     let small = put .before .before in
     let args = small .before .before .before .args in
     let begin =
-    line-begin (args .h) (size .result) (put .put-header .last .0) _ (size .ensures) (put .put-header .ensures) in
+    line-begin (digitsBy (args .old)) (args .h) (size .result) (put .put-header .last .0) _ (size .ensures)
+    (put .put-header .ensures) in
     rw (lt-ltb (args .h .length) spec.lengthLimit (small .if1 .left)) (rw begin at (c .starts-with .ensures))
 
 pub is-header-spec : {M : Type 1} → statement M

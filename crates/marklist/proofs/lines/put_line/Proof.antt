@@ -22,8 +22,9 @@ module _ (c : tie.Else1) where
   started : isStart (start .args .mark) ≡ true
   started = rw (c .before .is-start .ensures) at (not-false (c .before .is-start .result) (c .if1 .left))
 
-  room : 15 ≤ length (start .args .page .now)
-  room = line-room (start .args .address) (start .args .mark) (start .args .page .now) started (start .pre)
+  room : 17 ≤ length (start .args .page .now)
+  room =
+      line-room spec.newDigits (start .args .address) (start .args .mark) (start .args .page .now) started (start .pre)
 
 returns : tie.Need-returns
 unfolding spec.lineSize spec.lineOf
@@ -39,7 +40,8 @@ sub-put-bytes c =
     let put = c .before .before in
     let begun = put .before .before in
     let args = start begun .args in
-    front-inside (address-put (args .address) (args .mark) (args .page .now) (started begun) (start begun .pre)
+    front-inside (address-put spec.newDigits (args .address) (args .mark) (args .page .now) (started begun)
+    (start begun .pre)
     (put .put-digits .ensures))
 
 put-bytes-requires : tie.Need-put-bytes-requires
@@ -49,7 +51,7 @@ put-bytes-requires c κs =
     let begun = put .before .before in
     let args = start begun .args in
     let front =
-    address-put (args .address) (args .mark) (args .page .now) (started begun) (start begun .pre)
+    address-put spec.newDigits (args .address) (args .mark) (args .page .now) (started begun) (start begun .pre)
     (put .put-digits .ensures) in
     rw (c .before .fields .ensures) (part-room 11 front (room begun))
 
@@ -61,17 +63,17 @@ returns-2 c =
     let begun = put .before .before in
     let args = start begun .args in
     let front =
-    address-put (args .address) (args .mark) (args .page .now) (started begun) (start begun .pre)
+    address-put spec.newDigits (args .address) (args .mark) (args .page .now) (started begun) (start begun .pre)
     (put .put-digits .ensures) in
     let got = rw (last .before .before .fields .ensures) at (last .put-bytes .ensures) in
     let page =
-    line-put (args .address) (args .mark) (args .page .now) (started begun) (start begun .pre)
+    line-put spec.newDigits (args .address) (args .mark) (args .page .now) (started begun) (start begun .pre)
     (last .put-bytes .last .0) front got in
-    (sym (start-size (args .mark) (started begun)), page)
+    (sym (start-size spec.newDigits (args .mark) (started begun)), page)
 
 pub put-line-spec : {M : Type 1} → statement M
 put-line-spec =
     tie.close
     (tie.spec
     (λ c κs. search needs) returns put-digits-requires sub-put-bytes sub-put-bytes (λ c. search needs)
-    (λ c κs. search needs) (λ c. search needs) put-bytes-requires (λ c. search needs) returns-2)
+    (λ c κs. search needs) (λ c. search needs) put-bytes-requires (λ c. search needs) (λ c. search needs) returns-2)

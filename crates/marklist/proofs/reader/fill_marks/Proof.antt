@@ -4,6 +4,7 @@
 use Prim.Native.Nat.{_-_}
 use native.Mathlib.Omega.{arith}
 use lib.ListN.{length}
+use Rattle.model.specs.MarkList.{digitsBy}
 use Rattle.text.proofs.Pages.{part-whole}
 use Rattle.marklist.proofs.Walks.{Filled, none-filled, one-more-filled, all-filled}
 use Rattle.marklist.proofs.Walks.{Left, none-walked, one-more-walked, all-walked}
@@ -12,18 +13,20 @@ use Rattle.marklist.proofs.reader.fill_marks.Statement.{statement}
 use Rattle.marklist.proofs.reader.fill_marks.Tie as tie
 
 abbrev Inv-loop : tie.InvT-loop
-Inv-loop text at address marks₀ place₀ i₀ marks place i =
-    Filled text at address marks₀ marks place i × Left text at address (length marks₀) place i
+Inv-loop text at old address marks₀ place₀ i₀ marks place i =
+    Filled (digitsBy old) text at address marks₀ marks place i
+    × Left (digitsBy old) text at address (length marks₀) place i
 
 abbrev μ-loop : tie.MeasureT-loop
-μ-loop text at address marks₀ place₀ i₀ marks place i = length marks₀ - i
+μ-loop text at old address marks₀ place₀ i₀ marks place i = length marks₀ - i
 
 loop-holds : tie.Need-loop-holds Inv-loop μ-loop
 loop-holds c =
     let start = c .before .before in
-    let args = start .args in (
-      none-filled (args .text .now) (args .at) (args .address) (args .marks .now) (start .pre .0),
-      none-walked (args .text .now) (args .at) (args .address) (length (args .marks .now)) (start .pre .0),
+    let args = start .args in
+    let count = digitsBy (args .old) in (
+      none-filled count (args .text .now) (args .at) (args .address) (args .marks .now) (start .pre .0),
+      none-walked count (args .text .now) (args .at) (args .address) (length (args .marks .now)) (start .pre .0),
     )
 
 add-place : tie.Need-add-place Inv-loop μ-loop
@@ -32,7 +35,8 @@ add-place c =
     let loop = c .before .before .before .before .loop in
     let shown = rw (part-whole (loop .place) (start .args .text .now)) at (c .before .mark-shown .ensures) in
     let next =
-    one-more-filled (start .args .text .now) (start .args .at) (start .args .address) (start .args .marks .now)
+    one-more-filled (digitsBy (start .args .old)) (start .args .text .now) (start .args .at) (start .args .address)
+    (start .args .marks .now)
     (loop .marks) (loop .place) (loop .i) (c .before .mark-shown .result) (c .line-size .result)
     (c .before .before .before .loop-test .taken) shown (c .line-size .ensures) (loop .inv .0) in
     omega (arith, next .1)
@@ -45,13 +49,14 @@ loop-again c =
     let start = c .before .before .before .before .before .before .before in
     let loop = c .before .before .before .before .loop in
     let args = start .args in
+    let count = digitsBy (args .old) in
     let shown = rw (part-whole (loop .place) (args .text .now)) at (c .before .mark-shown .ensures) in
     let inside = c .before .before .before .loop-test .taken in
     let size = c .line-size .result in (
-      one-more-filled (args .text .now) (args .at) (args .address) (args .marks .now) (loop .marks) (loop .place)
+      one-more-filled count (args .text .now) (args .at) (args .address) (args .marks .now) (loop .marks) (loop .place)
           (loop .i) (c .before .mark-shown .result) size inside shown (c .line-size .ensures) (loop .inv .0),
-      one-more-walked (args .text .now) (args .at) (args .address) (length (args .marks .now)) (loop .place) (loop .i)
-          size (omega (arith, loop .inv .0 .2, inside)) (rw shown at (c .line-size .ensures)) (loop .inv .1),
+      one-more-walked count (args .text .now) (args .at) (args .address) (length (args .marks .now)) (loop .place)
+          (loop .i) size (omega (arith, loop .inv .0 .2, inside)) (rw shown at (c .line-size .ensures)) (loop .inv .1),
     )
 
 same-length : tie.Need-same-length Inv-loop μ-loop
@@ -61,11 +66,12 @@ returns : tie.Need-returns Inv-loop μ-loop
 returns c =
     let start = c .before .before .before .before in
     let args = start .args in
+    let count = digitsBy (args .old) in
     let loop = c .before .loop in (
-      all-filled (args .text .now) (args .at) (args .address) (args .marks .now) (loop .marks) (loop .place) (loop .i)
-          (c .loop-test .left) (loop .inv .0),
+      all-filled count (args .text .now) (args .at) (args .address) (args .marks .now) (loop .marks) (loop .place)
+          (loop .i) (c .loop-test .left) (loop .inv .0),
       loop .inv .1 .1,
-      all-walked (args .text .now) (args .at) (args .address) (length (args .marks .now)) (loop .place) (loop .i)
+      all-walked count (args .text .now) (args .at) (args .address) (length (args .marks .now)) (loop .place) (loop .i)
           (omega (arith, loop .inv .0 .2, c .loop-test .left)) (loop .inv .1),
     )
 

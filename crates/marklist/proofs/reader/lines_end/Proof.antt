@@ -2,6 +2,7 @@
 -- Assumes nothing.
 use Prim.Native.Nat.{_-_}
 use native.Mathlib.Omega.{arith}
+use Rattle.model.specs.MarkList.{digitsBy}
 use Rattle.text.proofs.Pages.{part-whole}
 use Rattle.marklist.proofs.Walks.{Left, none-walked, one-more-walked, all-walked}
 use borrow.Author.Needs.{needs}
@@ -9,15 +10,16 @@ use Rattle.marklist.proofs.reader.lines_end.Statement.{statement}
 use Rattle.marklist.proofs.reader.lines_end.Tie as tie
 
 abbrev Inv-loop : tie.InvT-loop
-Inv-loop text at address count place₀ i₀ place i = Left text at address count place i
+Inv-loop text at old address count place₀ i₀ place i = Left (digitsBy old) text at address count place i
 
 abbrev μ-loop : tie.MeasureT-loop
-μ-loop text at address count place₀ i₀ place i = count - i
+μ-loop text at old address count place₀ i₀ place i = count - i
 
 loop-holds : tie.Need-loop-holds Inv-loop μ-loop
 loop-holds c =
     let start = c .before in
-    none-walked (start .args .text .now) (start .args .at) (start .args .address) (start .args .count) (start .pre .0)
+    none-walked (digitsBy (start .args .old)) (start .args .text .now) (start .args .at) (start .args .address)
+    (start .args .count) (start .pre .0)
 
 add-place : tie.Need-add-place Inv-loop μ-loop
 add-place c =
@@ -26,7 +28,8 @@ add-place c =
     let part = part-whole (loop .place) (start .args .text .now) in
     let size = rw (c .before .mark-shown .ensures, part) at (c .line-size .ensures) in
     let next =
-    one-more-walked (start .args .text .now) (start .args .at) (start .args .address) (start .args .count)
+    one-more-walked (digitsBy (start .args .old)) (start .args .text .now) (start .args .at) (start .args .address)
+    (start .args .count)
     (loop .place) (loop .i) (c .line-size .result) (c .before .before .before .loop-test .taken) size (loop .inv) in
     omega (arith, next .1)
 
@@ -36,7 +39,8 @@ loop-again c =
     let loop = c .before .before .before .before .loop in
     let part = part-whole (loop .place) (start .args .text .now) in
     let size = rw (c .before .mark-shown .ensures, part) at (c .line-size .ensures) in
-    one-more-walked (start .args .text .now) (start .args .at) (start .args .address) (start .args .count)
+    one-more-walked (digitsBy (start .args .old)) (start .args .text .now) (start .args .at) (start .args .address)
+    (start .args .count)
     (loop .place) (loop .i) (c .line-size .result) (c .before .before .before .loop-test .taken) size (loop .inv)
 
 returns : tie.Need-returns Inv-loop μ-loop
@@ -44,7 +48,8 @@ returns c =
     let start = c .before .before .before in
     let loop = c .before .loop in (
       loop .inv .1,
-      all-walked (start .args .text .now) (start .args .at) (start .args .address) (start .args .count)
+      all-walked (digitsBy (start .args .old)) (start .args .text .now) (start .args .at) (start .args .address)
+          (start .args .count)
           (loop .place) (loop .i) (c .loop-test .left) (loop .inv),
     )
 

@@ -4,6 +4,7 @@ use Prim.Native.Nat.{_-_}
 use native.Mathlib.Omega.{arith}
 use lib.ListN.{length, getD}
 use Rattle.model.specs.MarkList as spec
+use Rattle.model.specs.MarkList.{newDigits}
 use Rattle.text.proofs.Pages.{front-length, front-inside, part-room}
 use Rattle.marklist.proofs.Walks.{Put, none-put, line-fits, one-more-put, all-put}
 use borrow.Author.Needs.{needs}
@@ -11,7 +12,7 @@ use Rattle.marklist.proofs.writer.put_lines.Statement.{statement}
 use Rattle.marklist.proofs.writer.put_lines.Tie as tie
 
 abbrev Inv-loop : tie.InvT-loop
-Inv-loop page₀ address marks at₀ i₀ page at i = Put page₀ address marks page at i
+Inv-loop page₀ address marks at₀ i₀ page at i = Put newDigits page₀ address marks page at i
 
 abbrev μ-loop : tie.MeasureT-loop
 μ-loop page₀ address marks at₀ i₀ page at i = length marks - i
@@ -19,7 +20,7 @@ abbrev μ-loop : tie.MeasureT-loop
 loop-holds : tie.Need-loop-holds Inv-loop μ-loop
 loop-holds c =
     let start = c .before .before in
-    none-put (start .args .page .now) (start .args .address) (start .args .marks .now)
+    none-put newDigits (start .args .page .now) (start .args .address) (start .args .marks .now)
 
 sub-put-line : tie.Need-sub-put-line Inv-loop μ-loop
 sub-put-line c = front-inside (c .before .loop .inv .1)
@@ -33,7 +34,7 @@ put-line-requires c κs =
     let head = test .before in
     let start = head .before .before .before in
     let loop = head .loop in
-    part-room (spec.lineSize (getD (start .args .marks .now) (loop .i) 0)) (loop .inv .1) (line-fits
+    part-room (spec.lineSize newDigits (getD (start .args .marks .now) (loop .i) 0)) (loop .inv .1) (line-fits newDigits
     (start .args .page .now) (start .args .address) (start .args .marks .now) (loop .page) (loop .at) (loop .i)
     (start .pre .0) (test .loop-test .taken) (loop .inv))
 
@@ -47,7 +48,7 @@ add-at c =
     omega (
       arith,
       put .put-line .ensures .0,
-      line-fits (start .args .page .now) (start .args .address)
+      line-fits newDigits (start .args .page .now) (start .args .address)
           (start .args .marks .now) (loop .page) (loop .at) (loop .i) (start .pre .0)
           (test .loop-test .taken) (loop .inv),
     )
@@ -59,7 +60,8 @@ loop-again c =
     let head = test .before in
     let start = head .before .before .before in
     let loop = head .loop in
-    one-more-put (start .args .page .now) (start .args .address) (start .args .marks .now) (loop .page) (loop .at)
+    one-more-put newDigits (start .args .page .now) (start .args .address) (start .args .marks .now) (loop .page)
+    (loop .at)
     (loop .i) (start .pre .0) (test .loop-test .taken) (loop .inv) (put .put-line .result) (put .put-line .last .0)
     (put .put-line .ensures .0) (put .put-line .ensures .1)
 
@@ -70,7 +72,7 @@ returns : tie.Need-returns Inv-loop μ-loop
 returns c =
     let start = c .before .before .before .before in
     let loop = c .before .loop in
-    all-put (start .args .page .now) (start .args .address) (start .args .marks .now) (loop .page) (loop .at)
+    all-put newDigits (start .args .page .now) (start .args .address) (start .args .marks .now) (loop .page) (loop .at)
     (loop .i) (c .loop-test .left) (loop .inv)
 
 pub put-lines-spec : {M : Type 1} → statement M

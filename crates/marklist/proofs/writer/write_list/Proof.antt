@@ -1,14 +1,14 @@
 -- A refusal leaves the page; nothing is written before the last test, and then the first line and behind it the lines.
 -- Assumes nothing.
+use mathlib.Core.Bool.{false}
 use mathlib.Core.List.{List}
 use Prim.Native.Nat.{ℕ, _+_, _≤_}
-use native.Mathlib.Nat.{mod-lt}
 use native.Mathlib.Omega.{arith}
 use mathlib.Core.Path.{_≡_, sym, _∙_}
 use lib.ListN.{length}
 use Rattle.types.specs.declared.refusals.TestResult.{TestResult}
-use Rattle.types.specs.Addresses.{bankSize}
 use Rattle.model.specs.Image.{imageLimit}
+use Rattle.model.specs.MarkList.{newDigits}
 use Rattle.types.specs.Refusals.{Tests, firstRefusal}
 use Rattle.model.specs.Verdict.{marksTests}
 use Rattle.model.proofs.Image.{right-length}
@@ -62,9 +62,9 @@ add-size c =
       arith,
       few told,
       c .before .header-size .ensures,
-      small-header (first-line (args .marks .now) (args .base) (args .reset) (args .page .now)),
+      small-header false (first-line (args .marks .now) (args .base) (args .reset) (args .page .now)),
       c .lines-size .ensures 0,
-      lines-most 0 (args .marks .now),
+      lines-most newDigits 0 (args .marks .now),
     )
 
 returns-2 : tie.Need-returns-2
@@ -92,8 +92,8 @@ put-lines-requires c κs =
     header-front (args .marks .now) (args .base) (args .reset) (args .page .now) (first .header-size .result)
     (lines .lines-size .result) (first .header-size .ensures) (lines .lines-size .ensures) room
     (put .put-header .ensures) in (
-      rw (← lines .lines-size .ensures (c .low .result)) (part-room (lines .lines-size .result) front room),
-      omega (arith, few told, c .low .ensures, mod-lt (args .base) {m = bankSize} (omega arith)),
+      rw (← lines .lines-size .ensures (c .first-address .result)) (part-room (lines .lines-size .result) front room),
+      omega (arith, few told, c .first-address .ensures .1),
     )
 
 returns-3 : tie.Need-returns-3
@@ -117,13 +117,14 @@ returns-3 c =
     (first .header-size .result + lines .lines-size .result) size room in
     let page =
     list-put (args .marks .now) (args .base) (args .reset) (args .page .now) (first .header-size .result)
-    (lines .lines-size .result) (first .header-size .ensures) (lines .lines-size .ensures) (low .low .result)
-    (low .low .ensures) room (c .before .before .put-lines .last .0) front (c .before .before .put-lines .ensures) in
+    (lines .lines-size .result) (first .header-size .ensures) (lines .lines-size .ensures)
+    (low .first-address .result) (low .first-address .ensures .0) room (c .before .before .put-lines .last .0) front
+    (c .before .before .put-lines .ensures) in
     (answer .0, page ∙ answer .1)
 
 pub write-list-spec : {M : Type 1} → statement M
 write-list-spec =
     tie.close (tie.spec (λ c κs. search needs) (λ c. search needs) returns (λ c. search needs) cast-length
     (λ c κs. search needs) lines-size-requires add-size returns-2 (λ c κs. search needs) (λ c. search needs)
-    (λ c. search needs) (λ c. search needs) (λ c κs. search needs) (λ c. search needs)
+    (λ c. search needs) (λ c. search needs) (λ c κs. search needs)
     put-lines-requires (λ c. search needs) returns-3)

@@ -6,6 +6,7 @@ use native.Mathlib.Omega.{arith}
 use lib.ListN.{drop}
 use Rattle.text.proofs.DigitLaws.{same-value}
 use Rattle.text.proofs.Turns.{Worked, none-worked, next-digit, room-for-one, one-more-worked, all-worked}
+use Rattle.text.proofs.Turns.{worked-small}
 use borrow.Author.Needs.{needs}
 use Rattle.text.proofs.digits.number.Statement.{statement}
 use Rattle.text.proofs.digits.number.Tie as tie
@@ -66,9 +67,11 @@ loop-again c =
 
 returns : tie.Need-returns Inv-loop μ-loop
 returns c =
-    let args = c .before .before .before .args in
-    all-worked (c .loop-test .left) (c .before .loop .inv)
-    ∙ same-value (args .radix) (args .count) (drop (args .at) (args .text .now))
+    let args = c .before .before .before .args in (
+      all-worked (c .loop-test .left) (c .before .loop .inv)
+          ∙ same-value (args .radix) (args .count) (drop (args .at) (args .text .now)),
+      worked-small (c .loop-test .left) (c .before .loop .inv),
+    )
 
 pub number-spec : {M : Type 1} → statement M
 number-spec =
