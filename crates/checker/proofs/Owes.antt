@@ -6,13 +6,11 @@ use mathlib.Core.Bool.{Bool, true, false}
 use mathlib.Core.List.{List, [], _∷_, _++_}
 use Prim.Native.Nat.{ℕ, _+_, _-_, _*_, _/_, _%_, _≤_, _<_}
 use native.Mathlib.Omega.{arith}
-use borrow.Author.Tests.{eq-eqb, eqb-true, leb-true, leb-false}
+use borrow.Author.Tests.{eqb-true, leb-true, leb-false}
 use lib.Dec.{eqb, leb}
 use lib.ListN.{length, getD, List·getD-eq-default}
 use Rattle.codepages.specs.Packing.{unpacked}
 use Rattle.codepages.proofs.Unpacked.{kept-effect}
-use Rattle.types.specs.declared.code.Kind.{Kind}
-use Rattle.types.specs.declared.code.WidthEffect.{WidthEffect}
 use Rattle.types.specs.declared.code.Flow.{Flow}
 use Rattle.types.specs.declared.code.Instruction.{Instruction}
 use Rattle.types.specs.declared.refusals.Refusal.{Refusal}
@@ -21,13 +19,12 @@ use Rattle.types.specs.declared.rules.Requirement.{Requirement}
 use Rattle.types.specs.declared.rules.Requirements.{Requirements}
 use Rattle.prelude.specs.Choice.{pick}
 use Rattle.types.specs.Addresses.{addressLimit}
-use Rattle.model.specs.Image.{isStart, markM, markX, markKind, returnM, returnX, markOf, markAt}
+use Rattle.model.specs.Image.{isStart, markAt}
 use Rattle.types.specs.Refusals.{firstRefusal}
-use Rattle.model.specs.Rules.{kindNumber, markOfRoutine, markOnReturn, markAfter, mAfter, xAfter}
-use Rattle.model.specs.Rules.{owedBy, owedAt, returnFits}
+use Rattle.model.specs.Rules.{markAfter, mAfter, xAfter, owedBy, owedAt, returnFits}
 use Rattle.model.specs.Verdict.{isStartAt, allStarts, hasMarkAt, allMarks}
 use Rattle.prelude.proofs.Choice.{both-true}
-use Rattle.model.proofs.Widths.{same-fields}
+use Rattle.model.proofs.Widths.{same-fields, routine-start, on-return-start, after-start}
 use Rattle.checker.specs.Owes.{returnTests, owedTests, MarksOfStarts}
 
 -- ---- the mark at an address
@@ -57,24 +54,6 @@ kept-mark number operand mark h e = rw (kept-effect number e) (same-fields mark 
 
 -- ---- 9 before 8
 
-is-start : (m x kind rm rx : ℕ) → isStart (markOf m x kind rm rx) ≡ true
-is-start m x kind rm rx = eq-eqb (markOf m x kind rm rx % 2) 1 (omega arith)
-
-pub routine-start : (kind : Kind) (mark there : ℕ) → isStart (markOfRoutine kind mark there) ≡ true
-unfolding markOfRoutine
-routine-start kind mark there = is-start (markM mark) (markX mark) (kindNumber kind) (returnM there) (returnX there)
-
-pub return-start : (mark there : ℕ) → isStart (markOnReturn mark there) ≡ true
-unfolding markOnReturn
-return-start mark there =
-    is-start (returnM there) (returnX there) (markKind mark) (returnM mark) (returnX mark)
-
-pub after-start : (effect : WidthEffect) (operand mark : ℕ) → isStart (markAfter effect operand mark) ≡ true
-unfolding markAfter
-after-start effect operand mark =
-    is-start (mAfter effect (markM mark) operand) (xAfter effect (markX mark) operand) (markKind mark) (returnM mark)
-    (returnX mark)
-
 module _ (marks : List ℕ) (base : ℕ) where
   one-start : (w : Requirement) → isStart (w .mark) ≡ true → hasMarkAt marks base w ≡ true
       → isStartAt marks base w ≡ true
@@ -95,7 +74,7 @@ module _ (marks : List ℕ) (base : ℕ) where
   owes-starts Flow.Branch mark after next to there odd h = two-starts _ _ odd odd h
   owes-starts Flow.Jump mark after next to there odd h = one-start _ odd h
   owes-starts (Flow.Call kind) mark after next to there odd h =
-      two-starts _ _ (routine-start kind mark there) (return-start mark there) h
+      two-starts _ _ (routine-start kind mark there) (on-return-start mark there) h
   owes-starts (Flow.Return kind) mark after next to there odd h = refl
   owes-starts Flow.Halt mark after next to there odd h = refl
 

@@ -1,6 +1,6 @@
 // The check: accepted, or the number and the place of the first rule that is broken.
 pub mod owed;
-mod start;
+pub mod start;
 
 use crate::start::step_at;
 use codepages::CodePages;

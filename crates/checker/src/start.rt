@@ -39,7 +39,7 @@ ghost use Rattle.checker.specs.Steps.{decodedStep, stepAt};
 ghost use Rattle.checker.specs.Owes.{returnTests, owedTests, MarksOfStarts};
 
 // Number 8: some start stands there.
-fn is_start_at(marks: &[u8], base: u32, w: Requirement) -> bool
+pub fn is_start_at(marks: &[u8], base: u32, w: Requirement) -> bool
     requires { ⌜ base + length (now marks) ≤ addressLimit ⌝ }
     ensures { λ r. ⌜ r ≡ verdict.isStartAt (now (marks .entry)) base w ⌝ }
 {
@@ -47,7 +47,7 @@ fn is_start_at(marks: &[u8], base: u32, w: Requirement) -> bool
 }
 
 // Number 9: that mark stands there.
-fn has_mark_at(marks: &[u8], base: u32, w: Requirement) -> bool
+pub fn has_mark_at(marks: &[u8], base: u32, w: Requirement) -> bool
     requires { ⌜ base + length (now marks) ≤ addressLimit ⌝ }
     ensures { λ r. ⌜ r ≡ verdict.hasMarkAt (now (marks .entry)) base w ⌝ }
 {
@@ -116,7 +116,7 @@ fn return_fits(flow: Flow, mark: u8) -> bool
 }
 
 // The lowest start of n places from a place on, or the place past them.
-fn first_start(marks: &[u8], from: usize, n: usize) -> usize
+pub fn first_start(marks: &[u8], from: usize, n: usize) -> usize
     requires { ⌜ from + n < 4_294_967_296 ⌝ }
     ensures { λ r. ⌜ r ≡ firstFrom (verdict.startAt (now (marks .entry))) from n ⌝ }
 {
@@ -132,7 +132,7 @@ fn first_start(marks: &[u8], from: usize, n: usize) -> usize
 }
 
 // One less, or 0.
-fn less_one(n: u8) -> usize
+pub fn less_one(n: u8) -> usize
     ensures { λ r. ⌜ r ≡ n - 1 ⌝ }
 {
     if n == 0 { 0 } else { (n - 1) as usize }

@@ -83,7 +83,7 @@ pub fn length_at(entry: Entry, m: u8, x: u8) -> u8
 }
 
 // The length of the code that a number keeps. Two bits stand for the rules that add a byte; its own rule takes one.
-fn length_of(number: u32, m: u8, x: u8) -> u8
+pub fn length_of(number: u32, m: u8, x: u8) -> u8
     ensures { λ r. ⌜ r ≡ lengthAt (unpacked number) m x ⌝ }
 {
     let more = 2 * at_zero(m) as u32 + 4 * at_zero(x) as u32;
@@ -106,7 +106,7 @@ fn fit(left: usize, prefix: u8, number: u32, m: u8, x: u8) -> LayoutRead
 }
 
 // The page that a first byte leads to.
-fn page_of(first: u8) -> usize
+pub fn page_of(first: u8) -> usize
     ensures { λ r. ⌜ (r ≡ spec.pageOf first) × (r < 3) ⌝ }
 {
     if first == 0x42 {

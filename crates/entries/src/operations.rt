@@ -157,7 +157,7 @@ const LONG_MODES: u32 = 0x80C00;
 const LONG_TARGETS: u32 = 0x14;
 
 // The form is a long one.
-fn is_long(n: u32) -> bool
+pub fn is_long(n: u32) -> bool
     ensures { λ r. ⌜ r ≡ isLong (unpacked n) ⌝ }
 {
     let mode = n / 128 % 32;

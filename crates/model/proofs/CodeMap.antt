@@ -84,7 +84,7 @@ pub word-at-most : (page code : ℕ) → length (syntaxWord (entryAt page code))
 word-at-most page code =
     leb→le (length (syntaxWord (entryAt page code))) 4 (tested-at worded (λ p. tt) all-worded page code)
 
--- 'Only SEM, CLM, SEP and CLP change them': no call and no return does
+-- 'Only SEM, CLM, SEP and CLP change them': no branch, jump, call or return does
 abbrev keepsWidths : WidthEffect → Bool
 keepsWidths WidthEffect.KeepWidths = true
 keepsWidths WidthEffect.SetM = false
@@ -94,8 +94,8 @@ keepsWidths WidthEffect.ClearBits = false
 
 abbrev keepsBy : Flow → WidthEffect → Bool
 keepsBy Flow.Next effect = true
-keepsBy Flow.Branch effect = true
-keepsBy Flow.Jump effect = true
+keepsBy Flow.Branch effect = keepsWidths effect
+keepsBy Flow.Jump effect = keepsWidths effect
 keepsBy (Flow.Call kind) effect = keepsWidths effect
 keepsBy (Flow.Return kind) effect = keepsWidths effect
 keepsBy Flow.Halt effect = true
@@ -114,18 +114,24 @@ kept WidthEffect.ClearM t = absurd t
 kept WidthEffect.SetBits t = absurd t
 kept WidthEffect.ClearBits t = absurd t
 
-module _ (page code : ℕ) (kind : Kind) where
+module _ (page code : ℕ) where
   abbrev entry : Entry
   entry = entryAt page code
 
   kept-by : (flow : Flow) → entry .flow ≡ flow → T (keepsBy flow (entry .effect))
   kept-by flow same = rw same at (tested-at keeping (λ p. tt) all-keeping page code)
 
-  pub call-keeps : entry .flow ≡ Flow.Call kind → entry .effect ≡ WidthEffect.KeepWidths
-  call-keeps h = kept (entry .effect) (kept-by (Flow.Call kind) h)
+  pub branch-keeps : entry .flow ≡ Flow.Branch → entry .effect ≡ WidthEffect.KeepWidths
+  branch-keeps h = kept (entry .effect) (kept-by Flow.Branch h)
 
-  pub return-keeps : entry .flow ≡ Flow.Return kind → entry .effect ≡ WidthEffect.KeepWidths
-  return-keeps h = kept (entry .effect) (kept-by (Flow.Return kind) h)
+  pub jump-keeps : entry .flow ≡ Flow.Jump → entry .effect ≡ WidthEffect.KeepWidths
+  jump-keeps h = kept (entry .effect) (kept-by Flow.Jump h)
+
+  pub call-keeps : (kind : Kind) → entry .flow ≡ Flow.Call kind → entry .effect ≡ WidthEffect.KeepWidths
+  call-keeps kind h = kept (entry .effect) (kept-by (Flow.Call kind) h)
+
+  pub return-keeps : (kind : Kind) → entry .flow ≡ Flow.Return kind → entry .effect ≡ WidthEffect.KeepWidths
+  return-keeps kind h = kept (entry .effect) (kept-by (Flow.Return kind) h)
 
 -- the data of SEP and CLP stands behind the code
 abbrev isBehind : OperandPlace → Bool

@@ -165,7 +165,7 @@ unmarked = record {
   no-return = λ _. (refl, refl);
 }
 
-formed-is : (mark : ℕ) → isFormed mark ≡ true → IsMark mark
+pub formed-is : (mark : ℕ) → isFormed mark ≡ true → IsMark mark
 unfolding isFormed
 formed-is mark = by (eqb mark 0) refl
   where

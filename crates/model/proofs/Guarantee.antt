@@ -65,16 +65,17 @@ use Rattle.model.proofs.Run.{onward, by-first-step, state-passes, all-a
 -- ---- marks
 
 -- where a marked start lies
-record Located (marks : List ℕ) (base address : ℕ) : Type 0 where
-  at : ℕ
-  place : address ≡ base + at
-  inside : at < length marks
-  mark : markAt marks base address ≡ getD marks at 0
+pub record Located (marks : List ℕ) (base address : ℕ) : Type 0 where
+  pub at : ℕ
+  pub place : address ≡ base + at
+  pub inside : at < length marks
+  pub mark : markAt marks base address ≡ getD marks at 0
 
 none-started : isStart 0 ≡ true → ⊥
 none-started h = let z : _≡_ {A = ℕ} 0 1 = cc in absurd (omega arith)
 
-located : (marks : List ℕ) (base address : ℕ) → isStart (markAt marks base address) ≡ true → Located marks base address
+pub located : (marks : List ℕ) (base address : ℕ) → isStart (markAt marks base address) ≡ true
+    → Located marks base address
 unfolding markAt
 located marks base address h = by (leb base address) (ltb (address - base) (length marks)) refl refl h
   where
@@ -93,14 +94,14 @@ located marks base address h = by (leb base address) (ltb (address - base) (leng
         }
 
 -- the fields of a mark that is made of them
-record Fields (mark m x kind rm rx : ℕ) : Type 0 where
-  has-m : markM mark ≡ m
-  has-x : markX mark ≡ x
-  has-kind : markKind mark ≡ kind
-  has-return-m : returnM mark ≡ rm
-  has-return-x : returnX mark ≡ rx
+pub record Fields (mark m x kind rm rx : ℕ) : Type 0 where
+  pub has-m : markM mark ≡ m
+  pub has-x : markX mark ≡ x
+  pub has-kind : markKind mark ≡ kind
+  pub has-return-m : returnM mark ≡ rm
+  pub has-return-x : returnX mark ≡ rx
 
-fields : (mark m x kind rm rx : ℕ) → mark ≡ markOf m x kind rm rx → m ≤ 1 → x ≤ 1 → kind ≤ 3 → rm ≤ 1 → rx ≤ 1
+pub fields : (mark m x kind rm rx : ℕ) → mark ≡ markOf m x kind rm rx → m ≤ 1 → x ≤ 1 → kind ≤ 3 → rm ≤ 1 → rx ≤ 1
     → Fields mark m x kind rm rx
 fields mark m x kind rm rx e hm hx hk hrm hrx = record {
   has-m = rw e (omega arith);

@@ -69,10 +69,14 @@ rowAt image marks base at =
 unfoldable pub pageText : List ℕ → List ℕ → ℕ → List ℕ
 pageText image marks base = concatFrom (rowAt image marks base) 0 (length marks)
 
+-- a text of a size, where a page has room for it: 'a short buffer 15'
+abbrev pub byRoom : ℕ → ℕ → Printed
+byRoom size room = pick (leb size room) (Printed.Rows size) (Printed.NotPrinted Refusal.Page 0)
+
 -- 'An unaccepted image gets the check's own refusal, then a short buffer 15'
 unfoldable pub printedBy : Verdict → ℕ → ℕ → Printed
 printedBy (Verdict.Refused why offset) size room = Printed.NotPrinted why offset
-printedBy Verdict.Accepted size room = pick (leb size room) (Printed.Rows size) (Printed.NotPrinted Refusal.Page 0)
+printedBy Verdict.Accepted size room = byRoom size room
 
 unfoldable pub printed : List ℕ → List ℕ → ℕ → ℕ → List ℕ → Printed
 printed image marks base reset page =

@@ -14,7 +14,8 @@ abbrev pub NoKey : ℕ → ℕ → Type 0
 NoKey n zero = Unit {0}
 NoKey n (suc j) = NoKey n j × (OneOf (suc j ∷ []) n → ⊥)
 
-outside : (n j : ℕ) → NoKey n j → (n ≡ 0) ⊎ (j < n)
+-- then n is 0 or past them
+pub outside : (n j : ℕ) → NoKey n j → (n ≡ 0) ⊎ (j < n)
 outside n zero k = eq-zero-or-pos n
 outside n (suc j) k =
     ⊎-elim (λ (z : n ≡ 0). inl z) (λ (past : j < n). further (eq-or-lt-of-le past)) (outside n j (k .0))

@@ -104,8 +104,10 @@ fn random_run(rng: &mut Rng) -> RunCase {
     let mut case = step_case(rng);
     if !case.image.is_empty() && case.image.len() < 64 {
         let length = 16 + rng.index(32);
-        let room = 0x100_0000 - case.base as usize;
-        case.image = (0..length.min(room)).map(|_| rng.byte()).collect();
+        // A base above 1000000 is refused, whatever the length.
+        let room = 0x100_0000usize.checked_sub(case.base as usize);
+        let length = length.min(room.unwrap_or(length));
+        case.image = (0..length).map(|_| rng.byte()).collect();
     }
     case.steps = step_count(rng);
     case

@@ -5,7 +5,7 @@ use native.Mathlib.Omega.{arith}
 use lib.ListN.{drop}
 use Rattle.types.specs.declared.code.Instruction.{Instruction}
 use Rattle.decoder.specs.Layout.{instructionOf}
-use Rattle.checker.proofs.Owes.{after-start, routine-start, return-start}
+use Rattle.model.proofs.Widths.{after-start, routine-start, on-return-start}
 use Rattle.builder.proofs.Putting.{kept-same, kept-through}
 use Rattle.builder.proofs.Owing.{put-next, put-branch, put-jump, put-call, put-return, put-halt}
 use borrow.Author.Needs.{needs}
@@ -65,7 +65,7 @@ put-requires-6 c κs =
     let marked = target .before .before .before .before .before .before in
     let start = marked .before .before .before .before .before in (
       one .put5 .ensures .1,
-      rw (c .mark-on-return .ensures) (return-start _ _),
+      rw (c .mark-on-return .ensures) (on-return-start _ _),
       omega (arith, lent .marks5 .given, start .pre .4),
     )
 
