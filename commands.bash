@@ -1,21 +1,31 @@
 # What the commands share, each a thin script over a proved program that takes an image file and a list file. A command
 # sets these and reads this file:
 #   name      the command's
-#   crate     its program's
+#   crate     its program's, whose name ends in _files
 #   usage     in one line
 #   accepted  a pattern for what the program prints of an image that it accepts
-# Then it defines the function help, and ends by take_arguments "$@" and finish. One that takes more than two files ends
-# by take_options "$@", its own choice of the files image and list among the operands, and finish.
+# Then it defines the function help, and take_own_option where it has an option that the others have not, and ends by
+# take_arguments "$@" and finish. One that takes more than two files ends by take_options "$@", its own choice of the
+# files image and list among the operands, and finish.
 user_locale=${LC_ALL-}
 export LC_ALL=C
 
 root=$(CDPATH='' cd -P "$(dirname "${BASH_SOURCE[0]}")" && pwd) || exit 3
-program=$root/target/bin/$crate
-# As old as the beginning of the last build that succeeded.
-ready=$root/target/$name.ready
-log=$root/target/log/$name.log
 # Held by the command that builds, with its name.
 lock=$root/target/commands.lock
+
+# use_crate CRATE: the program is this crate's. A command may have two, so that each has a stamp and a log of its own.
+use_crate() {
+    crate=$1
+    program=$root/target/bin/$crate
+    # As old as the beginning of the last build that succeeded.
+    ready=$root/target/${crate%_files}.ready
+    log=$root/target/log/${crate%_files}.log
+}
+
+use_crate "$crate"
+# Set where a second line of the program explains the first.
+explains=
 
 image_limit=65,536
 list_limit=61,440
@@ -173,6 +183,11 @@ keep_descriptors() {
     { : 3>&1; } 2> /dev/null || { complain 'standard output: Bad file descriptor'; exit 2; }
 }
 
+# take_own_option OPTION: takes one that this command alone has, or fails.
+take_own_option() {
+    false
+}
+
 # Takes the options; what follows them are the operands.
 take_options() {
     keep_descriptors
@@ -184,7 +199,7 @@ take_options() {
         --version) put "$(version)"; exit 0 ;;
         --verbose) verbose=yes ;;
         --) shift; break ;;
-        -?*) wrong_arguments "no option $1" ;;
+        -?*) take_own_option "$1" || wrong_arguments "no option $1" ;;
         *) break ;;
         esac
         shift
@@ -200,18 +215,28 @@ take_arguments() {
     list=${operands[1]}
 }
 
+# Puts the explanation on standard error as it is, where there is one; else it fails.
+tell_explanation() {
+    [ -n "$explanation" ] && printf '%s\n' "$explanation" >&2
+}
+
 # Runs the program on the operands, prints what it answers, and exits by it.
 finish() {
-    local answer status refused=$'^R\t([0-9]+)\t([0-9]+)$'
+    local answer status explanation='' refused=$'^R\t([0-9]+)\t([0-9]+)$'
     is_ready || build
     answer=$("$program" "${operands[@]}")
     status=$?
+    if [ -n "$explains" ] && [[ $answer == *$'\n'* ]]; then
+        explanation=${answer#*$'\n'}
+        answer=${answer%%$'\n'*}
+    fi
     if [[ $status = 0 && $answer == @($accepted) ]]; then
         put "$answer"
+        tell_explanation
         exit 0
     elif [[ $status = 0 && $answer =~ $refused ]]; then
         put "$answer"
-        explain_refusal "${BASH_REMATCH[1]}" "${BASH_REMATCH[2]}"
+        tell_explanation || explain_refusal "${BASH_REMATCH[1]}" "${BASH_REMATCH[2]}"
         exit 1
     elif [[ $status = 0 && $answer = L ]]; then
         put "$answer"

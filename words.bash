@@ -213,6 +213,7 @@ explain_refusal() {
         [ -z "$base" ] || place="$place (address $(printf %06X $((16#$base + $2))))"
         # 'Those' are what 8 names.
         why=${why/#one of those/"${given[8]%% is *}"}
+        why="$why (check --explain tells which)"
         ;;
     esac
     complain "refused, $1 ${word[$1]}: $place: $why"

@@ -7,7 +7,7 @@
 # A line of the page.
 function say(line) {
     gsub(/\\/, "\\e", line)
-    sub(/^m7700 - /, "m7700 \\- ", line)
+    gsub(/-/, "\\-", line)
     while (match(line, /`[^`]*`/))
         line = substr(line, 1, RSTART - 1) "\\fB" substr(line, RSTART + 1, RLENGTH - 2) "\\fR" \
             substr(line, RSTART + RLENGTH)

@@ -69,14 +69,18 @@ static int run(size_t image_len, uint32_t base, uint32_t reset)
     return RELEASED;
 }
 
-/* Checks the image against its marks and, if it is accepted, runs it. */
+/* Checks the image against its marks and, if it is accepted, runs it; else says what to mend. */
 static int release(size_t image_len, uint32_t base, uint32_t reset)
 {
     m7700_verdict verdict = m7700_check_image(image, image_len, marks, image_len, base, reset);
+    uint8_t line[M7700_EXPLANATION_BYTES];
+    m7700_explanation why;
 
     if (verdict.refusal != 0) {
         printf("image refused: %u %s, offset %u\n", verdict.refusal,
                m7700_refusal_word(verdict.refusal), verdict.offset);
+        why = m7700_explain_image(image, image_len, marks, image_len, base, reset, line, sizeof line);
+        fwrite(line, 1, why.length, stdout);
         return REFUSED;
     }
     puts("image accepted");

@@ -12,10 +12,10 @@
  *
  * Before it releases an image, a loader in C reads the image's mark list, or
  * builds the marks from a list of its routines, checks the image against them,
- * and may print it and run it step by step. Each of these functions gives a
- * struct of its own type. Its member `refusal` is 0, or the number that refuses
- * the call; then the other members are 0, but for the offset of the check, and
- * every buffer is as given.
+ * asks what to mend where it is refused, and may print it and run it step by
+ * step. Each of these functions gives a struct of its own type. Its member
+ * `refusal` is 0, or the number that refuses the call; then the other members
+ * are 0, but for the offset of the check, and every buffer is as given.
  *
  * Two conditions on pointers are left to the caller, since C can't express
  * them. Nothing else is asked:
@@ -23,8 +23,8 @@
  *   - A pointer is valid for its length: so many bytes may be read there, and
  *     written where the function writes. At length 0 any pointer will do.
  *   - A buffer that a function writes overlaps no other. Image and marks are
- *     only read by the check, for a page and for places, and may overlap each
- *     other there.
+ *     only read by the check, for an explanation, for a page and for places,
+ *     and may overlap each other there.
  */
 #ifndef M7700_H
 #define M7700_H
@@ -36,7 +36,7 @@
 extern "C" {
 #endif
 
-#define M7700_VERSION "3.0.0"
+#define M7700_VERSION "3.1.0"
 
 /* SYSTEM
  *
@@ -46,20 +46,22 @@ extern "C" {
  *
  * No call needs more stack than the bytes below, the second number for the
  * building of marks, the first for any other call. Measured, on a stack of
- * painted bytes and with the longest buffers: 270,248 for marks, 8,536 for a
- * page, 7,976 for addresses, 5,144 for a run or a step, 4,056 for a check, 184
- * for a list, and some 3,200 more for a call in which memcpy or memset is first
- * bound by the dynamic linker. */
+ * painted bytes and with the longest buffers: 270,248 for marks, 8,264 for an
+ * explanation, 7,992 for a page, 7,976 for addresses, 5,144 for a run or a
+ * step, 4,056 for a check, 184 for a list, and some 3,200 more for a call in
+ * which memcpy or memset is first bound by the dynamic linker. */
 #define M7700_STACK_BYTES 16384
 #define M7700_BUILD_STACK_BYTES 278528
 
 /* LIMITS
  *
- * The longest image; the longest list, 22 bytes of a first line and 17 for
- * each start; the most routines that marks are built from; a row of a page, and
- * the longest page; the most addresses in one reading; the most RAM, steps of a
- * run, and open calls. */
+ * The longest image; a page that every explanation fits in, as no line is
+ * longer; the longest list, 22 bytes of a first line and 17 for each start; the
+ * most routines that marks are built from; a row of a page, and the longest
+ * page; the most addresses in one reading; the most RAM, steps of a run, and
+ * open calls. */
 #define M7700_IMAGE_BYTES 65536
+#define M7700_EXPLANATION_BYTES 81
 #define M7700_LIST_BYTES (22 + 17 * M7700_IMAGE_BYTES)
 #define M7700_ROUTINES 256
 #define M7700_ROW_BYTES 36
@@ -125,8 +127,8 @@ extern "C" {
 #define M7700_REFUSED_LIST 14   /* list: text is not a mark list, or not
                                    a routine list */
 #define M7700_REFUSED_PAGE 15   /* page: output buffer shorter than the
-                                   list, or than the rows; fewer places
-                                   than addresses */
+                                   list, the rows or the explanation;
+                                   fewer places than addresses */
 #define M7700_REFUSED_ADDRESSES 16 /* addresses: over M7700_ADDRESSES, not
                                       strictly ascending, or one outside
                                       the image */
@@ -163,6 +165,80 @@ static inline m7700_verdict
 m7700_check_image(const uint8_t *image, size_t image_len,
                   const uint8_t *marks, size_t marks_len,
                   uint32_t base, uint32_t reset);
+
+/* EXPLAINING
+ *
+ * Says in one line what the check's answer is about: its offset names the
+ * instruction whose rule is broken, and the mark that is wrong may stand
+ * elsewhere. The line is text at the front of a page, closed by 0A.
+ *
+ *     accepted
+ *     1 length: image 7, marks 6
+ *     2 base: 00FFFFFF, length 2
+ *     3 reset: 0000C004 must be 0 0 N 0 0, is 1 0 N 0 0
+ *     3 reset: 0000C001 must be 0 0 N 0 0, is no start
+ *     3 reset: 0001C000 must be 0 0 N 0 0, is outside the image
+ *     4 mark: 00C001 has 08: bits without a start
+ *     4 mark: 00C003 has 81: bit 7
+ *     4 mark: 00C003 has 19: kind 3
+ *     4 mark: 00C003 has 21: return widths of kind N
+ *     5 code: 00C001 00 BRK: not carried
+ *     5 code: 00C001 42 00 ---: not carried
+ *     6 cut off: 00C001 A9 12 LDA: 1 missing
+ *     6 cut off: 00C001 42: the code is missing
+ *     7 overlap: 00C000 A9 12 DB LDA: 00C002 starts inside it
+ *     8 flow: 00C004 49 56 EOR: 00C006 is no start
+ *     8 flow: 00C000 80 80 BRA: 00BF82 is outside the image
+ *     9 widths: 00C003 F8 SEM: 00C004 must be 1 0 N 0 0, is 0 0 N 0 0
+ *     9 widths: 00C000 20 04 C0 JSR: 00C004 must be 0 0 S - -, is 0 0 N 0 0
+ *     10 return: 00C001 60 RTS: returns S 0 0, is marked L 0 0
+ *
+ * The line begins with the check's number and its word. For 1 it has both
+ * lengths; for 2 base and length; for 3 the reset address, with the mark that
+ * must stand there and the one that does; for 4 the address of the mark, its
+ * byte, and the first of these four parts that is not of the form.
+ *
+ * From 5 on the first address is that of the start whose rule is broken. Then
+ * come the bytes of its instruction, for 5 prefix and code alone, for 6 those
+ * that the image has; then its word as on a page, or --- for a code that the
+ * manual does not assign. Behind these
+ *
+ *      6  how many bytes are missing
+ *      7  the lowest start inside the instruction
+ *      8  the first address without a start, in or outside the image
+ *      9  the first address with another mark than must stand there,
+ *         the mark that must, and the one that does
+ *     10  the instruction's kind with the widths there, and the kind
+ *         with the return widths that are marked
+ *
+ * Of two addresses that an instruction leads to, the next one comes before a
+ * branch's target, and a call's target before the address after it. A mark is
+ * shown as in a list: m, x, kind, m and x at the return. A call leaves the
+ * last two of its target free; these are shown as -. An address has six
+ * hexadecimal digits, a base or reset eight, as it was given; counts are
+ * decimal.
+ *
+ * The one test is
+ *
+ *     15  the page is shorter than the line
+ *
+ * whatever the check says of the image: if the line was written, `refusal` is
+ * 0. Then `length` is the line's length in bytes, M7700_EXPLANATION_BYTES at
+ * most, and the bytes of the page behind it are as given.
+ *
+ * Every length, base and reset and every byte of image and marks is answered.
+ * The function reads only image and marks, writes only the page, and keeps no
+ * pointer. */
+typedef struct {
+    uint32_t refusal;
+    size_t length;
+} m7700_explanation;
+
+static inline m7700_explanation
+m7700_explain_image(const uint8_t *image, size_t image_len,
+                    const uint8_t *marks, size_t marks_len,
+                    uint32_t base, uint32_t reset,
+                    uint8_t *page, size_t page_len);
 
 /* MARK LISTS
  *
@@ -490,7 +566,7 @@ m7700_step_image(const uint8_t *image, size_t image_len, uint32_t base,
 
 /* OTHER LANGUAGES
  *
- * These eight functions are what the archive has. They take the arguments of
+ * These nine functions are what the archive has. They take the arguments of
  * those above and return the members as one number, each in its own way, so
  * that one function's number says something else if it is read as another's.
  * From C, call those above.
@@ -499,6 +575,12 @@ m7700_step_image(const uint8_t *image, size_t image_len, uint32_t base,
 uint32_t m7700_check(const uint8_t *image, size_t image_len,
                      const uint8_t *marks, size_t marks_len,
                      uint32_t base, uint32_t reset);
+
+/* Bits 0 to 7 are the refusal, bits 8 to 63 length: */
+uint64_t m7700_explain(const uint8_t *image, size_t image_len,
+                       const uint8_t *marks, size_t marks_len,
+                       uint32_t base, uint32_t reset,
+                       uint8_t *page, size_t page_len);
 
 /* Bits 0 to 7 are the refusal, bits 8 to 31 base, bits 32 to 55 reset: */
 uint64_t m7700_read_list(const uint8_t *text, size_t text_len,
@@ -605,6 +687,21 @@ m7700_check_image(const uint8_t *image, size_t image_len,
     verdict.refusal = packed >> 16;
     verdict.offset = packed & 0xFFFF;
     return verdict;
+}
+
+static inline m7700_explanation
+m7700_explain_image(const uint8_t *image, size_t image_len,
+                    const uint8_t *marks, size_t marks_len,
+                    uint32_t base, uint32_t reset,
+                    uint8_t *page, size_t page_len)
+{
+    const uint64_t packed = m7700_explain(image, image_len, marks, marks_len,
+                                          base, reset, page, page_len);
+    m7700_explanation explanation;
+
+    explanation.refusal = packed & 0xFF;
+    explanation.length = packed >> 8;
+    return explanation;
 }
 
 static inline m7700_list_read

@@ -3,6 +3,7 @@
 #   name     the command's
 #   between  the words that stand between its two files, for the base and the reset of case 1
 #   list     the second file of case 1
+# One that tries two_files sets usage, what is said of the arguments.
 here=$(cd "$(dirname "${BASH_SOURCE[0]}")" && pwd)
 examples=$here/../examples
 case1=("$examples/case1.image" "${between[@]}" "$examples/$list")
@@ -53,16 +54,20 @@ bytes() {
     [ -z "$2" ] || printf "$(printf '\\x%s' $2)" > "$work/$1"
 }
 
-# checked STATUS LINE WORDS IMAGE FIRST [START..]: an image's bytes, the first line of its list, and its starts.
-checked() {
-    local status=$1 line=$2 words=$3 start
-    bytes image "$4"
-    printf "I\\t$5\\n" > "$work/list"
-    shift 5
-    for start in "$@"; do
+# files IMAGE FIRST [START..]: writes an image's bytes, the first line of its list, and its starts.
+files() {
+    local start
+    bytes image "$1"
+    printf "I\\t$2\\n" > "$work/list"
+    for start in "${@:3}"; do
         printf "$start\\n" | tr ' ' '\t' >> "$work/list"
     done
-    says "$status" "$line" "$words" "$work/image" "$work/list"
+}
+
+# checked STATUS LINE WORDS IMAGE FIRST [START..]
+checked() {
+    files "${@:4}"
+    says "$1" "$2" "$3" "$work/image" "$work/list"
 }
 
 # 4 is not among them: a list shows only marks in form.
@@ -79,17 +84,17 @@ refused_ones() {
     checked 1 'R\t6\t1' "refused, 6 cut off: $at_1" 'EA A9' '00C000\t2\tC000' "$nop" 'C001 0 0 N 0 0'
     checked 1 'R\t7\t0' 'refused, 7 overlap:' '80 7F DB' '00C000\t3\tC000' "$nop" 'C001 0 0 N 0 0'
     checked 1 'R\t8\t1' "refused, 8 flow: $at_1" 'EA EA' '00C000\t2\tC000' "$nop" 'C001 0 0 N 0 0'
-    checked 1 'R\t8\t1' 'a successor, call target or address after a call is no marked start' \
+    checked 1 'R\t8\t1' 'address after a call is no marked start (check --explain tells which)' \
         'EA EA' '00C000\t2\tC000' "$nop" 'C001 0 0 N 0 0'
     checked 1 'R\t9\t0' 'refused, 9 widths:' 'EA DB' '00C000\t2\tC000' "$nop" 'C001 1 0 N 0 0'
-    checked 1 'R\t9\t0' 'a successor, call target or address after a call has other marks than it must have' \
+    checked 1 'R\t9\t0' 'or address after a call has other marks than it must have (check --explain tells which)' \
         'EA DB' '00C000\t2\tC000' "$nop" 'C001 1 0 N 0 0'
     checked 1 'R\t10\t1' "refused, 10 return: $at_1" 'DB 60' '00C000\t2\tC000' "$nop" 'C001 0 0 L 0 0'
 }
 
 # L for more or fewer words than two files.
 two_files() {
-    local usage="usage: $name [--verbose] [--] IMAGE LIST"
+    local usage="usage: $usage"
     says 2 L "$usage"
     says 2 L "$name: two files are needed, not 0"
     says 2 L "$usage" "$examples/case1.image"

@@ -30,9 +30,10 @@ pub fn verdict(image: &[u8], marks: &[u8], base: u32, reset: u32) -> Result<(), 
     Ok(())
 }
 
-struct View<'a> {
-    image: Image<'a>,
-    marks: &'a [u8],
+/// An image with its marks.
+pub struct View<'a> {
+    pub image: Image<'a>,
+    pub marks: &'a [u8],
 }
 
 impl View<'_> {
@@ -54,7 +55,7 @@ impl View<'_> {
     }
 
     /// The mark of a start at an address, if one is there.
-    fn start_at(&self, address: u32) -> Option<u8> {
+    pub fn start_at(&self, address: u32) -> Option<u8> {
         let at = self.image.offset(address)?;
         Some(self.marks[at]).filter(|&m| is_start(m))
     }

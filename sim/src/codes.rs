@@ -15,10 +15,11 @@ macro_rules! words {
         }
 
         impl Word {
+            /// Its letters; dashes stand for no instruction.
             pub fn mnemonic(self) -> &'static str {
                 match self {
                     $(Word::$word => stringify!($word),)*
-                    Word::Unassigned => "-",
+                    Word::Unassigned => "---",
                 }
             }
         }

@@ -9,6 +9,7 @@ pub mod answer;
 mod build;
 mod check;
 pub mod codes;
+mod explain;
 pub mod generate;
 mod list;
 pub mod listing;
@@ -23,6 +24,7 @@ pub mod vectors;
 
 pub use build::build_marks;
 pub use check::{check, verdict};
+pub use explain::{explain, LINE_BYTES};
 pub use list::{read_list, write_list};
 pub use locate::{locate, IN_GAP, IN_INSTRUCTION, NO_START};
 pub use machine::{run, run_within, step};

@@ -59,21 +59,25 @@ fn write_pair(byte: u8, pair: &mut [u8]) {
     pair[1] = DIGITS[(byte & 15) as usize];
 }
 
-/// The first word of the syntax on the instruction's page: its mnemonic, with
-/// an L behind it in a long form.
 fn write_word(entry: &Entry, columns: &mut [u8]) {
-    let mnemonic = entry.word.mnemonic().as_bytes();
-    columns[..mnemonic.len()].copy_from_slice(mnemonic);
-    if has_l(entry) {
-        columns[mnemonic.len()] = b'L';
+    let [mnemonic, l] = first_word(entry);
+    for (column, letter) in columns.iter_mut().zip(mnemonic.bytes().chain(l.bytes())) {
+        *column = letter;
     }
 }
 
-/// Absolute long has an L for jumps and calls alone; BRAL is BRA's second
-/// form, of three bytes.
+/// The first word of the syntax on the instruction's page: its mnemonic, and
+/// an L behind it in a long form.
+pub fn first_word(entry: &Entry) -> [&'static str; 2] {
+    let l = if has_l(entry) { "L" } else { "" };
+    [entry.word.mnemonic(), l]
+}
+
+/// Absolute long has an L for jumps and calls alone, absolute indirect long is
+/// of JMP alone; BRAL is BRA's second form, of three bytes.
 fn has_l(entry: &Entry) -> bool {
     match (entry.word, entry.mode) {
-        (_, Mode::L_DIR | Mode::L_DIR_Y) => true,
+        (_, Mode::L_DIR | Mode::L_DIR_Y | Mode::L_ABS) => true,
         (Word::JMP | Word::JSR, Mode::ABL) => true,
         (Word::BRA, _) => entry.lengths == [3; 4],
         _ => false,

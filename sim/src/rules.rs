@@ -32,15 +32,18 @@ impl<'a> Image<'a> {
         })
     }
 
-    /// The entry of the code at an offset. A prefix as the image's last byte
-    /// is 6: there is no code yet that could be carried or not.
-    fn code(&self, at: usize) -> Result<&'static Entry, u8> {
+    /// The entry of the code at an offset, carried or not: none if a prefix is
+    /// the image's last byte.
+    pub fn entry(&self, at: usize) -> Option<&'static Entry> {
         let page = page_of(self.bytes[at]);
-        let code = match page {
-            0 => self.bytes[at],
-            _ => *self.bytes.get(at + 1).ok_or(CUT_OFF)?,
-        };
-        let entry = entry_of(page, code);
+        let code = self.bytes.get(at + (page > 0) as usize)?;
+        Some(entry_of(page, *code))
+    }
+
+    /// The carried code at an offset. A missing one is 6: there is no code yet
+    /// that could be carried or not.
+    fn code(&self, at: usize) -> Result<&'static Entry, u8> {
+        let entry = self.entry(at).ok_or(CUT_OFF)?;
         if entry.carried {
             Ok(entry)
         } else {

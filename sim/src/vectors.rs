@@ -16,8 +16,8 @@ pub const MAX_FILE: usize = 65_536;
 /// Cases aimed at each number that a kind can give: so many stand at least.
 pub const LEAST: usize = 100;
 
-/// The numbers that a step, a run, a read, a write, a page, a location and a
-/// building can give, besides 0.
+/// The numbers that a step, a run, a read, a write, a page, a location, a
+/// building and a line can give, besides 0.
 pub const STEP_NUMBERS: [u8; 12] = [1, 2, 11, 12, 20, 21, 22, 23, 24, 25, 26, 27];
 pub const RUN_NUMBERS: [u8; 13] = [1, 2, 11, 12, 13, 20, 21, 22, 23, 24, 25, 26, 27];
 pub const READ_NUMBERS: [u8; 4] = [14, 1, 2, 3];
@@ -25,6 +25,8 @@ pub const WRITE_NUMBERS: [u8; 5] = [1, 2, 4, 3, 15];
 pub const PRINT_NUMBERS: [u8; 11] = [1, 2, 4, 3, 5, 6, 7, 10, 8, 9, 15];
 pub const LOCATE_NUMBERS: [u8; 12] = [1, 2, 4, 3, 5, 6, 7, 10, 8, 9, 16, 15];
 pub const BUILD_NUMBERS: [u8; 4] = [14, 1, 2, 17];
+/// Those that a line explains, and 15.
+pub const EXPLAIN_NUMBERS: [u8; 11] = PRINT_NUMBERS;
 
 /// Turns the seed into the printed pages' own, so that they stay what they
 /// are when others are drawn before them.
@@ -42,6 +44,8 @@ const BANK_SEED: u64 = 0x4241_4E4B_5300_0000;
 const LOCATE_SEED: u64 = 0x4C4F_4341_5445_0000;
 /// Likewise for the marks that are built.
 const BUILD_SEED: u64 = 0x4255_494C_4400_0000;
+/// Likewise for the lines that explain.
+const EXPLAIN_SEED: u64 = 0x4558_504C_4149_4E00;
 
 /// All files of a seed, by name.
 pub fn files(seed: u64) -> Vec<(String, Vec<u8>)> {
@@ -73,6 +77,7 @@ pub fn files(seed: u64) -> Vec<(String, Vec<u8>)> {
     let files = files.chain(print_files(seed));
     let files = files.chain(locate_files(seed));
     let files = files.chain(build_files(seed));
+    let files = files.chain(explain_files(seed));
     files.chain(long_files()).collect()
 }
 
@@ -92,6 +97,12 @@ pub fn locate_files(seed: u64) -> Vec<(String, Vec<u8>)> {
 pub fn build_files(seed: u64) -> Vec<(String, Vec<u8>)> {
     let mut rng = Rng::new(seed ^ BUILD_SEED);
     pack("build", build_records(&mut rng))
+}
+
+/// The files of lines that explain alone, likewise.
+pub fn explain_files(seed: u64) -> Vec<(String, Vec<u8>)> {
+    let mut rng = Rng::new(seed ^ EXPLAIN_SEED);
+    pack("explain", explain_records(&mut rng))
 }
 
 /// Puts records into numbered files: a count, then record after record.
@@ -279,13 +290,25 @@ fn print_record(case: &PrintCase) -> Vec<u8> {
 }
 
 fn print_sized(case: &PrintCase, size: Size) -> Vec<u8> {
-    let (answer, page) = case.answer();
+    paged(&case.checked, case.answer(), size)
+}
+
+fn explain_record(case: &ExplainCase) -> Vec<u8> {
+    explain_sized(case, Size::Short)
+}
+
+fn explain_sized(case: &ExplainCase, size: Size) -> Vec<u8> {
+    paged(&case.checked, case.answer(), size)
+}
+
+/// A case of the check with the answer and the page after it.
+fn paged(case: &CheckCase, (answer, page): (u64, Vec<u8>), size: Size) -> Vec<u8> {
     let mut out = Vec::new();
-    put_u32(&mut out, case.checked.base);
-    put_u32(&mut out, case.checked.reset);
-    size.put(&mut out, &case.checked.image);
-    size.put(&mut out, &case.checked.marks);
-    put_u32(&mut out, case.page_len as u32);
+    put_u32(&mut out, case.base);
+    put_u32(&mut out, case.reset);
+    size.put(&mut out, &case.image);
+    size.put(&mut out, &case.marks);
+    put_u32(&mut out, page.len() as u32);
     put_u64(&mut out, answer);
     if answer & 0xFF == 0 {
         out.extend_from_slice(&page[..(answer >> 8) as usize]);
@@ -677,7 +700,7 @@ const TOP: u32 = 0xFF_0000;
 /// For each kind the greatest length and a byte more.
 fn long_files() -> Vec<(String, Vec<u8>)> {
     let [step, run] = [1, 1_000_000].map(long_runs);
-    let kinds: [(&str, Vec<Vec<u8>>); 8] = [
+    let kinds: [(&str, Vec<Vec<u8>>); 9] = [
         ("check", long_by(&long_checks(), check_sized)),
         ("step", long_by(&step, run_sized)),
         ("run", long_by(&run, run_sized)),
@@ -686,6 +709,7 @@ fn long_files() -> Vec<(String, Vec<u8>)> {
         ("print", long_by(&long_prints(), print_sized)),
         ("locate", long_by(&long_locates(), locate_sized)),
         ("build", long_by(&long_builds(), build_sized)),
+        ("explain", long_by(&long_explains(), explain_sized)),
     ];
     let long = |(kind, records): (&str, Vec<Vec<u8>>)| {
         let bytes = file(records.len() as u32, &records.concat());
@@ -805,6 +829,15 @@ fn long_builds() -> [BuildCase; 3] {
     ]
 }
 
+/// Accepted; refused at the last byte, FFFFFF, and at the one before it; past
+/// FFFFFF; too long.
+fn long_explains() -> Vec<ExplainCase> {
+    let mut before = nops(MAX_IMAGE, TOP);
+    before.marks[MAX_IMAGE - 1] = 0x77;
+    let cases = long_checks().into_iter().chain([before]);
+    cases.map(ExplainCase::exact).collect()
+}
+
 /// Addresses all over two instructions and what lies between; too long.
 fn long_locates() -> [LocateCase; 2] {
     [first_and_last(), too_long()].map(|checked| {
@@ -874,6 +907,42 @@ fn too_many_and_more(rng: &mut Rng) -> Vec<BuildCase> {
         shorter.marks.pop();
         above.base += 0x100_0000;
         cases.extend([shorter, above]);
+    }
+    cases
+}
+
+/// Hand-made cases, each carried code up to FFFFFF, each other one alone,
+/// programs around the ends of banks, pages around their exact length, and as
+/// many cases in small images aimed at each number as are lacking, but some in
+/// any case.
+fn explain_records(rng: &mut Rng) -> Vec<Vec<u8>> {
+    let hand_made = explained().map(case_of).map(ExplainCase::exact);
+    let mut cases: Vec<ExplainCase> = hand_made.collect();
+    cases.extend(last_codes(rng));
+    cases.extend(uncarried_codes());
+    cases.extend(bank_explains());
+    cases.extend(around_lines());
+    for number in [0].into_iter().chain(EXPLAIN_NUMBERS) {
+        let there = cases.iter().filter(|case| case.number() == number).count();
+        let aimed = std::iter::repeat_with(|| explain_by(rng, number));
+        let small = aimed.filter(|case| case.checked.image.len() < 60);
+        cases.extend(small.take(LEAST.saturating_sub(there).max(LEAST / 4)));
+    }
+    cases.iter().map(explain_record).collect()
+}
+
+/// The shortest line and a longest one, with every length of page from none to
+/// some bytes more.
+fn around_lines() -> Vec<ExplainCase> {
+    let lines = || explained().map(|row| (row.4.len(), row));
+    let (shortest, longest) = (lines().min_by_key(|l| l.0), lines().max_by_key(|l| l.0));
+    let mut cases = Vec::new();
+    for (_, row) in shortest.into_iter().chain(longest) {
+        let exact = ExplainCase::exact(case_of(row));
+        for page_len in 0..=exact.page_len + 3 {
+            let checked = exact.checked.clone();
+            cases.push(ExplainCase { checked, page_len });
+        }
     }
     cases
 }

@@ -1,4 +1,5 @@
 /* driver IMAGE MARKS BASE RESET
+ * driver explain IMAGE MARKS BASE RESET LENGTH PAGE
  * driver write-list MARKS BASE RESET LENGTH LIST
  * driver read-list LIST LENGTH MARKS
  * driver build IMAGE BASE RESET ROUTINES LENGTH MARKS
@@ -10,20 +11,21 @@
  * Calls each function of the library with whatever the tests ask for.
  *
  * The first form reads an image and its mark bytes from two files, checks them,
- * and prints one line. The second writes the list of a file's marks into a page
- * of LENGTH bytes and the whole page into the file LIST; the third reads the file
- * LIST into LENGTH marks and writes them into the file MARKS. The fourth builds LENGTH
- * marks of an image from the file ROUTINES and writes them into the file MARKS. The
- * fifth prints an image into a page of LENGTH bytes and writes the whole page into the
- * file PAGE.
+ * and prints one line. The second explains what the check says of them in a page of
+ * LENGTH bytes and writes the whole page into the file PAGE. The third writes the list
+ * of a file's marks into a page of LENGTH bytes and the whole page into the file LIST;
+ * the fourth reads the file LIST into LENGTH marks and writes them into the file MARKS.
+ * The fifth builds LENGTH marks of an image from the file ROUTINES and writes them into
+ * the file MARKS. The sixth prints an image into a page of LENGTH bytes and writes the
+ * whole page into the file PAGE.
  *
- * The sixth locates addresses of an image and prints all of LENGTH places in one line; a
+ * The seventh locates addresses of an image and prints all of LENGTH places in one line; a
  * call that is refused and changes one passes for located.
  *
- * The seventh checks an image and, if it is accepted, runs it for STEPS steps in
+ * The eighth checks an image and, if it is accepted, runs it for STEPS steps in
  * RAM bytes of RAM, and prints one line. It begins with PG and PC at the 24-bit
  * address START and with S; all else of the state is 0, so m=0, x=0 and no call is
- * open. The eighth does the same one step after the other, a line each. Options:
+ * open. The ninth does the same one step after the other, a line each. Options:
  *
  *   --unchecked              runs the image without the check
  *   --poke OFFSET BYTE       puts a byte into the state before the run
@@ -33,8 +35,8 @@
  *
  * A page, marks that are read or built and RAM hold dots before. Every number given is
  * hexadecimal; counts and the check's offset are printed in decimal. The exit status is
- * 0 if accepted, written, read, built, printed, located or run, 1 if refused, 2 if there
- * was nothing to work on. */
+ * 0 if accepted, explained, written, read, built, printed, located or run, 1 if refused,
+ * 2 if there was nothing to work on. */
 #include <errno.h>
 #include <stdio.h>
 #include <string.h>
@@ -140,6 +142,25 @@ static int refused(uint32_t number)
 {
     printf("refused: %u %s\n", (unsigned)number, m7700_refusal_word(number));
     return REFUSED;
+}
+
+static int explain(char **arguments)
+{
+    uint32_t base, reset;
+    m7700_explanation explanation;
+
+    if (!read_file(arguments[0], &image) || !read_file(arguments[1], &marks) ||
+        !read_hex(arguments[2], &base) || !read_hex(arguments[3], &reset) ||
+        !lend(arguments[4], &page))
+        return UNREAD;
+    explanation = m7700_explain_image(image.at, image.length, marks.at, marks.length, base, reset,
+                                      page.at, page.length);
+    if (!write_file(arguments[5], &page))
+        return UNREAD;
+    if (explanation.refusal != 0)
+        return refused(explanation.refusal);
+    printf("explained: %zu bytes\n", explanation.length);
+    return ACCEPTED;
 }
 
 static int write_list(char **arguments)
@@ -438,6 +459,8 @@ static int execute(char **arguments, m7700_run_result (*machine)(const struct pl
 
 int main(int argc, char **argv)
 {
+    if (argc == 8 && strcmp(argv[1], "explain") == 0)
+        return explain(argv + 2);
     if (argc == 7 && strcmp(argv[1], "write-list") == 0)
         return write_list(argv + 2);
     if (argc == 5 && strcmp(argv[1], "read-list") == 0)
@@ -455,6 +478,7 @@ int main(int argc, char **argv)
     if (argc == 5)
         return check(argv + 1);
     fprintf(stderr, "usage: driver IMAGE MARKS BASE RESET\n"
+                    "       driver explain IMAGE MARKS BASE RESET LENGTH PAGE\n"
                     "       driver write-list MARKS BASE RESET LENGTH LIST\n"
                     "       driver read-list LIST LENGTH MARKS\n"
                     "       driver build IMAGE BASE RESET ROUTINES LENGTH MARKS\n"

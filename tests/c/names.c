@@ -145,6 +145,58 @@ static void marks_built(void)
          M7700_REFUSED_LIST);
 }
 
+static void fill_page(void)
+{
+    memset(page, '.', M7700_EXPLANATION_BYTES + 1);
+}
+
+static m7700_explanation explain(size_t image_len, size_t page_len)
+{
+    fill_page();
+    return m7700_explain_image(image, image_len, marks, image_len, BASE, RESET, page, page_len);
+}
+
+static void same_line(const char *what, m7700_explanation explanation, const char *line)
+{
+    same(what, explanation.refusal, 0);
+    same(what, explanation.length, strlen(line));
+    same(what, memcmp(page, line, strlen(line)) == 0, 1);
+    same(what, page[strlen(line)], '.');
+}
+
+/* NOP at a start and STP at another, which has a mark of no form, other widths, and the right mark. The longest line is
+ * that of a BBC of six bytes. */
+static void explanations(void)
+{
+    static const uint8_t longest[] = {0x3C, 0x34, 0x12, 0x0F, 0x00, 0x00, 0xDB};
+    m7700_explanation explanation;
+
+    image[0] = 0xEA;
+    image[1] = 0xDB;
+    marks[0] = M7700_MARK_START;
+    marks[1] = M7700_MARK_M;
+    same_line("of a bad mark", explain(2, sizeof page), "4 mark: 00C001 has 02: bits without a start\n");
+    marks[1] = M7700_MARK_START | M7700_MARK_X;
+    same_line("of other widths", explain(2, M7700_EXPLANATION_BYTES),
+              "9 widths: 00C000 EA NOP: 00C001 must be 0 0 N 0 0, is 0 1 N 0 0\n");
+    marks[1] = M7700_MARK_START;
+    same_line("accepted", explain(2, 9), "accepted\n");
+    explanation = explain(2, 8);
+    same("a short page", explanation.refusal, M7700_REFUSED_PAGE);
+    same("its length", explanation.length, 0);
+    same("the page then", page[0], '.');
+    memcpy(image, longest, sizeof longest);
+    memset(marks, 0, sizeof longest);
+    marks[0] = M7700_MARK_START;
+    marks[6] = M7700_MARK_START | M7700_MARK_M;
+    same_line("the longest line", explain(sizeof longest, M7700_EXPLANATION_BYTES),
+              "9 widths: 00C000 3C 34 12 0F 00 00 BBC: 00C006 must be 0 0 N 0 0, is 1 0 N 0 0\n");
+    fill_page();
+    same_line("of nothing", m7700_explain_image(NULL, 0, NULL, 0, BASE, RESET, page, sizeof page),
+              "1 length: image 0, marks 0\n");
+    same("no page", m7700_explain_image(NULL, 0, NULL, 0, BASE, RESET, NULL, 0).refusal, M7700_REFUSED_PAGE);
+}
+
 static m7700_page_printed print(size_t image_len, size_t page_len)
 {
     return m7700_print_page(image, image_len, marks, image_len, BASE, RESET, page, page_len);
@@ -288,6 +340,7 @@ int main(void)
     flags();
     mark_bits();
     marks_built();
+    explanations();
     pages();
     located_places();
     limits();

@@ -50,6 +50,14 @@ static void call_check(void)
     refusal = m7700_check_image(image, sizeof image, marks, sizeof marks, BASE, RESET).refusal;
 }
 
+/* At the image's end: the last mark is not the one that the NOP before it leads to. */
+static void call_explain(void)
+{
+    marks[sizeof marks - 1] ^= M7700_MARK_M;
+    refusal = m7700_explain_image(image, sizeof image, marks, sizeof marks, BASE, RESET, page, sizeof page).refusal;
+    marks[sizeof marks - 1] ^= M7700_MARK_M;
+}
+
 static void call_write(void)
 {
     m7700_list_written written = m7700_write_mark_list(marks, sizeof marks, BASE, RESET, list, sizeof list);
@@ -117,9 +125,9 @@ int main(void)
         const char *name;
         void (*call)(void);
     } calls[] = {
-        {"check", call_check}, {"write", call_write},   {"read", call_read},
-        {"print", call_print}, {"locate", call_locate}, {"step", call_step},
-        {"run", call_run},     {"build", call_build},
+        {"check", call_check}, {"explain", call_explain}, {"write", call_write},
+        {"read", call_read},   {"print", call_print},     {"locate", call_locate},
+        {"step", call_step},   {"run", call_run},         {"build", call_build},
     };
     size_t without = touched(call_nothing), most = 0, took = 0, i;
 

@@ -3,6 +3,7 @@
 
 pub mod build;
 pub mod check;
+pub mod explain;
 pub mod faults;
 pub mod guard;
 pub mod library;
@@ -10,6 +11,7 @@ pub mod lists;
 pub mod locate;
 pub mod machine;
 mod packed;
+pub mod paged;
 pub mod print;
 pub mod runs;
 pub mod steps;

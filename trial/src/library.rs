@@ -37,6 +37,17 @@ extern "C" {
         page_len: usize,
     ) -> u64;
 
+    pub fn m7700_explain(
+        image: *const u8,
+        image_len: usize,
+        marks: *const u8,
+        marks_len: usize,
+        base: u32,
+        reset: u32,
+        page: *mut u8,
+        page_len: usize,
+    ) -> u64;
+
     pub fn m7700_locate(
         image: *const u8,
         image_len: usize,

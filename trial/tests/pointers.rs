@@ -3,8 +3,8 @@
 use sim7700::state::STATE_BYTES;
 use std::ptr::{null_mut, without_provenance_mut};
 use trial7700::library::{
-    m7700_build_marks, m7700_check, m7700_locate, m7700_print, m7700_read_list, m7700_run,
-    m7700_step, m7700_write_list,
+    m7700_build_marks, m7700_check, m7700_explain, m7700_locate, m7700_print, m7700_read_list,
+    m7700_run, m7700_step, m7700_write_list,
 };
 
 #[test]
@@ -44,6 +44,31 @@ fn at_length_0_any_pointer_will_do() {
             ]
         };
         assert_eq!(answers, [1, 1, 15]);
+    }
+}
+
+#[test]
+fn at_length_0_any_pointer_will_do_for_a_line() {
+    let (image, marks) = ([0xDB], [1]);
+    let mut page = [0; 27];
+    for nowhere in [
+        null_mut(),
+        without_provenance_mut(1),
+        without_provenance_mut(usize::MAX),
+    ] {
+        let (i, m) = (image.as_ptr(), marks.as_ptr());
+        let line = page.as_mut_ptr();
+        // SAFETY: each pointer is valid for its length, and the page overlaps
+        // nothing.
+        let answers = unsafe {
+            [
+                m7700_explain(nowhere, 0, nowhere, 0, 0, 0, nowhere, 0),
+                m7700_explain(i, 1, m, 1, 0, 0, nowhere, 0),
+                m7700_explain(nowhere, 0, nowhere, 0, 0, 0, line, 27),
+            ]
+        };
+        assert_eq!(answers, [15, 15, 27 << 8]);
+        assert_eq!(&page, b"1 length: image 0, marks 0\n");
     }
 }
 

@@ -15,6 +15,7 @@ use Rattle.loader.proofs.m7700_read_list.Met as ReadMet
 use Rattle.loader.proofs.m7700_write_list.Met as WriteMet
 use Rattle.loader.proofs.m7700_build_marks.Met as BuildMet
 use Rattle.loader.proofs.m7700_print.Met as PrintMet
+use Rattle.loader.proofs.m7700_explain.Met as ExplainMet
 use Rattle.loader.proofs.m7700_locate.Met as LocateMet
 use Rattle.loader.proofs.m7700_run.Met as RunMet
 use Rattle.loader.proofs.m7700_step.Met as StepMet
@@ -125,6 +126,7 @@ demand-1 = record {
         write = λ κs given. tt;
         build = λ κs given. tt;
         print = λ κs given. tt;
+        explain = λ κs given. tt;
         locate = λ κs given. tt;
         run = λ κs given. tt;
         step = λ κs given. tt;
@@ -136,6 +138,7 @@ demand-1 = record {
         write = λ κs given last. refl;
         build = λ κs given last. (refl, refl);
         print = λ κs given last. (refl, refl);
+        explain = λ κs given last. (refl, refl);
         locate = λ κs given last. (refl, refl, refl);
         run = λ κs given last. refl;
         step = λ κs given last. refl;
@@ -156,6 +159,7 @@ demand-1 = record {
         write = WriteMet.met;
         build = BuildMet.met;
         print = PrintMet.met;
+        explain = ExplainMet.met;
         locate = LocateMet.met;
         run = RunMet.met;
         step = StepMet.met;

@@ -5,3 +5,4 @@ pub mod Requests
 pub mod Locating
 pub mod Building
 pub mod Widening
+pub mod Explaining

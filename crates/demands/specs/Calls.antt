@@ -1,4 +1,4 @@
--- The eight exported functions (loader/src/lib.rt) and their calls: what a call is given, its result, what it leaves,
+-- The nine exported functions (loader/src/lib.rt) and their calls: what a call is given, its result, what it leaves,
 -- and that it keeps its function's contract. Each contract is the function's own: `Learnt` is what a caller learns by
 -- the `ensures` that stand there, `Asked` what its `requires` ask, and `statement` the theorem that its code keeps
 -- it, all made by the toolchain from the text there. So whoever weakens a promise weakens what is known of a call
@@ -27,6 +27,9 @@ use Rattle.loader.proofs.m7700_build_marks.Statement as BuildStatement
 use Rattle.loader.proofs.m7700_print as Print
 use Rattle.loader.proofs.m7700_print.Reads as PrintReads
 use Rattle.loader.proofs.m7700_print.Statement as PrintStatement
+use Rattle.loader.proofs.m7700_explain as Explain
+use Rattle.loader.proofs.m7700_explain.Reads as ExplainReads
+use Rattle.loader.proofs.m7700_explain.Statement as ExplainStatement
 use Rattle.loader.proofs.m7700_locate as Locate
 use Rattle.loader.proofs.m7700_locate.Reads as LocateReads
 use Rattle.loader.proofs.m7700_locate.Statement as LocateStatement
@@ -53,6 +56,7 @@ pub record AllReturn : Type 2 where
   pub write : {M : Type 1} → WriteStatement.statement M
   pub build : {M : Type 1} → BuildStatement.statement M
   pub print : {M : Type 1} → PrintStatement.statement M
+  pub explain : {M : Type 1} → ExplainStatement.statement M
   pub locate : {M : Type 1} → LocateStatement.statement M
   pub run : {M : Type 1} → RunStatement.statement M
   pub step : {M : Type 1} → StepStatement.statement M
@@ -64,14 +68,15 @@ pub record NothingAsked : Type 0 where
   pub write : (κs : Lfts 2) (given : Args Write.signature κs) → WriteReads.Asked κs given
   pub build : (κs : Lfts 3) (given : Args Build.signature κs) → BuildReads.Asked κs given
   pub print : (κs : Lfts 3) (given : Args Print.signature κs) → PrintReads.Asked κs given
+  pub explain : (κs : Lfts 3) (given : Args Explain.signature κs) → ExplainReads.Asked κs given
   pub locate : (κs : Lfts 4) (given : Args Locate.signature κs) → LocateReads.Asked κs given
   pub run : (κs : Lfts 3) (given : Args Run.signature κs) → RunReads.Asked κs given
   pub step : (κs : Lfts 3) (given : Args Step.signature κs) → StepReads.Asked κs given
 
 -- What is lent by `&` is after a call as it was given: all that the check is lent, the text of a list that is read, the
 -- marks of one that is written, image and routine list where marks are built, image and marks of a page that is
--- printed, these and the addresses where addresses are located, the image of the machine. `last` is what the buffers
--- lent by `&mut` hold then.
+-- printed and of an explanation, these and the addresses where addresses are located, the image of the machine. `last`
+-- is what the buffers lent by `&mut` hold then.
 pub record SharedStays : Type 0 where
   pub check : (κs : Lfts 2) (given : Args Check.signature κs) (last : Lasts Check.ended κs given)
       → atExit Check.ended κs given last ≡ given
@@ -84,6 +89,8 @@ pub record SharedStays : Type 0 where
       × (atExit Build.ended κs given last .1 .1 .1 .0 ≡ given .1 .1 .1 .0)
   pub print : (κs : Lfts 3) (given : Args Print.signature κs) (last : Lasts Print.ended κs given)
       → (atExit Print.ended κs given last .0 ≡ given .0) × (atExit Print.ended κs given last .1 .0 ≡ given .1 .0)
+  pub explain : (κs : Lfts 3) (given : Args Explain.signature κs) (last : Lasts Explain.ended κs given)
+      → (atExit Explain.ended κs given last .0 ≡ given .0) × (atExit Explain.ended κs given last .1 .0 ≡ given .1 .0)
   pub locate : (κs : Lfts 4) (given : Args Locate.signature κs) (last : Lasts Locate.ended κs given)
       → (atExit Locate.ended κs given last .0 ≡ given .0) × (atExit Locate.ended κs given last .1 .0 ≡ given .1 .0)
       × (atExit Locate.ended κs given last .1 .1 .1 .1 .0 ≡ given .1 .1 .1 .1 .0)
@@ -140,6 +147,12 @@ PrintContract image marks base reset page result page-left =
     let κs : Lfts 3 = (image .lifetime, (marks .lifetime, (page .lifetime, tt))) in
     let given : Args Print.signature κs = (image .lent, (marks .lent, (base, (reset, (page .lent, tt))))) in
     PrintReads.Learnt κs given result (atExit Print.ended κs given (tt, (tt, (tt, (tt, (page-left, tt))))))
+
+abbrev pub ExplainContract : Buffer → Buffer → ℕ → ℕ → Buffer → ℕ → List ℕ → Type 0
+ExplainContract image marks base reset page result page-left =
+    let κs : Lfts 3 = (image .lifetime, (marks .lifetime, (page .lifetime, tt))) in
+    let given : Args Explain.signature κs = (image .lent, (marks .lent, (base, (reset, (page .lent, tt))))) in
+    ExplainReads.Learnt κs given result (atExit Explain.ended κs given (tt, (tt, (tt, (tt, (page-left, tt))))))
 
 abbrev pub LocateContract : Buffer → Buffer → ℕ → ℕ → Words → Words → ℕ → List ℕ → Type 0
 LocateContract image marks base reset addresses places result places-left =
@@ -210,6 +223,17 @@ pub record PrintCall : Type 0 where
   pub result : ℕ
   pub page-left : List ℕ
   pub kept : PrintContract image marks base reset page result page-left
+
+-- of `m7700_explain`
+pub record ExplainCall : Type 0 where
+  pub image : Buffer
+  pub marks : Buffer
+  pub base : ℕ
+  pub reset : ℕ
+  pub page : Buffer
+  pub result : ℕ
+  pub page-left : List ℕ
+  pub kept : ExplainContract image marks base reset page result page-left
 
 -- of `m7700_locate`
 pub record LocateCall : Type 0 where

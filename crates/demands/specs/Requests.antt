@@ -1,24 +1,30 @@
 -- What the requests of document 02 claim of calls of the exported functions, a proposition a request, in the notions of
 -- Demands.antt. Their proofs stand in proofs/Requests.antt, of R-4 in proofs/Locating.antt, of R-6 in
--- proofs/Building.antt and of R-7 in proofs/Widening.antt.
+-- proofs/Building.antt, of R-7 in proofs/Widening.antt, and of our own request (docs/requests/explain.md) in
+-- proofs/Explaining.antt.
 -- Assumes nothing.
 use mathlib.Core.Path.{_≡_}
+use mathlib.Core.Bool.{true}
 use mathlib.Core.Logic.{_↔_}
-use Prim.Native.Nat.{ℕ, _*_, _≤_, _<_}
+use Prim.Native.Nat.{ℕ, _+_, _*_, _≤_, _<_}
 use mathlib.Core.List.{List, [], _∷_, _++_, map}
 use lib.ListN.{length, getD, take, drop}
 use Rattle.packing.specs.Packed.{checkNumbers, readNumbers, writtenNumbers, printedNumbers, locatedNumbers, builtNumber}
+use Rattle.types.specs.declared.code.Instruction.{Instruction}
 use Rattle.types.specs.Refusals.{refusalNumber}
+use Rattle.text.specs.Digits.{value}
+use Rattle.text.specs.Text.{startsWith}
 use Rattle.model.specs.Image.{startCount}
 use Rattle.model.specs.Rules.{Accepts}
 use Rattle.model.specs.PrintedPage.{rowSize, pageText}
+use Rattle.model.specs.Explanation.{lineLimit, ascii, heading, explanation, NamesNoStart, NamesMark}
 use Rattle.model.specs.PageReading.{bytesOnPage, startsOnPage, coveredBytes, startsShown}
 use Rattle.model.specs.Grounds.{AnswersBy, locateGrounds, buildGrounds}
 use Rattle.model.specs.Locate.{placeNumber, placeOf, marksTo}
 use Rattle.model.specs.Routines.{routineMarks, Admitted, Least, WithinLimits}
 use Rattle.model.specs.MarkList.{newDigits, listText, addressDigits}
 use Rattle.demands.specs.Calls.{Buffer, holds, CheckCall, ReadCall, WriteCall, PrintCall, listed, LocateCall}
-use Rattle.demands.specs.Calls.{BuildCall}
+use Rattle.demands.specs.Calls.{BuildCall, ExplainCall}
 
 -- two calls are given the same image, marks, base and reset
 abbrev pub GivenAlike : Buffer → Buffer → ℕ → ℕ → Buffer → Buffer → ℕ → ℕ → Type 0
@@ -156,3 +162,47 @@ pub record WidensLists : Type 0 where
       → w .reset ≡ readNumbers (r .result) .reset → length (listInSix r) ≤ length (holds (w .page))
       → (writtenNumbers (w .result) ≡ record { number = 0; length = length (listInSix r) })
       × (w .page-left ≡ listInSix r ++ drop (length (listInSix r)) (holds (w .page)))
+
+-- ---- a refusal that tells what to mend
+
+-- the line that explains what a call is given
+abbrev pub lineOf : ExplainCall → List ℕ
+lineOf c = explanation (holds (c .image)) (holds (c .marks)) (c .base) (c .reset)
+
+-- a call of the check on what is explained, its number and its offset
+abbrev pub ChecksExplained : ExplainCall → CheckCall → Type 0
+ChecksExplained c d =
+    GivenAlike (c .image) (c .marks) (c .base) (c .reset) (d .image) (d .marks) (d .base) (d .reset)
+
+abbrev pub numberOf : CheckCall → ℕ
+numberOf d = checkNumbers (d .result) .number
+
+abbrev pub offsetOf : CheckCall → ℕ
+offsetOf d = checkNumbers (d .result) .offset
+
+pub record ExplainsRefusals : Type 0 where
+  -- 'writes one line of text'; 'Bytes past the line stay as given.'
+  pub explained : (c : ExplainCall) → length (lineOf c) ≤ length (holds (c .page))
+      → (printedNumbers (c .result) ≡ record { number = 0; offset = 0; length = length (lineOf c) })
+      × (c .page-left ≡ lineOf c ++ drop (length (lineOf c)) (holds (c .page)))
+  -- '15 for a short page and nothing written'
+  pub short : (c : ExplainCall) → length (holds (c .page)) < length (lineOf c)
+      → (printedNumbers (c .result) ≡ record { number = 15; offset = 0; length = 0 }) × (c .page-left ≡ holds (c .page))
+  -- 'No line has over 81 bytes.'
+  pub enough : (c : ExplainCall) → length (lineOf c) ≤ lineLimit
+  -- 'An accepted image gets the line `accepted`.'
+  pub accepted : (c : ExplainCall) (d : CheckCall) → ChecksExplained c d → d .result ≡ 0
+      → lineOf c ≡ ascii "accepted\n"
+  -- 'number and place in it are the verdict's'
+  pub number : (c : ExplainCall) (d : CheckCall) → ChecksExplained c d → 0 < d .result
+      → startsWith (heading (numberOf d)) (lineOf c) ≡ true
+  pub place : (c : ExplainCall) (d : CheckCall) → ChecksExplained c d → 4 ≤ numberOf d
+      → value 16 6 (drop (length (heading (numberOf d))) (lineOf c)) ≡ c .base + offsetOf d
+  -- 'for 8 the named address has no marked start'
+  pub flow : (c : ExplainCall) (d : CheckCall) → ChecksExplained c d → numberOf d ≡ 8
+      → (i : Instruction) × (k : ℕ)
+      × NamesNoStart (holds (c .image)) (holds (c .marks)) (c .base) (c .reset) (offsetOf d) i k
+  -- 'for 9, with the named mark put at the named address that requirement of the start holds'
+  pub widths : (c : ExplainCall) (d : CheckCall) → ChecksExplained c d → numberOf d ≡ 9
+      → (i : Instruction) × (k : ℕ)
+      × NamesMark (holds (c .image)) (holds (c .marks)) (c .base) (c .reset) (offsetOf d) i k

@@ -1,6 +1,7 @@
 // The interface for loaders written in C (include/m7700.h): numbers and slices, each slice as a pointer and a length.
 use builder::build_marks;
 use checker::packed_verdict;
+use explainer::explain;
 use locator::locate;
 use marklist::reader::read_list;
 use marklist::writer::write_list;
@@ -14,12 +15,15 @@ use packing::pass_on;
 use printer::print_accepted;
 use runs::bytes::run;
 ghost use mathlib.Core.Path.{_≡_};
+ghost use Prim.Native.Nat.{_≤_};
+ghost use lib.ListN.{length};
 ghost use Rattle.model.specs.Memory.{memory};
 ghost use Rattle.model.specs.RunBytes.{ranBytes};
 ghost use Rattle.model.specs.Verdict.{verdict};
 ghost use Rattle.model.specs.MarkList.{readList, marksRead, writeList, pageWritten};
 ghost use Rattle.model.specs.Routines.{built, marksBuilt};
 ghost use Rattle.model.specs.PrintedPage.{printed, pagePrinted};
+ghost use Rattle.model.specs.Explanation.{lineLimit, explanation, explained, pageExplained};
 ghost use Rattle.model.specs.Locate.{located, placesLocated};
 ghost use Rattle.packing.specs.Packed.{packedVerdict, packedRead, packedWritten, packedBuilt, packedPrinted};
 ghost use Rattle.packing.specs.Packed.{packedLocated, packedRun};
@@ -91,6 +95,27 @@ pub extern "C" fn m7700_print(
         return pass_on(refusal);
     }
     pack_printed(print_accepted(image, marks, base, page))
+}
+
+// The line that says what the check's refusal is about: 0 in the low byte and its length above it; or 15 for want of
+// room.
+#[no_mangle]
+pub extern "C" fn m7700_explain(
+    image: &[u8],
+    marks: &[u8],
+    base: u32,
+    reset: u32,
+    page: &mut [u8],
+) -> u64
+    ensures answer { λ r. ⌜
+        r ≡ packedPrinted (explained (now (image .entry)) (now (marks .entry)) base reset (now (page .entry)))
+        ⌝ }
+    ensures page { λ _. ⌜
+        now (page .exit) ≡ pageExplained (now (image .entry)) (now (marks .entry)) base reset (now (page .entry))
+        ⌝ }
+    ensures short { λ _. ⌜ length (explanation (now (image .entry)) (now (marks .entry)) base reset) ≤ lineLimit ⌝ }
+{
+    pack_printed(explain(image, marks, base, reset, page))
 }
 
 // Where addresses lie: 0 in the low byte and the number of marks read above it; or the number that refuses them, with

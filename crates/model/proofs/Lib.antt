@@ -33,3 +33,4 @@ pub mod Keeps
 pub mod RunBytes
 pub mod FirstGround
 pub mod Grounds
+pub mod Explanation

@@ -16,6 +16,7 @@ pub mod PageReading
 pub mod Locate
 pub mod Routines
 pub mod Mixtures
+pub mod Explanation
 pub mod Memory
 pub mod Addressing
 pub mod Arithmetic

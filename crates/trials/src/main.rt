@@ -124,6 +124,8 @@ fn main() {
     try_files(Kind::Write, &mut write, b"write-long.bin");
     let mut print = *b"print-00.bin";
     try_files(Kind::Print, &mut print, b"print-long.bin");
+    let mut explain = *b"explain-00.bin";
+    try_files(Kind::Explain, &mut explain, b"explain-long.bin");
     let mut locate = *b"locate-00.bin";
     try_files(Kind::Locate, &mut locate, b"locate-long.bin");
     let mut build = *b"build-00.bin";

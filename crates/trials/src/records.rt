@@ -21,6 +21,7 @@ use crate::parts::words;
 use check::same;
 use loader::m7700_build_marks;
 use loader::m7700_check;
+use loader::m7700_explain;
 use loader::m7700_locate;
 use loader::m7700_print;
 use loader::m7700_read_list;
@@ -28,7 +29,7 @@ use loader::m7700_run;
 use loader::m7700_step;
 use loader::m7700_write_list;
 
-// The value of every mark before a read, and of every byte of the page before a list is written or an image printed.
+// The value of every mark before a read, and of every byte of the page before it is written on.
 const UNREAD: u8 = 0x5A;
 
 const UNWRITTEN: u8 = 0xA5;
@@ -43,8 +44,16 @@ pub(crate) enum Kind {
     Read,
     Write,
     Print,
+    Explain,
     Locate,
     Build,
+}
+
+// What writes on a page.
+enum Writer {
+    List,
+    Print,
+    Explain,
 }
 
 // What a record shows: the number of its answer, and whether the call did what it says.
@@ -60,8 +69,9 @@ pub(crate) fn trial_at(kind: Kind, file: &[u8], at: &mut usize, long: bool) -> T
         Kind::Step => try_machine(file, at, long, true),
         Kind::Run => try_machine(file, at, long, false),
         Kind::Read => try_read(file, at, long),
-        Kind::Write => try_page(file, at, long, false),
-        Kind::Print => try_page(file, at, long, true),
+        Kind::Write => try_page(file, at, long, Writer::List, false),
+        Kind::Print => try_page(file, at, long, Writer::Print, true),
+        Kind::Explain => try_page(file, at, long, Writer::Explain, true),
         Kind::Locate => try_locate(file, at, long),
         Kind::Build => try_build(file, at, long),
     }
@@ -148,13 +158,30 @@ fn try_read(file: &[u8], at: &mut usize, long: bool) -> Trial {
     }
 }
 
-// A list written or an image printed, and the page that it leaves. A record of a list has no image.
-fn try_page(file: &[u8], at: &mut usize, long: bool, printed: bool) -> Trial {
+// Calls what writes on a page.
+fn write_page(
+    writer: Writer,
+    image: &[u8],
+    marks: &[u8],
+    base: u32,
+    reset: u32,
+    page: &mut [u8],
+) -> u64 {
+    match writer {
+        Writer::List => m7700_write_list(marks, base, reset, page),
+        Writer::Print => m7700_print(image, marks, base, reset, page),
+        Writer::Explain => m7700_explain(image, marks, base, reset, page),
+    }
+}
+
+// A list written, an image printed or a refusal explained, and the page that it leaves. A record of a list has no
+// image.
+fn try_page(file: &[u8], at: &mut usize, long: bool, writer: Writer, has_image: bool) -> Trial {
     let base = take_u32(file, at);
     let reset = take_u32(file, at);
     let mut image_space = space();
     let mut marks_space = space();
-    let image = take_whole_if(printed, file, at, long, &mut image_space);
+    let image = take_whole_if(has_image, file, at, long, &mut image_space);
     let marks = take_whole(file, at, long, &mut marks_space);
     let size = take_u32(file, at) as usize;
     let answer = take_u64(file, at);
@@ -167,11 +194,7 @@ fn try_page(file: &[u8], at: &mut usize, long: bool, printed: bool) -> Trial {
     if answer % 256 == 0 {
         take_over(file, at, after, 0, (answer / 256) as usize);
     }
-    let given = if printed {
-        m7700_print(image, marks, base, reset, page)
-    } else {
-        m7700_write_list(marks, base, reset, page)
-    };
+    let given = write_page(writer, image, marks, base, reset, page);
     Trial {
         number: (answer % 256) as usize,
         agrees: page.len() == size && given == answer && same(page, after),

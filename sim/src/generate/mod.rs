@@ -6,6 +6,8 @@ mod builds;
 mod checks;
 mod depths;
 mod digits;
+mod explained;
+mod explains;
 mod flows;
 mod hand_made;
 mod lists;
@@ -27,6 +29,10 @@ pub use builds::{
 pub use checks::{check_case, damaged, hostile_check};
 pub use depths::{depth_runs, depth_steps, FORMER_CALLS, FORMER_STATE_BYTES};
 pub use digits::{digit_lists, digit_routines, in_four, rewritten, routines_in};
+pub use explained::{case_of, explained, Explained};
+pub use explains::{
+    bank_explains, explain_by, explain_case, last_codes, uncarried_codes, ExplainCase,
+};
 pub use flows::{backwards, calling, straight};
 pub use hand_made::{hand_made, HandMade};
 pub use lists::{

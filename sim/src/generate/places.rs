@@ -29,7 +29,7 @@ pub fn placed_steps(rng: &mut Rng) -> Vec<RunCase> {
     cases
 }
 
-fn codes_that(wanted: impl Fn(&'static Entry) -> bool) -> Vec<Code> {
+pub(super) fn codes_that(wanted: impl Fn(&'static Entry) -> bool) -> Vec<Code> {
     let all = (0..3).flat_map(|page| (0..=255).map(move |code| (page, code)));
     all.filter(|&(page, code)| wanted(entry_of(page, code)))
         .collect()

@@ -142,15 +142,19 @@ impl Case<'_> {
         }
     }
 
-    /// The addresses that the start at an offset of an accepted image looks
-    /// at.
-    pub fn looks_at(&self, offset: usize) -> Vec<i64> {
+    /// What a start whose instruction is whole asks of addresses behind it.
+    pub fn asks(&self, offset: usize) -> Vec<(i64, bool)> {
         let here = mark(self.marks[offset]).unwrap();
-        let (line, length) = self.code_at(offset, here).unwrap();
+        let (line, length) = self.code_at(offset, here).ok().unwrap();
         let end = offset + length;
         let next = self.base as i64 + end as i64;
-        let asked = self.obligations(line, &self.image[offset..end], here, next);
-        asked.into_iter().map(|(address, _)| address).collect()
+        self.obligations(line, &self.image[offset..end], here, next)
+    }
+
+    /// The addresses that it looks at.
+    pub fn looks_at(&self, offset: usize) -> Vec<i64> {
+        let asked = self.asks(offset).into_iter();
+        asked.map(|(address, _)| address).collect()
     }
 
     /// The broken rules of the start at an offset.

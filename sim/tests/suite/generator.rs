@@ -19,6 +19,7 @@ fn the_seed_alone_decides() {
         assert_eq!(print_case(&mut a), print_case(&mut b));
         assert_eq!(locate_case(&mut a), locate_case(&mut b));
         assert_eq!(build_case(&mut a), build_case(&mut b));
+        assert_eq!(explain_case(&mut a), explain_case(&mut b));
         let mut other = Rng::new(seed + 1000);
         assert_ne!(Rng::new(seed).next_u64(), other.next_u64());
     }
@@ -285,6 +286,9 @@ fn aimed_cases_have_their_number() {
             }
             for number in (0..=10).chain([15, 16]) {
                 assert_eq!(locate_by(&mut rng, number).answer().0 as u8, number);
+            }
+            for number in (0..=10).chain([15]) {
+                assert_eq!(explain_by(&mut rng, number).number(), number);
             }
             for number in [0, 1, 2, 14, 17] {
                 assert_eq!(build_by(&mut rng, number).answer().0, number as u64);

@@ -10,6 +10,7 @@ mod codemap;
 mod common;
 mod depth;
 mod digits;
+mod explain;
 mod flags_and_bits;
 mod flow;
 mod generator;

@@ -153,7 +153,7 @@ fn drawn_pages_have_the_columns() {
 
 /// The first words of the syntax on the instructions' own pages (manual 4.2),
 /// by page and code: a form of A stands behind 42 with B.
-fn words() -> BTreeMap<(usize, u8), String> {
+pub fn words() -> BTreeMap<(usize, u8), String> {
     let mut words = BTreeMap::new();
     for line in include_str!("data/syntax.txt").lines() {
         let (codes, syntax) = line.split_once('|').unwrap();

@@ -4,7 +4,7 @@ use sim7700::codes::{entry_of, page_of, Register, Word};
 use sim7700::generate::VALUES;
 use sim7700::state::{depth, Registers};
 use sim7700::vectors::*;
-use sim7700::{build_marks, check, locate, print, read_list, run, write_list};
+use sim7700::{build_marks, check, explain, locate, print, read_list, run, write_list};
 use std::collections::{BTreeMap, BTreeSet};
 
 #[test]
@@ -17,9 +17,9 @@ fn the_same_seed_gives_the_same_bytes() {
     }
 }
 
-/// The check, read, write, print, locate and build files hang on no machine and
-/// are kept elsewhere too: their bytes stay (FNV-1a, 64 bits, over names and
-/// bytes).
+/// The check, read, write, print, locate, build and explain files hang on no
+/// machine and are kept elsewhere too: their bytes stay (FNV-1a, 64 bits, over
+/// names and bytes).
 #[test]
 fn kept_files_stay() {
     let files = files(DEFAULT_SEED);
@@ -30,6 +30,7 @@ fn kept_files_stay() {
         ("print", 0x480D_A9B8_3BF8_37B9),
         ("locate", 0x92C9_B147_CB17_9F4F),
         ("build", 0xC38C_4BA6_3BBF_1F65),
+        ("explain", 0x561E_423F_051A_C3DD),
     ] {
         let mut hash = 0xCBF2_9CE4_8422_2325u64;
         for (name, bytes) in files.iter().filter(|(name, _)| kind_of(name).0 == kind) {
@@ -133,40 +134,62 @@ fn try_record((kind, long): (&str, bool), r: &mut Reader) -> u64 {
             assert!(marks == expected, "{}", text.escape_ascii());
             answer & 0xFF
         }
-        "write" => {
-            let (base, reset) = (r.number(4) as u32, r.number(4) as u32);
-            let marks = r.sized(long);
-            let mut page = vec![0xA5; r.number(4) as usize];
-            let answer = r.number(8);
-            let mut expected = page.clone();
-            if answer & 0xFF == 0 {
-                let text = r.take((answer >> 8) as usize);
-                expected[..text.len()].copy_from_slice(text);
-            }
-            assert_eq!(write_list(&marks, base, reset, &mut page), answer);
-            assert_eq!(page, expected);
-            answer & 0xFF
-        }
-        "print" => try_print(r, long),
+        "write" => try_write(r, long),
+        "print" => try_paged(r, long, print).0,
+        "explain" => try_explain(r, long),
         "locate" => try_locate(r, long),
         "build" => try_build(r, long),
         _ => try_run(r, long),
     }
 }
 
-fn try_print(r: &mut Reader, long: bool) -> u64 {
+fn try_write(r: &mut Reader, long: bool) -> u64 {
+    let (base, reset) = (r.number(4) as u32, r.number(4) as u32);
+    let marks = r.sized(long);
+    let mut page = vec![0xA5; r.number(4) as usize];
+    let answer = r.number(8);
+    let mut expected = page.clone();
+    if answer & 0xFF == 0 {
+        let text = r.take((answer >> 8) as usize);
+        expected[..text.len()].copy_from_slice(text);
+    }
+    assert_eq!(write_list(&marks, base, reset, &mut page), answer);
+    assert_eq!(page, expected);
+    answer & 0xFF
+}
+
+/// A function that writes onto a page.
+type Paged = fn(&[u8], &[u8], u32, u32, &mut [u8]) -> u64;
+
+/// The answer's number, and what is written.
+fn try_paged<'a>(r: &mut Reader<'a>, long: bool, paged: Paged) -> (u64, &'a [u8]) {
     let (base, reset) = (r.number(4) as u32, r.number(4) as u32);
     let (image, marks) = (r.sized(long), r.sized(long));
     let mut page = vec![0xA5; r.number(4) as usize];
     let answer = r.number(8);
     let mut expected = page.clone();
-    if answer & 0xFF == 0 {
-        let rows = r.take((answer >> 8) as usize);
-        expected[..rows.len()].copy_from_slice(rows);
-    }
-    assert_eq!(print(&image, &marks, base, reset, &mut page), answer);
+    let written = match answer & 0xFF {
+        0 => r.take((answer >> 8) as usize),
+        _ => &[],
+    };
+    expected[..written.len()].copy_from_slice(written);
+    assert_eq!(paged(&image, &marks, base, reset, &mut page), answer);
     assert!(page == expected, "{image:02X?} {marks:02X?}");
-    answer & 0xFF
+    (answer & 0xFF, written)
+}
+
+/// The number that the line begins with, or 15.
+fn try_explain(r: &mut Reader, long: bool) -> u64 {
+    let (number, line) = try_paged(r, long, explain);
+    let line = std::str::from_utf8(line).unwrap();
+    match line.split_once(' ') {
+        Some((first, _)) => first.parse().unwrap(),
+        None if number == 0 => {
+            assert_eq!(line, "accepted\n");
+            0
+        }
+        None => number,
+    }
 }
 
 fn try_locate(r: &mut Reader, long: bool) -> u64 {
@@ -256,6 +279,7 @@ fn records_agree_and_every_number_stands() {
     least("print", &all(&PRINT_NUMBERS), 100);
     least("locate", &all(&LOCATE_NUMBERS), 100);
     least("build", &all(&BUILD_NUMBERS), 100);
+    least("explain", &all(&EXPLAIN_NUMBERS), 100);
 }
 
 /// Every carried code is printed at each pair of widths.
@@ -275,6 +299,12 @@ fn carried_codes_are_printed() {
 #[test]
 fn locations_take_four_files() {
     assert_eq!(locate_files(DEFAULT_SEED).len(), 4);
+}
+
+/// Three files of lines that explain.
+#[test]
+fn explained_lines_take_three_files() {
+    assert_eq!(explain_files(DEFAULT_SEED).len(), 3);
 }
 
 /// What a record of a build file has, its answer last.
@@ -335,7 +365,7 @@ fn long_images_are_few() {
         assert!(bytes.len() < 3_000, "{name} has {} bytes", bytes.len());
         records += count;
     }
-    assert!(records <= 25, "{records}");
+    assert!(records <= 30, "{records}");
 }
 
 /// Page, code and widths of each row in a record of a print file.

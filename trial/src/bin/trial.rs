@@ -1,20 +1,21 @@
-//! trial check|lists|print|locate|build|steps|runs [CASES] [SEED]: compares the
-//! library with the simulator.
+//! trial check|lists|print|locate|build|explain|steps|runs [CASES] [SEED]:
+//! compares the library with the simulator.
 
 use std::env;
 use std::process::ExitCode;
 use trial7700::tally::Tally;
-use trial7700::{build, check, faults, lists, locate, print, runs, steps};
+use trial7700::{build, check, explain, faults, lists, locate, print, runs, steps};
 
 /// A trial with its name.
 type Trial = (&'static str, fn(u64, u64) -> Vec<Tally>);
 
-const TRIALS: [Trial; 7] = [
+const TRIALS: [Trial; 8] = [
     ("check", |cases, seed| vec![check::trial(cases, seed)]),
     ("lists", |cases, seed| lists::trial(cases, seed).into()),
     ("print", |cases, seed| vec![print::trial(cases, seed)]),
     ("locate", |cases, seed| vec![locate::trial(cases, seed)]),
     ("build", |cases, seed| vec![build::trial(cases, seed)]),
+    ("explain", |cases, seed| vec![explain::trial(cases, seed)]),
     ("steps", |cases, seed| steps::trial(cases, seed).into()),
     ("runs", |cases, seed| runs::trial(cases, seed).into()),
 ];
@@ -25,7 +26,7 @@ const SEED: u64 = 7700;
 fn main() -> ExitCode {
     let args: Vec<String> = env::args().skip(1).collect();
     let Some(((_, trial), cases, seed)) = wanted(&args) else {
-        eprintln!("usage: trial check|lists|print|locate|build|steps|runs [CASES] [SEED]");
+        eprintln!("usage: trial check|lists|print|locate|build|explain|steps|runs [CASES] [SEED]");
         return ExitCode::from(2);
     };
     faults::report();

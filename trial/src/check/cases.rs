@@ -21,7 +21,7 @@ pub fn drawn(rng: &mut Rng) -> CheckCase {
 
 /// A long image of mixed code, three times out of four with one byte or mark
 /// changed.
-fn long(rng: &mut Rng) -> CheckCase {
+pub fn long(rng: &mut Rng) -> CheckCase {
     let length = match rng.below(4) {
         0 => MAX_IMAGE,
         _ => 2_000 + rng.index(MAX_IMAGE - 2_000),

@@ -2,16 +2,10 @@
 
 pub mod cases;
 
-use crate::faults;
-use crate::guard::Guarded;
-use crate::hex;
 use crate::library::m7700_print;
-use crate::packed::answers;
+use crate::paged::{Paged, Subject};
 use crate::tally::{Named, Tally};
-use sim7700::generate::{PrintCase, Rng};
-use sim7700::numbers::MAX_IMAGE;
-use sim7700::ROW_BYTES;
-use std::fmt::{self, Display, Formatter};
+use sim7700::generate::{CheckCase, PrintCase, Rng};
 
 /// The answers with 01's words.
 pub const NUMBERS: [Named; 12] = [
@@ -29,15 +23,6 @@ pub const NUMBERS: [Named; 12] = [
     (15, "page"),
 ];
 
-/// A byte or two over the limit are drawn too.
-const CAPACITY: usize = MAX_IMAGE + 16;
-/// The most rows, with room for some too many.
-const PAGE_CAPACITY: usize = ROW_BYTES * CAPACITY;
-
-/// A function with the shape of `m7700_print`.
-pub type Call =
-    unsafe extern "C" fn(*const u8, usize, *const u8, usize, u32, u32, *mut u8, usize) -> u64;
-
 /// Compares the library with the simulator: the sweeps, then `count` drawn
 /// cases.
 pub fn trial(count: u64, seed: u64) -> Tally {
@@ -53,74 +38,20 @@ pub fn trial(count: u64, seed: u64) -> Tally {
     tally
 }
 
-/// A page under trial, with the buffers that are lent to it.
-pub struct Subject {
-    call: Call,
-    image: Guarded,
-    marks: Guarded,
-    page: Guarded,
-}
-
-impl Subject {
-    pub fn new(call: Call) -> Subject {
-        Subject {
-            call,
-            image: Guarded::new(CAPACITY),
-            marks: Guarded::new(CAPACITY),
-            page: Guarded::new(PAGE_CAPACITY),
-        }
+impl Paged for PrintCase {
+    fn checked(&self) -> &CheckCase {
+        &self.checked
     }
 
-    /// The number of the common answer, or what differs.
-    pub fn compare(&mut self, case: &PrintCase) -> Result<u8, String> {
-        let (expected, page) = case.answer();
-        self.image.fill(&case.checked.image);
-        self.marks.fill(&case.checked.marks);
-        self.page.fill(&vec![PAGE_BEFORE; case.page_len]);
-        let answer = self.ask(case);
-        let mut differences = answers(answer, expected);
-        differences += &self.image.difference("image", &case.checked.image);
-        differences += &self.marks.difference("marks", &case.checked.marks);
-        differences += &self.page.difference("page", &page);
-        if differences.is_empty() {
-            Ok(expected as u8)
-        } else {
-            Err(format!("{differences}{}", Shown(case)))
-        }
+    fn page_len(&self) -> usize {
+        self.page_len
     }
 
-    fn ask(&mut self, case: &PrintCase) -> u64 {
-        let (image, image_len) = (self.image.pointer(), self.image.length());
-        let (marks, marks_len) = (self.marks.pointer(), self.marks.length());
-        let (page, page_len) = (self.page.pointer(), self.page.length());
-        let (base, reset) = (case.checked.base, case.checked.reset);
-        // SAFETY: the pointers are valid for their lengths, and nothing
-        // refers to the buffers during the call.
-        faults::during(&Shown(case), || unsafe {
-            (self.call)(
-                image, image_len, marks, marks_len, base, reset, page, page_len,
-            )
-        })
+    fn answer(&self) -> (u64, Vec<u8>) {
+        self.answer()
     }
-}
 
-/// What `PrintCase::answer` has in the page before the call.
-const PAGE_BEFORE: u8 = 0xA5;
-
-/// A case in full.
-struct Shown<'a>(&'a PrintCase);
-
-impl Display for Shown<'_> {
-    fn fmt(&self, f: &mut Formatter) -> fmt::Result {
-        let PrintCase { checked, page_len } = self.0;
-        let (image, marks) = (hex(&checked.image), hex(&checked.marks));
-        writeln!(
-            f,
-            "  base {:06X}, reset {:06X}",
-            checked.base, checked.reset
-        )?;
-        writeln!(f, "  page of {page_len} bytes")?;
-        writeln!(f, "  image, {} bytes: {image}", checked.image.len())?;
-        write!(f, "  marks, {} bytes: {marks}", checked.marks.len())
+    fn number_of(answer: u64, _: &[u8]) -> u8 {
+        answer as u8
     }
 }

@@ -1,5 +1,6 @@
-//! bench check|lists|print|locate|build|runs: times the library beside the
-//! simulator on the same inputs. Every ratio is library time over simulator time.
+//! bench check|lists|print|locate|build|explain|runs: times the library beside
+//! the simulator on the same inputs. Every ratio is library time over simulator
+//! time.
 
 mod builds;
 mod clock;
@@ -19,8 +20,8 @@ use trial7700::lists::cases::{every_start, Marked};
 /// Calls in a batch, long beside the clock's own cost.
 const CALLS: usize = 20;
 const SEED: u64 = 7700;
-/// Bytes of code that the benchmarks of check, page, location and building go
-/// through in a call.
+/// Bytes of code that the benchmarks of check, page, location, building and
+/// line go through in a call.
 const BYTES: usize = 262_144;
 /// The longest image, and one of half its bytes.
 const LENGTHS: [(usize, &str); 2] = [(MAX_IMAGE, "65,536"), (MAX_IMAGE / 2, "32,768")];
@@ -33,9 +34,10 @@ fn main() -> ExitCode {
         ["print"] => print(),
         ["locate"] => locate(),
         ["build"] => build(),
+        ["explain"] => explain(),
         ["runs"] => runs::timed(),
         _ => {
-            eprintln!("usage: bench check|lists|print|locate|build|runs");
+            eprintln!("usage: bench check|lists|print|locate|build|explain|runs");
             return ExitCode::from(2);
         }
     }
@@ -71,7 +73,7 @@ fn print() {
     println!("printed images, ns per byte         library  simulator  ratio");
     let times = LENGTHS.map(|(length, said)| {
         let images = drawn(mixed_code, length);
-        pages::printed(&format!("mixed, {said}"), CALLS, &images)
+        pages::PRINT.timed(&format!("mixed, {said}"), CALLS, &images)
     });
     linear("printed", times);
 }
@@ -99,6 +101,22 @@ fn build() {
         });
         linear(name, times);
     }
+}
+
+fn explain() {
+    println!("refused images, ns per byte         library  simulator  ratio");
+    let times = LENGTHS.map(|(length, said)| {
+        let images = drawn(refused_at_its_end, length);
+        pages::EXPLAIN.timed(&format!("mixed, {said}"), CALLS, &images)
+    });
+    linear("explained", times);
+}
+
+/// Mixed code with BRK, which is not carried, as its last byte.
+fn refused_at_its_end(rng: &mut Rng, length: usize) -> CheckCase {
+    let mut case = mixed_code(rng, length);
+    case.image[length - 1] = 0x00;
+    case
 }
 
 /// Near 2 is linear.
