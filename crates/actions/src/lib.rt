@@ -1,5 +1,7 @@
 // What each action does with its data; operations (manual 4.2) that differ in a register or a value alone share one.
 // What `as_effect` leaves open of an effect is named in cpu/src/effects.rt.
+#![tactic(auto)]
+
 pub mod tasks;
 mod values;
 

@@ -1,4 +1,6 @@
 // What the program check says of an image file and a list file: the answer, and the line that shows it.
+#![tactic(auto)]
+
 pub mod answers;
 pub mod lines;
 

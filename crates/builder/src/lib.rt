@@ -1,4 +1,6 @@
 // Marks worked out from a routine list: 02, R-6.
+#![tactic(auto)]
+
 mod close;
 mod listed;
 mod order;

@@ -1,5 +1,7 @@
 // What the program marks writes for an image file, a base, a reset address and a routine file: the mark list of the
 // marks that are worked out, or a line of the program check.
+#![tactic(auto)]
+
 ghost use Rattle.std.specs.Prelude.{◌≡◌, ◌++◌, ◌≤◌, length, take, drop};
 ghost use Rattle.lists.specs.MarkList.{new_digits, list_text};
 ghost use Rattle.builtlist.specs.BuiltList as spec;

@@ -1,4 +1,6 @@
 // The program check: reads an image file and a list file, and prints one line.
+#![tactic(auto)]
+
 use answer::answers::LIST_LIMIT;
 use answer::put_answer_line;
 use files::read_named;

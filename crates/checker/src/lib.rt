@@ -1,4 +1,6 @@
 // The check: accepted, or the number and the place of the first rule that is broken.
+#![tactic(auto)]
+
 pub mod owed;
 pub mod start;
 

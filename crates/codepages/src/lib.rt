@@ -1,3 +1,6 @@
+
+#![tactic(auto)]
+
 ghost use Rattle.std.specs.Prelude.{◌≡◌, ◌<◌};
 ghost use Rattle.codepages.specs.Packing.{packed_pages, packed_at};
 

@@ -1,4 +1,6 @@
 // Data of 8 or 16 bits: `short` says which.
+#![tactic(auto)]
+
 ghost use Rattle.std.specs.Prelude.{◌≡◌, ◌*◌, ◌%◌, ◌^◌, ◌<◌, ◌≤◌};
 ghost use Rattle.semantics.specs.Addressing.{bits};
 ghost use Rattle.anywidth.specs.AnyWidth as spec;

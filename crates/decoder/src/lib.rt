@@ -1,5 +1,7 @@
 // The decoder: what stands at a place of an image, at given widths. The code pages are lent, since a constant is copied
 // at each use; so their readers ask that those lent are the definition's.
+#![tactic(auto)]
+
 ghost use Rattle.std.specs.Prelude.{◌≡◌, false, ◌-◌, ◌≤◌, ◌<◌, length, get_or, drop, eqb};
 ghost use Rattle.prelude.specs.Choice.{pick};
 ghost use Rattle.instructions.specs.CodeMap.{entry_at, more_bytes, length_at};

@@ -1,4 +1,6 @@
 // An entry out of the number that keeps it: each field is a number, and stands for the value at that place of its list.
+#![tactic(auto)]
+
 pub mod operations;
 
 ghost use Rattle.std.specs.Prelude.{◌≡◌, ◌/◌, ◌%◌, ◌≤◌, eqb, get_or};

@@ -1,5 +1,7 @@
 // The program of check --explain: reads an image file and a list file, and prints the line of the program check and the
 // line that explains it.
+#![tactic(auto)]
+
 use answer::answers::LIST_LIMIT;
 use explanation::{TEXT_LIMIT, put_explained};
 use files::read_named;

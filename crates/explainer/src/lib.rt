@@ -1,4 +1,6 @@
 // What a refusal of the check is about, in one line of text that names the byte to mend.
+#![tactic(auto)]
+
 mod numbers;
 mod owed;
 mod pieces;

@@ -1,5 +1,7 @@
 // What the command check writes with --explain for an image file and a list file: the line of the program check, and
 // behind it the line that explains it.
+#![tactic(auto)]
+
 ghost use Rattle.std.specs.Prelude.{◌≡◌, ◌++◌, ◌≤◌, length, take, drop};
 ghost use Rattle.reports.specs.Explanation.{line_limit};
 ghost use Rattle.explanation.specs.Explained as spec;

@@ -1,4 +1,6 @@
 // Reading the files that a program's arguments name.
+#![tactic(auto)]
+
 ghost use Rattle.io.specs.Counts.{IsPrefixLen};
 
 // Nothing is left to read. A read that fails does not show that.

@@ -1,4 +1,6 @@
 // What the check, the machine and the lists all ask of an image and its marks.
+#![tactic(auto)]
+
 pub mod marks;
 
 ghost use Rattle.std.specs.Prelude.{◌≡◌};

@@ -1,4 +1,6 @@
 // The interface for loaders written in C (include/m7700.h): numbers and slices, each slice as a pointer and a length.
+#![tactic(auto)]
+
 ghost use Rattle.std.specs.Prelude.{◌≡◌, ◌≤◌, length};
 ghost use Rattle.semantics.specs.Memory.{memory};
 ghost use Rattle.execution.specs.RunBytes.{ran_bytes};

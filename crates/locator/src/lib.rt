@@ -1,4 +1,6 @@
 // Where the addresses that a bus probe delivers lie: 02, R-4. One pass over the marks of an accepted image.
+#![tactic(auto)]
+
 mod addresses;
 mod pass;
 

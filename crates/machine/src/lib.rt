@@ -1,4 +1,6 @@
 // The stepping machine: what a step fetches, what it does by its flow, and the step itself.
+#![tactic(auto)]
+
 pub mod commit;
 mod fetch;
 mod flows;

@@ -1,5 +1,7 @@
 // The program marks: reads an image file and a routine file, takes a base and a reset address, and prints the mark list
 // that they lead to, or a line of the program check.
+#![tactic(auto)]
+
 use answer::answers::LIST_LIMIT;
 use builtlist::{longest_list, put_built_list};
 use files::read_named;

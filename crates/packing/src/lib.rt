@@ -1,5 +1,7 @@
 // The answers of the C interface as numbers (include/m7700.h). Each function asks that the answer fits its bits, which
 // every answer does (proofs/Answers.antt, Counts.antt).
+#![tactic(auto)]
+
 ghost use Rattle.std.specs.Prelude.{◌≡◌};
 ghost use Rattle.types.specs.Runs.{end_number};
 ghost use Rattle.types.specs.Runs.{stop_number};

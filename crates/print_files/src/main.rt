@@ -1,4 +1,6 @@
 // The program print: reads an image file and a list file, and prints the page, or the line of the program check.
+#![tactic(auto)]
+
 use answer::answers::LIST_LIMIT;
 use files::read_named;
 use image::IMAGE_LIMIT;

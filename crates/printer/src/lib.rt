@@ -1,4 +1,6 @@
 // A printed page of an accepted image: 02, R-1. A row for each start.
+#![tactic(auto)]
+
 mod rows;
 
 ghost use Rattle.std.specs.Prelude.{◌≡◌, length};

@@ -1,4 +1,6 @@
 // What the program print writes for an image file and a list file: the page, or the line of the program check.
+#![tactic(auto)]
+
 ghost use Rattle.std.specs.Prelude.{◌≡◌, ◌++◌, ◌≤◌, length, take, drop};
 ghost use Rattle.reports.specs.PrintedPage.{page_after};
 ghost use Rattle.printout.specs.Printout as spec;

@@ -1,4 +1,6 @@
 // The state of the machine as bytes, and whether a run takes it and its RAM.
+#![tactic(auto)]
+
 ghost use Rattle.std.specs.Prelude.{◌≡◌, ◌≤◌, ◌<◌, length};
 ghost use Rattle.execution.specs.Run.{ram_fits, call_fits, calls_fit, state_fits};
 ghost use Rattle.semantics.specs.Step.{call_limit};

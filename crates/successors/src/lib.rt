@@ -1,5 +1,7 @@
 // Where control goes from an instruction: the next address and the target, for the check and the machine alike. An
 // address is asked to have 24 bits, so that no sum passes 32.
+#![tactic(auto)]
+
 pub mod widths;
 
 ghost use Rattle.std.specs.Prelude.{◌≡◌, ◌≤◌, ◌<◌};

@@ -2,6 +2,8 @@
 // for each file, how many records agree out of how many, and behind the files of a kind a line for each number, how
 // many records were answered with it and agreed. A run is refused with a number below 20, stopped by one from 20 on,
 // or ended with 0.
+#![tactic(auto)]
+
 mod parts;
 mod records;
 
