@@ -17,14 +17,14 @@ Grounds = List (Type 0 × Refusal)
 -- the ground of a refusal holds, and none before it: of 12 in a run, those of 1, 2 and 11 don't hold and 12's does
 abbrev pub FirstGround : Grounds → Refusal → Type 0
 FirstGround [] why = ⊥
-FirstGround (ground ∷ rest) why =
-    elim (eqb (refusal_number ground.1) (refusal_number why))
-    [ true ↦ ground.0 | false ↦ (ground.0 → ⊥) × FirstGround rest why ]
+FirstGround (first ∷ rest) why =
+    elim (eqb (refusal_number first.1) (refusal_number why))
+    [ true ↦ first.0 | false ↦ (first.0 → ⊥) × FirstGround rest why ]
 
 -- no ground holds
 abbrev pub NoGround : Grounds → Type 0
 NoGround [] = Unit {0}
-NoGround (ground ∷ rest) = (ground.0 → ⊥) × NoGround rest
+NoGround (first ∷ rest) = (first.0 → ⊥) × NoGround rest
 
 -- An answer is `done` or a refusal: the refusal of the first ground that holds, and `done` exactly where none holds.
 pub record AnswersBy {A : Type 0} (grounds : Grounds) (refused : Refusal → A) (done answer : A) : Type 0 where

@@ -156,7 +156,10 @@ unfolding narrow
 within_four prefix e t m x =
     let w : ℕ → ℕ → Bool = within prefix e in
     let all = four (w 0 0) (w 0 1) (w 1 0) (w 1 1) t in
-    elim m [ zero ↦ elim x [ zero ↦ all.0 | suc x' ↦ all.1 ] | suc m' ↦ elim x [ zero ↦ all.2 | suc x' ↦ all.3 ] ]
+    elim m as (λ k. T (w (narrow k) (narrow x))) [
+      | zero ↦ elim x as (λ k. T (w (narrow 0) (narrow k))) [ zero ↦ all.0 | suc x' ↦ all.1 ]
+      | suc m' ↦ elim x as (λ k. T (w (narrow (suc m')) (narrow k))) [ zero ↦ all.2 | suc x' ↦ all.3 ]
+    ]
 
 ruled_within : (prefix : ℕ) (e : Entry) → T (ruled prefix e) → e.carried ≡ true → (m x : ℕ) → T (within prefix e m x)
 ruled_within prefix e t h m x = rw (more_narrow e.rule m x) (within_four prefix e (rw h at t) m x)

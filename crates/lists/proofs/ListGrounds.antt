@@ -21,7 +21,7 @@ use Rattle.lists.specs.ListGrounds.{WrongRoutines, build_grounds, BuildAnswers}
 use Rattle.lists.specs.Routines.{Admitted, has_marking, routine_marks, routines_inside, routine_limit, routines_fit}
 use Rattle.lists.specs.Routines.{has_old_lines, is_routine_list, build_tests, built}
 use Rattle.types.specs.Refusals.{answered, first_refusal}
-use Rattle.acceptance.proofs.Grounds.{FailsOn, either, above, wrong_base, not_holding, none, wrong_length, wrong_reset}
+use Rattle.acceptance.proofs.Grounds.{FailsOn, either, above, wrong_base, not_holding, wrong_length, wrong_reset}
 use Rattle.acceptance.proofs.Grounds.{wrong_alone, wrong_mark, of_three}
 use Rattle.acceptance.proofs.FirstGround.{answers_by}
 use Rattle.lists.proofs.RoundTrips.{formed_marks}

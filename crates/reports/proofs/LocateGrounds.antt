@@ -13,7 +13,7 @@ use Rattle.types.specs.declared.probes.Located.{Located}
 use Rattle.reports.specs.LocateGrounds.{Unordered, HoldsOutside, WrongAddresses, locate_grounds, LocateAnswers}
 use Rattle.reports.specs.Locate.{is_ascending, all_inside, address_count, addresses_fit, pass_over, locate_tests}
 use Rattle.reports.specs.Locate.{located_by, located}
-use Rattle.acceptance.proofs.Grounds.{FailsOn, either, not_below, above, of_three, none}
+use Rattle.acceptance.proofs.Grounds.{FailsOn, either, not_below, above, of_three}
 use Rattle.acceptance.proofs.Verdict.{accepts_exactly}
 use Rattle.acceptance.proofs.FirstGround.{answers_by}
 

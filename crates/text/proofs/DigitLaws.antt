@@ -21,9 +21,9 @@ use Rattle.text.specs.Digits.{SameValue, IsDigit, ShowsValue, ComparedExactly}
 use Rattle.text.specs.Text.{starts_with}
 use Rattle.text.proofs.Text.{starts_split, starts_append}
 
-pub digit_value : (n : ℕ) → digit_value (digit n) ≡ n
+pub value_of_digit : (n : ℕ) → digit_value (digit n) ≡ n
 unfolding digit digit_value
-digit_value n = by (ltb n 10) refl
+value_of_digit n = by (ltb n 10) refl
   where
     by : (b : Bool) → ltb n 10 ≡ b → digit_value (pick b (0x30 + n) (0x37 + n)) ≡ n
     by true h = rw (lt-ltb (0x30 + n) 0x3A (omega (arith, ltb-true n 10 h))) (omega arith)
@@ -111,7 +111,7 @@ value_digits radix (suc count) n rest some small =
       last_digit radix count n rest,
       value_digits radix count (n / radix) (digit (n % radix) ∷ rest) some fewer,
       get_or_at (digits radix count (n / radix)) (digit (n % radix)) rest 0 count (length_digits radix count (n / radix)),
-      digit_value (n % radix),
+      value_of_digit (n % radix),
     ) (div-add-mod' n radix)
 
 -- the digits of what digits show are those digits
@@ -147,7 +147,7 @@ same_value radix count text = weighed_value radix 1 count text ∙ omega arith
 
 -- a digit that is below the radix is one of it
 small_digit : (radix n : ℕ) → n < radix → IsDigit radix (digit n)
-small_digit radix n small = record { small = rw (digit_value n) small; same = ap digit (digit_value n) }
+small_digit radix n small = record { small = rw (value_of_digit n) small; same = ap digit (value_of_digit n) }
 
 -- a text that begins with digits shows their value
 begun_shows : (radix count n : ℕ) (rest : List ℕ) → 0 < radix
