@@ -32,7 +32,6 @@ use Rattle.semantics.specs.Addressing.{operand_by, data_of}
 use Rattle.semantics.specs.Arithmetic.{with_a, with_b, with_x, with_y, with_s, with_dpr, with_dt, with_status, loads}
 use Rattle.semantics.specs.Arithmetic.{loads_a, loads_b, loads_x, loads_y, transfers_into}
 use Rattle.semantics.specs.Effects.{Effect, stores_of, push_of, pushes, popped, modifies_by, effect_of}
-use Rattle.semantics.specs.Step.{next, short}
 use Rattle.semantics.specs.Effects.{InWidth}
 use Rattle.prelude.specs.Lists.{Every}
 
