@@ -8,7 +8,7 @@ use types::machine::OperandUse;
 
 // What is done, in alphabetical order: in the order of the numbers LLVM clamps a task's number to make an action of it,
 // and jumps by the action, some 10 instructions a step; in this one it jumps by the number.
-#[derive(Drop)]
+#[derive(Clone, Copy)]
 pub enum Action {
     Add,
     And,

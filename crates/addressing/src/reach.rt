@@ -17,14 +17,14 @@ use types::code::{Accumulator, Mode};
 use types::machine::{Data, OperandPlace, OperandUse, Status};
 
 // The address of data.
-#[derive(Drop)]
+#[derive(Clone, Copy)]
 pub enum AddressRead {
     At(u32),
     Unmapped,
 }
 
 // Data, once its bytes are read.
-#[derive(Drop)]
+#[derive(Clone, Copy)]
 pub enum DataRead {
     Found(Data),
     Unmapped,

@@ -13,7 +13,7 @@ use view::plain::judge;
 pub const LIST_LIMIT: usize = 61_440;
 
 // A file is not read; an image is accepted, with its number of starts; or refused, with an offset.
-#[derive(Drop)]
+#[derive(Clone, Copy)]
 pub enum FileAnswer {
     Unread,
     Accepted(u32),

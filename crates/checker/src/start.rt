@@ -192,7 +192,7 @@ fn test_whole(image: &[u8], marks: &[u8], base: u32, at: usize, layout: Layout) 
 
 // A place of the image: the first rule that is broken there, and how many bytes stand there, one where no instruction
 // is read.
-#[derive(Drop)]
+#[derive(Clone, Copy)]
 pub(crate) struct StartResult {
     pub(crate) result: TestResult,
     pub(crate) bytes: u8,

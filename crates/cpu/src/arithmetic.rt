@@ -33,7 +33,7 @@ pub fn loads(to: usize, short: bool, v: u64, status: u16, registers: &[u16; FILE
 }
 
 // What an operation works out: data, of any size, and the status.
-#[derive(Drop)]
+#[derive(Clone, Copy)]
 pub struct Worked {
     pub value: u64,
     pub status: u16,

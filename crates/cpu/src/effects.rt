@@ -19,7 +19,7 @@ use types::machine::{OperandPlace, Store};
 // status' place. Promises by `as_effect` (specs/CodeEffects.antt) settle what the registers then are, the stores and
 // the branch. Left open are which register is named first, the value for the status' place and the upper byte of
 // DT's: who puts an effect into the file (`machine::commit::put`) comes to the same registers.
-#[derive(Drop)]
+#[derive(Clone, Copy)]
 pub struct Effect {
     pub first: usize,
     pub value: u16,

@@ -17,7 +17,7 @@ use types::code::{Decoded, Entry, Instruction, LengthRule};
 
 // What a code and the widths decide of an instruction, before its operand is read: the number of its entry, how many
 // prefix bytes it has, its length.
-#[derive(Drop)]
+#[derive(Clone, Copy)]
 pub struct Layout {
     pub number: u32,
     pub prefix: u8,
@@ -25,7 +25,7 @@ pub struct Layout {
 }
 
 // A layout that fits into the bytes that are left; a code that is not carried; or too few bytes.
-#[derive(Drop)]
+#[derive(Clone, Copy)]
 pub enum LayoutRead {
     Fits(Layout),
     Uncarried,
@@ -34,7 +34,7 @@ pub enum LayoutRead {
 
 // The code at a place, before the widths enter: the number of its entry and how many prefix bytes stand before it; a
 // code that is not carried; or too few bytes.
-#[derive(Drop)]
+#[derive(Clone, Copy)]
 pub enum CodeRead {
     Code(u32, u8),
     Uncarried,

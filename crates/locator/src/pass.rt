@@ -14,7 +14,7 @@ use types::addresses::ADDRESS_LIMIT;
 
 // How far a pass has come: how many addresses have their places; the last start passed, by its offset and its mark, 0
 // where none is; and where its instruction ends, 0 while no address has asked for it.
-#[derive(Drop)]
+#[derive(Clone, Copy)]
 struct Passing {
     served: usize,
     start: usize,

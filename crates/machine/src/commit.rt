@@ -24,7 +24,7 @@ use successors::widths::{m_after, x_after};
 use types::machine::{Served, Status, StepAnswer, Stop};
 
 // How a step ended, the place of execution after it, and how many calls are open then.
-#[derive(Drop)]
+#[derive(Clone, Copy)]
 pub struct StepResult {
     pub answer: StepAnswer,
     pub place: u32,

@@ -14,14 +14,14 @@ use decoder::{LayoutRead, layout_at, operand_at};
 use types::machine::Status;
 
 // An instruction, its entry by its number: what a step needs of the entry it takes from there.
-#[derive(Drop)]
+#[derive(Clone, Copy)]
 pub(crate) struct Fetched {
     pub(crate) number: u32,
     pub(crate) length: u8,
     pub(crate) operand: u64,
 }
 
-#[derive(Drop)]
+#[derive(Clone, Copy)]
 pub(crate) enum Fetch {
     Whole(Fetched),
     NotCarried,

@@ -7,14 +7,14 @@ use fields::{long_of, word_of};
 use types::machine::ByteRead;
 
 // Data of one or two bytes.
-#[derive(Drop)]
+#[derive(Clone, Copy)]
 pub enum WordRead {
     Word(u16),
     Unmapped,
 }
 
 // A number of three bytes.
-#[derive(Drop)]
+#[derive(Clone, Copy)]
 pub enum LongRead {
     Long(u32),
     Unmapped,

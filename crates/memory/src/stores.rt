@@ -6,7 +6,7 @@ ghost use Rattle.memory.specs.Listed.{listed};
 use types::machine::{Served, Stop, Store};
 
 // What a step stores, in its order.
-#[derive(Drop)]
+#[derive(Clone, Copy)]
 pub enum Stores {
     None,
     One(Store),

@@ -22,7 +22,7 @@ use types::machine::{CALL_LIMIT, Core, StepAnswer};
 use types::runs::End;
 
 // How a run ended, the steps completed, the calls among them, and the registers after it.
-#[derive(Drop)]
+#[derive(Clone, Copy)]
 pub(crate) struct RunResult {
     pub(crate) end: End,
     pub(crate) steps: u32,

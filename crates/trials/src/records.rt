@@ -19,7 +19,7 @@ const UNWRITTEN: u8 = 0xA5;
 // Of every place before addresses are located.
 const UNPLACED: u32 = 0xA5A5_A5A5;
 
-#[derive(Drop)]
+#[derive(Clone, Copy)]
 pub(crate) enum Kind {
     Check,
     Step,
@@ -33,7 +33,7 @@ pub(crate) enum Kind {
 }
 
 // What writes on a page.
-#[derive(Drop)]
+#[derive(Clone, Copy)]
 enum Writer {
     List,
     Print,
@@ -41,7 +41,7 @@ enum Writer {
 }
 
 // What a record shows: the number of its answer, and whether the call did what it says.
-#[derive(Drop)]
+#[derive(Clone, Copy)]
 pub(crate) struct Trial {
     pub(crate) number: usize,
     pub(crate) agrees: bool,

@@ -1,7 +1,7 @@
 // The parts of a code map entry: what the manual and document 01 say of a code, whatever the image.
 
 // The manual's 103 instructions by mnemonic (4.2), and what stands at a code that it leaves unassigned.
-#[derive(Drop)]
+#[derive(Clone, Copy)]
 pub enum Operation {
     Unassigned,
     ADC,
@@ -110,7 +110,7 @@ pub enum Operation {
 }
 
 // The manual's 28 addressing modes (3.2).
-#[derive(Drop)]
+#[derive(Clone, Copy)]
 pub enum Mode {
     Implied,
     Immediate,
@@ -143,7 +143,7 @@ pub enum Mode {
 }
 
 // The accumulator that the assembler syntax names as an operand.
-#[derive(Drop)]
+#[derive(Clone, Copy)]
 pub enum Accumulator {
     Unnamed,
     A,
@@ -151,7 +151,7 @@ pub enum Accumulator {
 }
 
 // How a routine returns: mark kinds 1 and 2 of document 01.
-#[derive(Drop)]
+#[derive(Clone, Copy)]
 pub enum Kind {
     ByRts,
     ByRtl,
@@ -159,7 +159,7 @@ pub enum Kind {
 
 // Where control goes: to the next instruction; there or to the target; to the target alone; into a
 // routine that returns by a kind; back from one; nowhere.
-#[derive(Drop)]
+#[derive(Clone, Copy)]
 pub enum Flow {
     Next,
     Branch,
@@ -171,7 +171,7 @@ pub enum Flow {
 
 // The form of the target in the operand: a signed offset of 8 or 16 bits, a 16-bit address in the bank just after the
 // instruction, a 24-bit address.
-#[derive(Drop)]
+#[derive(Clone, Copy)]
 pub enum Target {
     NoTarget,
     Offset8,
@@ -181,7 +181,7 @@ pub enum Target {
 }
 
 // What the instruction does to the widths m and x: SEM, CLM, SEP, CLP, or nothing.
-#[derive(Drop)]
+#[derive(Clone, Copy)]
 pub enum WidthEffect {
     KeepWidths,
     SetM,
@@ -191,7 +191,7 @@ pub enum WidthEffect {
 }
 
 // How the length hangs on the widths: not, one byte more at m=0, one byte more at x=0.
-#[derive(Drop)]
+#[derive(Clone, Copy)]
 pub enum LengthRule {
     Fixed,
     MoreByM,
@@ -199,7 +199,7 @@ pub enum LengthRule {
 }
 
 // The width of the data that is moved or worked on.
-#[derive(Drop)]
+#[derive(Clone, Copy)]
 pub enum DataWidth {
     NoData,
     ByM,
@@ -209,7 +209,7 @@ pub enum DataWidth {
 }
 
 // One entry of a code page. `bytes` is the length at m=1 and x=1, a prefix counted.
-#[derive(Drop)]
+#[derive(Clone, Copy)]
 pub struct Entry {
     pub operation: Operation,
     pub mode: Mode,
@@ -224,7 +224,7 @@ pub struct Entry {
 }
 
 // An instruction as decoded: its entry, its length, and the bytes after the code as one number, low byte first.
-#[derive(Drop)]
+#[derive(Clone, Copy)]
 pub struct Instruction {
     pub entry: Entry,
     pub length: u8,
@@ -233,7 +233,7 @@ pub struct Instruction {
 
 // What stands at a place of an image: an instruction; a code that is not carried; or too few bytes
 // to tell (a code, the code behind a prefix or an operand byte lies past the end).
-#[derive(Drop)]
+#[derive(Clone, Copy)]
 pub enum Decoded {
     Whole(Instruction),
     NotCarried,

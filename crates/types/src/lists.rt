@@ -2,7 +2,7 @@
 use crate::refusals::Refusal;
 
 // The first line of a list.
-#[derive(Drop)]
+#[derive(Clone, Copy)]
 pub struct Header {
     pub base: u32,
     pub length: u32,
@@ -10,14 +10,14 @@ pub struct Header {
 }
 
 // The reader's answer; what it read beside the marks is the first line.
-#[derive(Drop)]
+#[derive(Clone, Copy)]
 pub enum ListRead {
     NotRead(Refusal),
     Read(Header),
 }
 
 // The writer's answer; a written list has its length in bytes.
-#[derive(Drop)]
+#[derive(Clone, Copy)]
 pub enum ListWritten {
     NotWritten(Refusal),
     Written(usize),

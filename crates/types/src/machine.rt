@@ -6,7 +6,7 @@ ghost use Rattle.prelude.specs.Choice.{bit};
 
 // The processor status register, a field for each flag and one for its high byte: the interrupt priority level, and
 // above it five bits that are 0 in every state that a run takes (manual 2.9).
-#[derive(Drop)]
+#[derive(Clone, Copy)]
 pub struct Status {
     pub carry: bool,
     pub zero: bool,
@@ -79,7 +79,7 @@ impl Status {
 }
 
 // The registers that hold data.
-#[derive(Drop)]
+#[derive(Clone, Copy)]
 pub struct Registers {
     pub a: u16,
     pub b: u16,
@@ -92,7 +92,7 @@ pub struct Registers {
 }
 
 // All registers, and how many calls are open.
-#[derive(Drop)]
+#[derive(Clone, Copy)]
 pub struct Core {
     pub registers: Registers,
     pub pc: u16,
@@ -108,14 +108,14 @@ pub const RECORD_UNIT: u64 = 4_294_967_296;
 
 // The state: the open calls stand in the first `depth` records, the first opened first, each as one number
 // (semantics/specs/Step.antt, `call_record`).
-#[derive(Drop)]
+#[derive(Clone, Copy)]
 pub struct State {
     pub core: Core,
     pub calls: [u64; CALL_LIMIT],
 }
 
 // Why a step stopped: numbers 20 to 27 of document 01.
-#[derive(Drop)]
+#[derive(Clone, Copy)]
 pub enum Stop {
     Outside,
     Uncarried,
@@ -129,7 +129,7 @@ pub enum Stop {
 
 // What an operation asks of memory before it works: the data that its addressing mode names, if any; the same, to be
 // added or subtracted; the address alone; data from the stack; a word of the direct page.
-#[derive(Drop)]
+#[derive(Clone, Copy)]
 pub enum OperandUse {
     Operand,
     Addend,
@@ -139,7 +139,7 @@ pub enum OperandUse {
 }
 
 // Where the data of an addressing mode lies: in memory; behind the code; in a register, if there is any.
-#[derive(Drop)]
+#[derive(Clone, Copy)]
 pub enum OperandPlace {
     Memory,
     Instruction,
@@ -147,35 +147,35 @@ pub enum OperandPlace {
 }
 
 // Data, and where it lies if it lies in memory.
-#[derive(Drop)]
+#[derive(Clone, Copy)]
 pub struct Data {
     pub address: u32,
     pub value: u16,
 }
 
 // A byte to be stored.
-#[derive(Drop)]
+#[derive(Clone, Copy)]
 pub struct Store {
     pub address: u64,
     pub byte: u8,
 }
 
 // A byte of memory.
-#[derive(Drop)]
+#[derive(Clone, Copy)]
 pub enum ByteRead {
     Byte(u8),
     Unmapped,
 }
 
 // Whether stores can be served.
-#[derive(Drop)]
+#[derive(Clone, Copy)]
 pub enum Served {
     All,
     Unserved(Stop),
 }
 
 // What a step does to the open calls.
-#[derive(Drop)]
+#[derive(Clone, Copy)]
 pub enum CallChange {
     Keep,
     Open { address: u32, kind: u8 },
@@ -183,7 +183,7 @@ pub enum CallChange {
 }
 
 // How a step ended: completed, completed as a call, or stopped.
-#[derive(Drop)]
+#[derive(Clone, Copy)]
 pub enum StepAnswer {
     Completed,
     Called,

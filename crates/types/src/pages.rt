@@ -2,7 +2,7 @@
 use crate::refusals::Refusal;
 
 // Refused, by the check's number and offset or for want of room; or printed, with the length of the rows.
-#[derive(Drop)]
+#[derive(Clone, Copy)]
 pub enum Printed {
     NotPrinted { why: Refusal, offset: u32 },
     Rows(usize),

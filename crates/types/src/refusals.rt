@@ -3,7 +3,7 @@ ghost use Rattle.std.specs.Prelude.{◌≡◌};
 ghost use Rattle.types.specs.Refusals as spec;
 
 // By the papers' words.
-#[derive(Drop)]
+#[derive(Clone, Copy)]
 pub enum Refusal {
     Length,
     Base,
@@ -50,7 +50,7 @@ pub fn refusal_number(why: Refusal) -> u8
 }
 
 // What tests come to: all passed, or the refusal of the first that failed.
-#[derive(Drop)]
+#[derive(Clone, Copy)]
 pub enum TestResult {
     Passed,
     Failed(Refusal),

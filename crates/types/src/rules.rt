@@ -2,14 +2,14 @@
 use crate::refusals::Refusal;
 
 // At an address stands a start with this mark.
-#[derive(Drop)]
+#[derive(Clone, Copy)]
 pub struct Requirement {
     pub address: u32,
     pub mark: u8,
 }
 
 // What a start owes: nothing, or one or two requirements.
-#[derive(Drop)]
+#[derive(Clone, Copy)]
 pub enum Requirements {
     Nothing,
     One(Requirement),
@@ -17,7 +17,7 @@ pub enum Requirements {
 }
 
 // The check's answer: the first rule that is broken, and its offset.
-#[derive(Drop)]
+#[derive(Clone, Copy)]
 pub enum Verdict {
     Accepted,
     Refused { why: Refusal, offset: u32 },

@@ -3,14 +3,14 @@ use crate::machine::Stop;
 use crate::refusals::Refusal;
 
 // How a run ended: all asked steps are done, or one stopped.
-#[derive(Drop)]
+#[derive(Clone, Copy)]
 pub enum End {
     Done,
     AtStop(Stop),
 }
 
 // A run's answer: the refusal, or the end, the steps completed and the calls among them.
-#[derive(Drop)]
+#[derive(Clone, Copy)]
 pub enum RunAnswer {
     NotRun(Refusal),
     Ended { end: End, steps: u32, calls: u32 },

@@ -27,7 +27,7 @@ fn layout_marked(image: &[u8], marks: &[u8], codes: &CodePages, at: usize) -> La
 }
 
 // An image, the marks beside it and its base address. Any lengths and any base: the check judges them.
-#[derive(Drop)]
+#[derive(Clone, Copy)]
 pub struct View<'i, 'm> {
     pub image: &'i [u8],
     pub marks: &'m [u8],

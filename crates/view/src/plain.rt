@@ -11,7 +11,7 @@ use decoder::LayoutRead;
 use types::rules::Verdict;
 
 // What the program says of an image: the check's verdict, and how many instructions the marks start.
-#[derive(Drop)]
+#[derive(Clone, Copy)]
 pub struct Judged {
     pub verdict: Verdict,
     pub starts: usize,
