@@ -1,5 +1,4 @@
 -- The register and the step, added.
--- Assumes nothing.
 use mathlib.Core.Path.{◌≡◌, refl, ap, ◌∙◌}
 use mathlib.Core.Bool.{Bool, true, false}
 use mathlib.Core.List.{List}
@@ -11,9 +10,7 @@ use Rattle.semantics.specs.Addressing.{bits}
 use Rattle.prelude.specs.Choice.{pick}
 use Rattle.cpu.specs.FileEffects.{status, loading}
 use Rattle.actions.specs.ActionEffects.{counted}
-use borrow.Author.Rules.{rules}
-use Rattle.actions.proofs.counts.Statement.{statement}
-use Rattle.actions.proofs.counts.Tie as tie
+use Rattle.actions.proofs.counts.Goals as goal
 
 -- one below at 16 bits is one below at 8
 lowered : (short : Bool) (v : ℕ) → low (bits short) (v + 65_535) ≡ low (bits short) (decremented (bits short) v)
@@ -26,19 +23,12 @@ counted-so : (file : List ℕ) (to : ℕ) (short down : Bool)
 counted-so file to short true = rw (lowered short (get_or file to 0)) refl
 counted-so file to short false = refl
 
-returns : tie.Need-returns
+pub returns : goal.returns
 returns c =
-    let a = c.before.before.before.before.args in
+    let a = c.args in
     let file = a.registers.now in (
       c.loads.ensures.0
-          ∙ ap (λ v. loading file a.to a.short v (status file)) c.before.before.counted.ensures
+          ∙ ap (λ v. loading file a.to a.short v (status file)) c.counted-value.ensures
           ∙ counted-so file a.to a.short a.down,
       c.loads.ensures.1,
     )
-
-pub counts-spec : {M : Type 1} → statement M
-counts-spec =
-    tie.close
-    (tie.spec
-    (λ c. search rules) (λ c. search rules) (λ c κs. search rules) (λ c. search rules) (λ c κs. search rules)
-    returns)
