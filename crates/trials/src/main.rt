@@ -7,128 +7,105 @@
 mod parts;
 mod records;
 
-ghost use Rattle.std.specs.Prelude.{◌≤◌, length};
-
 use crate::parts::take_u32;
 use crate::records::{Kind, trial_at};
-use libc::STDOUT_FILENO;
+use files::read_full;
+use std::fs::File;
+use std::io;
+use std::rt::Files;
 
 // The numbers of the papers end at 27.
 const NUMBERS: usize = 28;
 
-// Writes to standard output.
-fn say(text: &[u8]) {
-    io::write_all(STDOUT_FILENO, text);
-}
-
-// A number in decimal digits.
-fn say_number(n: u64) {
-    io::print_decimal(STDOUT_FILENO, n);
-}
+// The most bytes of a file that are read.
+const FILE_LIMIT: usize = 65_536;
 
 // Counts a number that has a counter.
 fn count(numbers: &mut [u64; NUMBERS], number: usize) {
     if number < NUMBERS {
-        numbers[number] = std::num::wrapping_add_u64(numbers[number], 1);
+        numbers[number] = numbers[number].wrapping_add(1);
     }
 }
 
 // How many records of a kind agreed, and whether the files were whole.
-fn say_score(agreed: u64, records: u32, whole: bool) {
-    say_number(agreed);
-    say(b" of ");
-    say_number(records as u64);
-    if whole {
-        say(b" agree\n");
+fn say_score(rt: &impl Print, agreed: u64, records: u32, whole: bool) -> io::Result<()> {
+    let rest = if whole {
+        ""
     } else {
-        say(b" agree, and the file is not of the form\n");
-    }
+        ", and the file is not of the form"
+    };
+    println!(rt; "{agreed} of {records} agree{rest}")
 }
 
 // Tries the records of a file, as many as it says and then nothing more, and says how many agree.
-fn try_records(kind: Kind, long: bool, file: &[u8], numbers: &mut [u64; NUMBERS]) {
+fn try_records(
+    rt: &impl Print,
+    kind: Kind,
+    long: bool,
+    file: &[u8],
+    numbers: &mut [u64; NUMBERS],
+) -> io::Result<()> {
     let mut at: usize = 0;
     let records = take_u32(file, &mut at);
     let mut agreed: u64 = 0;
-    let mut left = records;
-    while 0 < left {
-        left -= 1;
+    for _ in 0..records {
         let trial = trial_at(kind, file, &mut at, long);
         if trial.agrees {
-            agreed = std::num::wrapping_add_u64(agreed, 1);
+            agreed = agreed.wrapping_add(1);
             count(numbers, trial.number);
         }
         if file.len() < at {
             break;
         }
     }
-    say_score(agreed, records, at == file.len());
+    say_score(rt, agreed, records, at == file.len())
 }
 
 // Tries the file of a name, if it is there.
-fn try_named(kind: Kind, long: bool, name: &[u8], numbers: &mut [u64; NUMBERS]) {
-    let descriptor = os::open_read(name);
-    if descriptor < 0 {
-        return;
-    }
-    let mut buffer = io::large_buffer();
-    let size = io::read_full(descriptor, &mut buffer);
-    libc::close(descriptor);
-    say(name);
-    say(b": ");
-    try_records(kind, long, &buffer[..size], numbers);
+fn try_named<R: Files + Print>(
+    rt: &R,
+    kind: Kind,
+    long: bool,
+    name: &str,
+    numbers: &mut [u64; NUMBERS],
+) -> io::Result<()> {
+    let Ok(mut file) = File::open(rt, name) else {
+        return Ok(());
+    };
+    let mut buffer = [0u8; FILE_LIMIT];
+    let size = read_full(&mut file, &mut buffer);
+    print!(rt; "{name}: ")?;
+    try_records(rt, kind, long, &buffer[..size], numbers)
 }
 
 // A number that no record had has no line.
-fn say_counts(numbers: [u64; NUMBERS]) {
-    let mut number: usize = 0;
-    while number < NUMBERS {
-        if 0 < numbers[number] {
-            say_number(number as u64);
-            say(b": ");
-            say_number(numbers[number]);
-            say(b"\n");
+fn say_counts(rt: &impl Print, numbers: &[u64; NUMBERS]) -> io::Result<()> {
+    for (number, count) in numbers.iter().enumerate() {
+        if 0 < *count {
+            println!(rt; "{number}: {count}")?;
         }
-        number += 1;
     }
+    Ok(())
 }
 
-// Tries the files of a kind, 00 to 99 where there is one, and that of long images and marks. A name ends in NN.bin; a
-// missing file is a missing line.
-fn try_files(kind: Kind, name: &mut [u8], long_name: &[u8])
-    requires { 6 ≤ length name.old }
-{
-    let tens = name.len() - 6;
+// Tries the files of a kind, 00 to 99 where there is one, and that of long images and marks; a missing file is a
+// missing line.
+fn try_files<R: Files + Print + Alloc>(rt: &R, kind: Kind) -> io::Result<()> {
+    let word = kind.word();
     let mut numbers = [0; NUMBERS];
-    let mut number: u8 = 0;
-    while number < 100 {
-        name[tens] = b'0' + number / 10;
-        name[tens + 1] = b'0' + number % 10;
-        try_named(kind, false, name, &mut numbers);
-        number += 1;
+    for number in 0..100u8 {
+        let name = format!(in rt.alloc(); "{word}-{number:02}.bin")?;
+        try_named(rt, kind, false, name.as_str(), &mut numbers)?;
     }
-    try_named(kind, true, long_name, &mut numbers);
-    say_counts(numbers);
+    let name = format!(in rt.alloc(); "{word}-long.bin")?;
+    try_named(rt, kind, true, name.as_str(), &mut numbers)?;
+    say_counts(rt, &numbers)
 }
 
 // All kinds of records, a line each.
-fn main() {
-    let mut check = *b"check-00.bin";
-    try_files(Kind::Check, &mut check, b"check-long.bin");
-    let mut step = *b"step-00.bin";
-    try_files(Kind::Step, &mut step, b"step-long.bin");
-    let mut run = *b"run-00.bin";
-    try_files(Kind::Run, &mut run, b"run-long.bin");
-    let mut read = *b"read-00.bin";
-    try_files(Kind::Read, &mut read, b"read-long.bin");
-    let mut write = *b"write-00.bin";
-    try_files(Kind::Write, &mut write, b"write-long.bin");
-    let mut print = *b"print-00.bin";
-    try_files(Kind::Print, &mut print, b"print-long.bin");
-    let mut explain = *b"explain-00.bin";
-    try_files(Kind::Explain, &mut explain, b"explain-long.bin");
-    let mut locate = *b"locate-00.bin";
-    try_files(Kind::Locate, &mut locate, b"locate-long.bin");
-    let mut build = *b"build-00.bin";
-    try_files(Kind::Build, &mut build, b"build-long.bin");
+fn main(rt: HostRuntime) -> io::Result<()> {
+    for kind in Kind::ALL {
+        try_files(&rt, kind)?;
+    }
+    Ok(())
 }

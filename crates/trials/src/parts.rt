@@ -79,11 +79,9 @@ pub(crate) fn take_bytes<'a>(file: &'a [u8], at: &mut usize) -> &'a [u8] {
 // Fills a buffer with bytes that grow by the same number, modulo 256.
 pub(crate) fn fill(buffer: &mut [u8], first: u8, by: u8) {
     let mut byte = first;
-    let mut i = 0;
-    while i < buffer.len() {
-        buffer[i] = byte;
-        byte = std::num::wrapping_add_u8(byte, by);
-        i += 1;
+    for place in buffer.iter_mut() {
+        *place = byte;
+        byte = byte.wrapping_add(by);
     }
 }
 
@@ -104,14 +102,13 @@ pub(crate) fn take_over(
         *at = NOWHERE;
         return;
     }
-    bytes::copy(piece, &mut buffer[offset..]);
+    buffer[offset..offset + piece.len()].copy_from_slice(piece);
 }
 
 // Pieces, which replace bytes of a buffer.
 pub(crate) fn take_pieces(file: &[u8], at: &mut usize, buffer: &mut [u8]) {
-    let mut left = take_u16(file, at);
-    while 0 < left {
-        left -= 1;
+    let pieces = take_u16(file, at);
+    for _ in 0..pieces {
         let offset = take_u16(file, at);
         let size = take_u16(file, at);
         take_over(file, at, buffer, offset as usize, size as usize);
@@ -183,11 +180,7 @@ pub(crate) fn front_words(space: &mut [u32], size: usize) -> &mut [u32] {
 
 // Fills a list with a number.
 pub(crate) fn fill_words(list: &mut [u32], word: u32) {
-    let mut i = 0;
-    while i < list.len() {
-        list[i] = word;
-        i += 1;
-    }
+    list.fill(word);
 }
 
 // So many numbers of four bytes, which replace the first of a list. A list that is too short ends the file.
@@ -196,24 +189,12 @@ pub(crate) fn take_words(file: &[u8], at: &mut usize, list: &mut [u32], size: us
         *at = NOWHERE;
         return;
     }
-    let mut i = 0;
-    while i < size {
-        list[i] = take_u32(file, at);
-        i += 1;
+    for word in list[..size].iter_mut() {
+        *word = take_u32(file, at);
     }
 }
 
 // Whether two lists hold the same numbers.
 pub(crate) fn same_words(one: &[u32], other: &[u32]) -> bool {
-    if one.len() != other.len() {
-        return false;
-    }
-    let mut i = 0;
-    while i < one.len() {
-        if one[i] != other[i] {
-            return false;
-        }
-        i += 1;
-    }
-    true
+    one == other
 }

@@ -5,7 +5,6 @@ use crate::parts::{
     take_over, take_pieces, take_u16, take_u32, take_u64, take_whole, take_whole_if, take_words,
     words,
 };
-use check::same;
 use loader::{
     m7700_build_marks, m7700_check, m7700_explain, m7700_locate, m7700_print, m7700_read_list,
     m7700_run, m7700_step, m7700_write_list,
@@ -30,6 +29,36 @@ pub(crate) enum Kind {
     Explain,
     Locate,
     Build,
+}
+
+impl Kind {
+    // All kinds, in the order in which they are tried.
+    pub(crate) const ALL: [Kind; 9] = [
+        Kind::Check,
+        Kind::Step,
+        Kind::Run,
+        Kind::Read,
+        Kind::Write,
+        Kind::Print,
+        Kind::Explain,
+        Kind::Locate,
+        Kind::Build,
+    ];
+
+    // What the names of its files begin with.
+    pub(crate) fn word(self) -> &'static str {
+        match self {
+            Kind::Check => "check",
+            Kind::Step => "step",
+            Kind::Run => "run",
+            Kind::Read => "read",
+            Kind::Write => "write",
+            Kind::Print => "print",
+            Kind::Explain => "explain",
+            Kind::Locate => "locate",
+            Kind::Build => "build",
+        }
+    }
 }
 
 // What writes on a page.
@@ -107,8 +136,8 @@ fn try_machine(file: &[u8], at: &mut usize, long: bool, by_step: bool) -> Trial 
         number: run_number(answer),
         agrees: given == answer
             && (!by_step || steps == 1)
-            && same(state, state_after)
-            && same(ram, ram_after),
+            && *state == *state_after
+            && *ram == *ram_after,
     }
 }
 
@@ -139,7 +168,7 @@ fn try_read(file: &[u8], at: &mut usize, long: bool) -> Trial {
     let given = m7700_read_list(text, marks);
     Trial {
         number: (answer % 256) as usize,
-        agrees: marks.len() == size && given == answer && same(marks, after),
+        agrees: marks.len() == size && given == answer && *marks == *after,
     }
 }
 
@@ -182,7 +211,7 @@ fn try_page(file: &[u8], at: &mut usize, long: bool, writer: Writer, has_image: 
     let given = write_page(writer, image, marks, base, reset, page);
     Trial {
         number: (answer % 256) as usize,
-        agrees: page.len() == size && given == answer && same(page, after),
+        agrees: page.len() == size && given == answer && *page == *after,
     }
 }
 
@@ -235,6 +264,6 @@ fn try_build(file: &[u8], at: &mut usize, long: bool) -> Trial {
     let given = m7700_build_marks(image, base, reset, routines, marks);
     Trial {
         number: (answer % 256) as usize,
-        agrees: given == answer && same(marks, after),
+        agrees: given == answer && *marks == *after,
     }
 }
