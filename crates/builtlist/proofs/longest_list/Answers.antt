@@ -1,18 +1,13 @@
 -- The length of so many zeros, by a law of any number of them: counting these would take the checker more stack than it
 -- has.
--- Assumes nothing.
 use mathlib.Core.Path.{◌≡◌, sym}
 use Prim.Native.Nat.{ℕ}
 use lib.ListN.{length, replicate, length-replicate}
 use Rattle.builtlist.specs.BuiltList.{longest_list}
-use Rattle.builtlist.proofs.longest_list.Statement.{statement}
-use Rattle.builtlist.proofs.longest_list.Tie as tie
+use Rattle.builtlist.proofs.longest_list.Goals as goal
 
 zeros : (n : ℕ) → n ≡ length {A = ℕ} (replicate n 0)
 zeros n = sym (length-replicate n 0)
 
-returns : tie.Need-returns
+pub returns : goal.returns
 returns c = zeros longest_list
-
-pub longest-list-spec : {M : Type 1} → statement M
-longest-list-spec = tie.close (tie.spec returns)
