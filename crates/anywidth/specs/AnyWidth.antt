@@ -92,7 +92,7 @@ value_of n v = pick (ltb v (half n)) (pos v) (sub_ℕ v (size n))
 abbrev pub has_value : ℕ → ℤ → Bool
 has_value n z = le_z (neg_ℤ (pos (half n))) z && le_z z (pos (half n - 1))
 
--- What is shown of numbers of n bits, for every n above 0 (proofs/AnyWidth, `any_width_lem`).
+-- What is shown of numbers of n bits, for every n above 0 (proofs/AnyWidth, `any_width`).
 pub record AnyWidth (n : ℕ) : Type 0 where
   -- merging keeps what lies above n bits and puts the low n bits
   pub above_kept : (old v : ℕ) → merged n old v / size n ≡ old / size n

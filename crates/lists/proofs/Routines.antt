@@ -1,6 +1,6 @@
 -- What is forced in every admitted marking. Marks that stand in an admitted marking owe at each start what that marking
 -- owes there, since the target of a call is on the list, and so already stands as listed; and what is owed is met there
--- (`owed-met`). So marks that lack nothing that is owed are admitted themselves (`complete-admitted`).
+-- (`owed_met`). So marks that lack nothing that is owed are admitted themselves (`complete_admitted`).
 -- Assumes nothing.
 use mathlib.Core.Path.{◌≡◌, refl, sym, ◌∙◌}
 use mathlib.Core.Logic.{◌⊎◌, inl, inr}

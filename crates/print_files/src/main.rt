@@ -4,19 +4,19 @@
 use answer::answers::LIST_LIMIT;
 use files::read_named;
 use image::IMAGE_LIMIT;
-use libc::STDOUT_FILENO;
 use printout::{longest_page, put_printout};
+use std::io;
 
 // The program's name, the image and the list.
 const WORDS: usize = 3;
 
 // Reads both files, an unread one as one that is too long, and prints what they lead to.
-fn main() {
+fn main(rt: HostRuntime) -> io::Result<()> {
     let mut image = [0u8; IMAGE_LIMIT + 1];
     let mut list = [0u8; LIST_LIMIT + 1];
     let mut page = longest_page();
-    let image_size = read_named(1, WORDS, &mut image);
-    let list_size = read_named(2, WORDS, &mut list);
+    let image_size = read_named(&rt, 1, WORDS, &mut image);
+    let list_size = read_named(&rt, 2, WORDS, &mut list);
     let size = put_printout(&image[..image_size], &list[..list_size], &mut page);
-    io::write_all(STDOUT_FILENO, &page[..size]);
+    rt.write_all(&page[..size])
 }
