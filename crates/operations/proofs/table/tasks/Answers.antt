@@ -1,18 +1,13 @@
 -- antt computes what each task of the table does, and what its operation does: they are the same.
--- Assumes nothing.
 use mathlib.Core.Path.{refl}
 use Rattle.semantics.specs.Effects.{effect_of}
 use Rattle.actions.specs.Tasks.{unpacked_task}
 use Rattle.actions.specs.ActionEffects.{by_action}
 use Rattle.operations.proofs.Tables.{tasked}
-use Rattle.operations.proofs.table.tasks.Statement.{statement}
-use Rattle.operations.proofs.table.tasks.Tie as tie
+use Rattle.operations.proofs.table.tasks.Goals as goal
 
-returns : tie.Need-returns
+pub returns : goal.returns
 unfolding unpacked_task by_action effect_of
 returns c =
     tasked _ refl refl (λ short operand next d file. refl) (λ short operand next d file. refl)
     (λ short operand next d file. refl)
-
-pub tasks-spec : {M : Type 1} → statement M
-tasks-spec = tie.close (tie.spec returns)
