@@ -68,7 +68,8 @@ module _ (i : Fetched) (m : Memory) (place depth : ℕ) (file opens : List ℕ) 
 
     pub by_jump : flow ≡ Flow.Jump
         → after
-        ≡ finished (changes (change (registers_of file) (target_address there place) CallChange.Keep [])) i m place depth
+        ≡ finished (changes (change (registers_of file) (target_address there place) CallChange.Keep [])) i m place
+        depth
         file opens
         → after ≡ on_decoded (Decoded.Whole there) m (state c opens)
     unfolding plan_by_within

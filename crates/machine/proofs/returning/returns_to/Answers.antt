@@ -22,7 +22,8 @@ returns-then-opened-kind_number c = (
   λ m calls. stops-other-kind c.args.i m c.args.place c.args.depth
       c.args.registers.now calls c.args.opened c.args.kind c.args.address
       c.kind_number.result
-      c.stopped-then-opened-kind_number.result c.kind_number.ensures c.stopped-then-opened-kind_number.ensures c.if-opened-kind_number.true,
+      c.stopped-then-opened-kind_number.result c.kind_number.ensures c.stopped-then-opened-kind_number.ensures
+      c.if-opened-kind_number.true,
   c.requires,
 )
 

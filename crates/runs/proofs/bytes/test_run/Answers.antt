@@ -13,7 +13,8 @@ use Rattle.runs.proofs.bytes.test_run.Goals as goal
 
 pub returns-in-Failed : goal.returns-in-Failed
 returns-in-Failed c = ends
-    (image_tests (length c.args.image.now) (length c.args.image.now) c.args.base) _ c.test_image-tested.ensures c.in-Failed.is
+    (image_tests (length c.args.image.now) (length c.args.image.now) c.args.base) _ c.test_image-tested.ensures
+    c.in-Failed.is
 
 pub returns-then-not-ram_fits : goal.returns-then-not-ram_fits
 returns-then-not-ram_fits c = goes_on
