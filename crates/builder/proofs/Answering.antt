@@ -166,8 +166,8 @@ module _ (base n : ℕ) (text : List ℕ) where
   unfolding routine_marks
   table_plain at none = by (ltb at n) refl
     where
-      formed : (get_or table at 0 ≡ 0) ⊎ ((start_at table at ≡ true) × (get_or table at 0 < 128))
-          → get_or table at 0 ≡ 0
+      formed : (get_or table at 0 ≡ 0) ⊎ ((start_at table at ≡ true) × (get_or table at 0 < 128)) → get_or table at 0 ≡
+          0
       formed (inl e) = e
       formed (inr s) = absurd (true≢false (sym s.0 ∙ none))
 

@@ -67,8 +67,8 @@ module _ (image marks : List ℕ) (base at : ℕ) where
   unfolding bytes_at
   stepped h p = by (start_at marks at) refl
     where
-      by : (b : Bool) → start_at marks at ≡ b
-          → Passed broken 0 (at + pick b (length_of (decoded_here image marks at)) 1)
+      by : (b : Bool) → start_at marks at ≡ b → Passed broken 0
+          (at + pick b (length_of (decoded_here image marks at)) 1)
       by true e = over (start_rules image marks base at e h) h p
       by false e = one_more_passed broken 0 at p (not_broken h)
 
