@@ -86,7 +86,8 @@ module _ (m : Memory) (act : Act ℕ) (short : Bool) (a : AddressRead) (e : a �
   alone_nowhere : a ≡ AddressRead.Unmapped → DataRead.Unmapped ≡ data_read (evaluate m (act >>= itself))
   alone_nowhere e' = ap data_read (sym (after_unmapped m act itself (address_unmapped (evaluate m act) a e e')))
 
-  alone_found : (at : ℕ) → a ≡ AddressRead.At at → DataRead.Found (data_at at 0) ≡ data_read (evaluate m (act >>= itself))
+  alone_found : (at : ℕ) → a ≡ AddressRead.At at → DataRead.Found (data_at at 0) ≡ data_read
+      (evaluate m (act >>= itself))
   alone_found at e' = ap data_read (sym (after_done m act itself at (address_done (evaluate m act) a at e e')))
 
   there_nowhere : a ≡ AddressRead.Unmapped → DataRead.Unmapped ≡ data_read (evaluate m (act >>= then))

@@ -17,7 +17,8 @@ overflow_add-n c =
 
 pub loop-i-preserved : goal.loop-i-preserved
 loop-i-preserved c =
-    one_more_counted c.args.marks.now c.loop-i.i c.loop-i.n c.one_start-n.result c.loop-i-test.true c.loop-i.invariant c.one_start-n.ensures
+    one_more_counted c.args.marks.now c.loop-i.i c.loop-i.n c.one_start-n.result c.loop-i-test.true c.loop-i.invariant
+    c.one_start-n.ensures
 
 pub returns : goal.returns
 returns c =

@@ -24,4 +24,8 @@ returns-then-refusal_number-eq4 c =
     ) c.bad_mark.ensures
 
 pub returns-else-refusal_number-eq4 : goal.returns-else-refusal_number-eq4
-returns-else-refusal_number-eq4 c = rw (← c.refusal_number.ensures, ne_eqb c.refusal_number.result 4 c.if-refusal_number-eq4.false)
+returns-else-refusal_number-eq4 c = rw (
+  ← c.refusal_number.ensures,
+  ne_eqb c.refusal_number.result 4
+      c.if-refusal_number-eq4.false,
+)

@@ -10,7 +10,8 @@ use Rattle.explanation.proofs.put_explained.Goals as goal
 pub returns-then-text-gt-LIST_LIMIT : goal.returns-then-text-gt-LIST_LIMIT
 returns-then-text-gt-LIST_LIMIT c =
     let args = c.args in
-    let shown = answer_alone args.image.now args.text.now (long_list args.image.now args.text.now c.if-text-gt-LIST_LIMIT.true)
+    let shown = answer_alone args.image.now args.text.now
+    (long_list args.image.now args.text.now c.if-text-gt-LIST_LIMIT.true)
     (rw c.answer_for.ensures at c.put_answer-at.ensures) in
     record { text = shown.0; part = shown.1 }
 
@@ -18,7 +19,8 @@ pub returns-then-image-gt-IMAGE_LIMIT : goal.returns-then-image-gt-IMAGE_LIMIT
 returns-then-image-gt-IMAGE_LIMIT c =
     let args = c.args in
     let shown = answer_alone args.image.now args.text.now (long_image args.image.now args.text.now
-    c.if-text-gt-LIST_LIMIT.false c.if-image-gt-IMAGE_LIMIT.true) (rw c.answer_for.ensures at c.put_answer-at.ensures) in
+    c.if-text-gt-LIST_LIMIT.false c.if-image-gt-IMAGE_LIMIT.true) (rw c.answer_for.ensures at c.put_answer-at.ensures)
+    in
     record { text = shown.0; part = shown.1 }
 
 pub slice_bounds-put_explanation-end : goal.slice_bounds-put_explanation-end
@@ -43,6 +45,7 @@ returns c =
     let said = c.put_explanation.ensures in
     let shown = both_lines args.image.now args.text.now c.requires
     (rw c.answer_for.ensures at c.put_answer-at.ensures)
-    (within_limits args.image.now args.text.now c.if-text-gt-LIST_LIMIT.false c.if-image-gt-IMAGE_LIMIT.false) said.0 said.1
+    (within_limits args.image.now args.text.now c.if-text-gt-LIST_LIMIT.false c.if-image-gt-IMAGE_LIMIT.false) said.0
+    said.1
     said.2 in
     record { text = shown.0; part = shown.1 }

@@ -25,11 +25,13 @@ returns-in-DirectBit c = rw (c.in-DirectBit.is, c.direct-in-DirectBit.ensures.0)
 
 pub returns-in-DirectIndexedX : goal.returns-in-DirectIndexedX
 unfolding address_of
-returns-in-DirectIndexedX c = rw (c.in-DirectIndexedX.is, c.index_x.ensures.0, c.direct-in-DirectIndexedX.ensures.0) refl
+returns-in-DirectIndexedX c = rw (c.in-DirectIndexedX.is, c.index_x.ensures.0, c.direct-in-DirectIndexedX.ensures.0)
+    refl
 
 pub returns-in-DirectIndexedY : goal.returns-in-DirectIndexedY
 unfolding address_of
-returns-in-DirectIndexedY c = rw (c.in-DirectIndexedY.is, c.index_y.ensures.0, c.direct-in-DirectIndexedY.ensures.0) refl
+returns-in-DirectIndexedY c = rw (c.in-DirectIndexedY.is, c.index_y.ensures.0, c.direct-in-DirectIndexedY.ensures.0)
+    refl
 
 pub returns-in-DirectIndirect : goal.returns-in-DirectIndirect
 unfolding address_of
@@ -45,15 +47,22 @@ returns-in-DirectIndexedXIndirect c = rw (
 
 pub returns-in-DirectIndirectIndexedY : goal.returns-in-DirectIndirectIndexedY
 unfolding address_of
-returns-in-DirectIndirectIndexedY c = rw (c.in-DirectIndirectIndexedY.is, ← c.direct-in-DirectIndirectIndexedY.ensures.0) c.by_word_y.ensures
+returns-in-DirectIndirectIndexedY c = rw (
+  c.in-DirectIndirectIndexedY.is,
+  ← c.direct-in-DirectIndirectIndexedY.ensures.0,
+) c.by_word_y.ensures
 
 pub returns-in-DirectIndirectLong : goal.returns-in-DirectIndirectLong
 unfolding address_of
-returns-in-DirectIndirectLong c = rw (c.in-DirectIndirectLong.is, ← c.direct-in-DirectIndirectLong.ensures.0) c.by_long.ensures
+returns-in-DirectIndirectLong c = rw (c.in-DirectIndirectLong.is, ← c.direct-in-DirectIndirectLong.ensures.0)
+    c.by_long.ensures
 
 pub returns-in-DirectIndirectLongIndexedY : goal.returns-in-DirectIndirectLongIndexedY
 unfolding address_of
-returns-in-DirectIndirectLongIndexedY c = rw (c.in-DirectIndirectLongIndexedY.is, ← c.direct-in-DirectIndirectLongIndexedY.ensures.0) c.by_long_y.ensures
+returns-in-DirectIndirectLongIndexedY c = rw (
+  c.in-DirectIndirectLongIndexedY.is,
+  ← c.direct-in-DirectIndirectLongIndexedY.ensures.0,
+) c.by_long_y.ensures
 
 pub returns-in-Absolute : goal.returns-in-Absolute
 unfolding address_of
@@ -85,7 +94,11 @@ returns-in-AbsoluteLong c = rw (c.in-AbsoluteLong.is, c.low_long.ensures.0) refl
 
 pub returns-in-AbsoluteLongIndexedX : goal.returns-in-AbsoluteLongIndexedX
 unfolding address_of
-returns-in-AbsoluteLongIndexedX c = rw (c.in-AbsoluteLongIndexedX.is, c.index_x-in-AbsoluteLongIndexedX.ensures.0, c.low_long-in-AbsoluteLongIndexedX.ensures.0) refl
+returns-in-AbsoluteLongIndexedX c = rw (
+  c.in-AbsoluteLongIndexedX.is,
+  c.index_x-in-AbsoluteLongIndexedX.ensures.0,
+  c.low_long-in-AbsoluteLongIndexedX.ensures.0,
+) refl
 
 pub returns-in-AbsoluteIndirect : goal.returns-in-AbsoluteIndirect
 unfolding address_of

@@ -77,7 +77,8 @@ returns-in-Jump c =
     let args = c.args in (
       put-jump args.marks.now args.base args.at instruction c.byte_at-mark.result
           c.next_address-next.result c.byte_at-mark.ensures c.next_address-next.ensures c.put-in-Jump.new.marks
-          c.target_of_layout-to-in-Jump.result c.target_of_layout-to-in-Jump.ensures c.mark_after_layout-after-in-Jump.result
+          c.target_of_layout-to-in-Jump.result c.target_of_layout-to-in-Jump.ensures
+          c.mark_after_layout-after-in-Jump.result
           (sym c.in-Jump.is ∙ c.flow_of.ensures) c.mark_after_layout-after-in-Jump.ensures
           c.put-in-Jump.ensures.0,
       c.put-in-Jump.ensures.1,

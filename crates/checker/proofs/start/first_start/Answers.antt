@@ -8,7 +8,8 @@ loop-i-init c = (none_passed (verdict.start_at c.args.marks.now) c.args.from, om
 
 pub returns-then-is_start : goal.returns-then-is_start
 returns-then-is_start c =
-    passed_to (verdict.start_at c.args.marks.now) c.args.from c.loop-i.i c.args.n c.loop-i.invariant.0 c.loop-i-test.true (rw (c.is_start.ensures, c.byte_at.ensures) at c.if-is_start.true)
+    passed_to (verdict.start_at c.args.marks.now) c.args.from c.loop-i.i c.args.n c.loop-i.invariant.0
+    c.loop-i-test.true (rw (c.is_start.ensures, c.byte_at.ensures) at c.if-is_start.true)
 
 pub loop-i-preserved : goal.loop-i-preserved
 loop-i-preserved c = (
@@ -21,4 +22,5 @@ loop-i-preserved c = (
 
 pub returns : goal.returns
 returns c =
-    passed_all (verdict.start_at c.args.marks.now) c.args.from c.loop-i.i c.args.n c.loop-i.invariant.0 c.loop-i.invariant.1 c.loop-i-test.false
+    passed_all (verdict.start_at c.args.marks.now) c.args.from c.loop-i.i c.args.n c.loop-i.invariant.0
+    c.loop-i.invariant.1 c.loop-i-test.false

@@ -11,15 +11,26 @@ few : (text : List ℕ) (count : ℕ) → count ≡ spec.length_digits_shown tex
 few text count e = rw e (few_digits text)
 
 pub number-length-requires : goal.number-length-requires
-number-length-requires c =
-    (omega (arith, few c.args.text.now c.length_digits_shown-count.result c.length_digits_shown-count.ensures), omega arith, power_small c.length_digits_shown-count.result (few c.args.text.now c.length_digits_shown-count.result c.length_digits_shown-count.ensures))
+number-length-requires c = (
+  omega (arith, few c.args.text.now c.length_digits_shown-count.result c.length_digits_shown-count.ensures),
+  omega
+      arith,
+  power_small c.length_digits_shown-count.result
+      (few c.args.text.now c.length_digits_shown-count.result c.length_digits_shown-count.ensures),
+)
 
 pub overflow_add-count : goal.overflow_add-count
-overflow_add-count c = omega (arith, few c.args.text.now c.length_digits_shown-count.result c.length_digits_shown-count.ensures)
+overflow_add-count c = omega (
+  arith,
+  few c.args.text.now c.length_digits_shown-count.result
+      c.length_digits_shown-count.ensures,
+)
 
 pub reset_at-reset-requires : goal.reset_at-reset-requires
-reset_at-reset-requires c =
-    (omega (arith, few c.args.text.now c.length_digits_shown-count.result c.length_digits_shown-count.ensures), c.number-base.ensures.1)
+reset_at-reset-requires c = (
+  omega (arith, few c.args.text.now c.length_digits_shown-count.result c.length_digits_shown-count.ensures),
+  c.number-base.ensures.1,
+)
 
 pub returns : goal.returns
 unfolding spec.header_shown

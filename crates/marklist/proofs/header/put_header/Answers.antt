@@ -15,10 +15,18 @@ pub overflow_add-reset_place-2 : goal.overflow_add-reset_place-2
 overflow_add-reset_place-2 c = omega (arith, c.digit_count-count.ensures, decimal_most c.args.h.length)
 
 pub bounds-page-0 : goal.bounds-page-0
-bounds-page-0 c = omega (arith, header_room (digits_by c.args.old) c.args.h c.args.page.now c.digit_count-count.result c.digit_count-count.ensures c.requires)
+bounds-page-0 c = omega (
+  arith,
+  header_room (digits_by c.args.old) c.args.h c.args.page.now c.digit_count-count.result
+      c.digit_count-count.ensures c.requires,
+)
 
 pub bounds-page-1 : goal.bounds-page-1
-bounds-page-1 c = simp length-set (omega (arith, header_room (digits_by c.args.old) c.args.h c.args.page.now c.digit_count-count.result c.digit_count-count.ensures c.requires))
+bounds-page-1 c = simp length-set (omega (
+  arith,
+  header_room (digits_by c.args.old) c.args.h c.args.page.now
+      c.digit_count-count.result c.digit_count-count.ensures c.requires,
+))
 
 pub slice_bounds-put_field-count : goal.slice_bounds-put_field-count
 slice_bounds-put_field-count c =
@@ -33,8 +41,15 @@ put_field-requires c =
     let front =
     letter_put (digits_by args.old) args.h args.page.now c.digit_count-count.result
     c.digit_count-count.ensures
-    c.requires in
-    (omega arith, omega arith, part_room 7 front (omega (arith, header_room (digits_by c.args.old) c.args.h c.args.page.now c.digit_count-count.result c.digit_count-count.ensures c.requires)))
+    c.requires in (
+      omega arith,
+      omega arith,
+      part_room 7 front (omega (
+        arith,
+        header_room (digits_by c.args.old) c.args.h c.args.page.now c.digit_count-count.result
+            c.digit_count-count.ensures c.requires,
+      )),
+    )
 
 pub slice_bounds-put_field-count-2 : goal.slice_bounds-put_field-count-2
 slice_bounds-put_field-count-2 c =
@@ -48,8 +63,16 @@ put_field-requires-2 c =
     let front =
     base-put (digits_by args.old) args.h args.page.now c.digit_count-count.result
     c.digit_count-count.ensures
-    c.requires c.put_field.new.page c.put_field.ensures in
-    (omega arith, omega arith, part_room (c.digit_count-count.result + 1) front (omega (arith, header_room (digits_by c.args.old) c.args.h c.args.page.now c.digit_count-count.result c.digit_count-count.ensures c.requires)))
+    c.requires c.put_field.new.page c.put_field.ensures in (
+      omega arith,
+      omega arith,
+      part_room (c.digit_count-count.result + 1) front
+          (omega (
+            arith,
+            header_room (digits_by c.args.old) c.args.h c.args.page.now c.digit_count-count.result
+                c.digit_count-count.ensures c.requires,
+          )),
+    )
 
 pub slice_bounds-put_field-count-3 : goal.slice_bounds-put_field-count-3
 slice_bounds-put_field-count-3 c =
@@ -66,8 +89,17 @@ put_field-requires-3 c =
     c.digit_count-count.ensures
     c.requires c.put_field.new.page c.put_field.ensures c.put_field-2.new.page
     c.put_field-2.ensures in
-    let reset = c.digits_by.result in
-    (omega arith, omega arith, part_room (reset + 1) front (omega (arith, header_room (digits_by c.args.old) c.args.h c.args.page.now c.digit_count-count.result c.digit_count-count.ensures c.requires, c.digits_by.ensures)))
+    let reset = c.digits_by.result in (
+      omega arith,
+      omega arith,
+      part_room (reset + 1) front
+          (omega (
+            arith,
+            header_room (digits_by c.args.old) c.args.h c.args.page.now c.digit_count-count.result
+                c.digit_count-count.ensures c.requires,
+            c.digits_by.ensures,
+          )),
+    )
 
 pub shape_of-page : goal.shape_of-page
 shape_of-page c =

@@ -62,7 +62,8 @@ slice_bounds-rest-count c = omega (
 )
 
 pub returns-then-not-starts_with : goal.returns-then-not-starts_with
-returns-then-not-starts_with c = by-mark c.digits_by-count.result c.args.address c.args.text.now c.shows_digits.result c.shows_digits.ensures
+returns-then-not-starts_with c = by-mark c.digits_by-count.result c.args.address c.args.text.now c.shows_digits.result
+    c.shows_digits.ensures
     c.if-not-shows_digits.false
     c.args.old c.fields_mark-mark.result c.span_by.result c.fields.result c.starts_with.result
     c.digits_by-count.ensures c.fields_mark-mark.ensures c.fields.ensures c.starts_with.ensures

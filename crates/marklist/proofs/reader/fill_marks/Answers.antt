@@ -39,7 +39,8 @@ loop-i-preserved c =
       one_more_filled count args.text.now args.at args.address args.marks.now loop.marks loop.place
           loop.i c.mark_shown-mark.result size inside shown c.line_size-place.ensures loop.invariant.0,
       one_more_walked count args.text.now args.at args.address (length args.marks.now) loop.place
-          loop.i size (omega (arith, loop.invariant.0.2, inside)) (rw shown at c.line_size-place.ensures) loop.invariant.1,
+          loop.i size (omega (arith, loop.invariant.0.2, inside)) (rw shown at c.line_size-place.ensures)
+          loop.invariant.1,
     )
 
 pub shape_of-marks : goal.shape_of-marks

@@ -21,12 +21,22 @@ returns-then-h-before c =
 pub lines_end-place-requires : goal.lines_end-place-requires
 lines_end-place-requires c = (
   rw c.header_size.ensures (list_headed (digits_by c.args.old) c.args.h c.args.text.now c.requires).inside,
-  omega (arith, (list_headed (digits_by c.args.old) c.args.h c.args.text.now c.requires).few, c.if-h-before.false, c.first_address-first.ensures.1),
+  omega (
+    arith,
+    (list_headed (digits_by c.args.old) c.args.h c.args.text.now c.requires).few,
+    c.if-h-before.false,
+    c.first_address-first.ensures.1,
+  ),
 )
 
 pub overflow_add-first : goal.overflow_add-first
 overflow_add-first c =
-    omega (arith, (list_headed (digits_by c.args.old) c.args.h c.args.text.now c.requires).few, c.if-h-before.false, c.first_address-first.ensures.1)
+    omega (
+      arith,
+      (list_headed (digits_by c.args.old) c.args.h c.args.text.now c.requires).few,
+      c.if-h-before.false,
+      c.first_address-first.ensures.1,
+    )
 
 pub returns : goal.returns
 returns c =

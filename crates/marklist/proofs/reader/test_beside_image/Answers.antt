@@ -24,11 +24,13 @@ bank_fits-requires c =
 pub returns-then-not-bank_fits : goal.returns-then-not-bank_fits
 returns-then-not-bank_fits c =
     let args = c.args in
-    image_passes args.old args.image args.marks args.base (sym c.in_default.is ∙ c.test_image-tested.ensures) c.bank_fits.ensures
+    image_passes args.old args.image args.marks args.base (sym c.in_default.is ∙ c.test_image-tested.ensures)
+    c.bank_fits.ensures
     (fails _ _ refl (ap not c.if-not-bank_fits.true))
 
 pub returns : goal.returns
 returns c =
     let args = c.args in
-    image_passes args.old args.image args.marks args.base (sym c.in_default.is ∙ c.test_image-tested.ensures) c.bank_fits.ensures
+    image_passes args.old args.image args.marks args.base (sym c.in_default.is ∙ c.test_image-tested.ensures)
+    c.bank_fits.ensures
     (holds _ _ refl (ap not c.if-not-bank_fits.false) passes)

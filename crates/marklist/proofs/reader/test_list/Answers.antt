@@ -11,7 +11,8 @@ returns-then-not-is_list c = fails _ _ c.is_list.ensures (ap not c.if-not-is_lis
 pub returns-in-Failed : goal.returns-in-Failed
 returns-in-Failed c =
     holds _ _ c.is_list.ensures (ap not c.if-not-is_list.false)
-    (ends (list_tests c.args.old c.args.h.length c.args.marks c.args.h.base) _ c.test_beside_image-tested.ensures c.in-Failed.is)
+    (ends (list_tests c.args.old c.args.h.length c.args.marks c.args.h.base) _ c.test_beside_image-tested.ensures
+    c.in-Failed.is)
 
 pub reset_shown-requires : goal.reset_shown-requires
 reset_shown-requires c =
@@ -20,11 +21,13 @@ reset_shown-requires c =
 pub returns-then-not-reset_shown : goal.returns-then-not-reset_shown
 returns-then-not-reset_shown c =
     holds _ _ c.is_list.ensures (ap not c.if-not-is_list.false)
-    (goes_on (list_tests c.args.old c.args.h.length c.args.marks c.args.h.base) _ c.test_beside_image-tested.ensures c.in_default.is
+    (goes_on (list_tests c.args.old c.args.h.length c.args.marks c.args.h.base) _ c.test_beside_image-tested.ensures
+    c.in_default.is
     (fails _ _ c.reset_shown.ensures (ap not c.if-not-reset_shown.true)))
 
 pub returns : goal.returns
 returns c =
     holds _ _ c.is_list.ensures (ap not c.if-not-is_list.false)
-    (goes_on (list_tests c.args.old c.args.h.length c.args.marks c.args.h.base) _ c.test_beside_image-tested.ensures c.in_default.is
+    (goes_on (list_tests c.args.old c.args.h.length c.args.marks c.args.h.base) _ c.test_beside_image-tested.ensures
+    c.in_default.is
     (holds _ _ c.reset_shown.ensures (ap not c.if-not-reset_shown.false) passes))

@@ -28,7 +28,8 @@ module _ (text : List ℕ) (at next count address : ℕ) (old : Bool) (old-so : 
       ∙ ap (λ n. value 16 n (drop at text)) (count-is ∙ ap digits_by old-so)
 
   -- and the size of the line
-  module _ (mark size : ℕ) (mark-is : mark ≡ mark_shown (digits_by old) address (take (length text - at) (drop at text)))
+  module _ (mark size : ℕ) (mark-is : mark ≡ mark_shown (digits_by old) address
+      (take (length text - at) (drop at text)))
       (size-is : size ≡ line_size (digits_by old) mark) where
     size-so : size ≡ line_size (routine_digits text) (mark_shown (routine_digits text) address (drop at text))
     size-so =
@@ -85,7 +86,8 @@ loop-at-smaller c =
     omega (arith, so.1)
 
 pub loop-at-preserved : goal.loop-at-preserved
-loop-at-preserved c = goes_on c.args.text.now c.loop-at.at c.loop-at.next c.digits_by-count.result c.number-address.result
+loop-at-preserved c = goes_on c.args.text.now c.loop-at.at c.loop-at.next c.digits_by-count.result
+    c.number-address.result
     c.has_old_lines-old.result c.has_old_lines-old.ensures c.digits_by-count.ensures c.number-address.ensures.0
     c.mark_shown.result c.line_size-size.result c.mark_shown.ensures c.line_size-size.ensures
     c.loop-at-test.true c.loop-at.invariant c.if-address-next.false c.if-size-eq0.false

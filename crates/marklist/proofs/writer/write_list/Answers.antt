@@ -22,7 +22,8 @@ use Rattle.marklist.proofs.writer.write_list.Goals as goal
 few_marks : (marks : List ℕ) (base reset : ℕ)
     → TestResult.Passed ≡ first_refusal (marks_tests (length marks) marks base reset) → length marks ≤ image_limit
 few_marks marks base reset passed =
-    (right_length (length marks) (length marks) (shown (marks_tests (length marks) marks base reset) (sym passed)).0).few
+    (right_length (length marks) (length marks) (shown (marks_tests (length marks) marks base reset)
+    (sym passed)).0).few
 
 pub returns-in-Failed : goal.returns-in-Failed
 returns-in-Failed c =
@@ -34,10 +35,18 @@ returns-in-Failed c =
     record { answer = said.0; page = said.1 }
 
 pub overflow_cast-length : goal.overflow_cast-length
-overflow_cast-length c = omega (arith, few_marks c.args.marks.now c.args.base c.args.reset (sym c.in_default.is ∙ c.test_marks-tested.ensures))
+overflow_cast-length c = omega (
+  arith,
+  few_marks c.args.marks.now c.args.base c.args.reset
+      (sym c.in_default.is ∙ c.test_marks-tested.ensures),
+)
 
 pub lines_size-requires : goal.lines_size-requires
-lines_size-requires c = omega (arith, few_marks c.args.marks.now c.args.base c.args.reset (sym c.in_default.is ∙ c.test_marks-tested.ensures))
+lines_size-requires c = omega (
+  arith,
+  few_marks c.args.marks.now c.args.base c.args.reset
+      (sym c.in_default.is ∙ c.test_marks-tested.ensures),
+)
 
 pub overflow_add-size : goal.overflow_add-size
 overflow_add-size c =
@@ -71,7 +80,12 @@ put_lines-requires c =
     c.lines_size.result c.header_size-first.ensures c.lines_size.ensures room
     c.put_header.ensures in (
       rw (← c.lines_size.ensures c.first_address.result) (part_room c.lines_size.result front room),
-      omega (arith, few_marks c.args.marks.now c.args.base c.args.reset (sym c.in_default.is ∙ c.test_marks-tested.ensures), c.first_address.ensures.1),
+      omega (
+        arith,
+        few_marks c.args.marks.now c.args.base c.args.reset
+            (sym c.in_default.is ∙ c.test_marks-tested.ensures),
+        c.first_address.ensures.1,
+      ),
     )
 
 pub returns : goal.returns
