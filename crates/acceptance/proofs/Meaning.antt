@@ -203,7 +203,8 @@ offset_range image marks base reset at why (Breaks.wrong_start l b f r at' why' 
     omega (arith, few_marks image marks l)
 
 pub tests_small : (image marks : List ℕ) (base reset : ℕ) (why : Refusal)
-    → first_refusal (marks_tests (length image) marks base reset) ≡ TestResult.Failed why → offset_of marks why < bank_size
+    → first_refusal (marks_tests (length image) marks base reset) ≡ TestResult.Failed why → offset_of marks why <
+    bank_size
 tests_small image marks base reset why e =
     offset_range image marks base reset _ why
     (tests_break image marks base reset why (shown (marks_tests (length image) marks base reset) e))

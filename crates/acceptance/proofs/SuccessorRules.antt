@@ -70,9 +70,11 @@ unfolding mark_of_routine mark_on_return
 owed_call marks base kind mark next target there into after = record {
   returning_m = return_m there;
   returning_x = return_x there;
-  into = met_with marks base target (mark_m mark) (mark_x mark) (kind_number kind) (return_m there) (return_x there) into
+  into = met_with marks base target (mark_m mark) (mark_x mark) (kind_number kind) (return_m there) (return_x there)
+      into
       (omega arith) (omega arith) (kind_bits kind) (omega arith) (omega arith);
-  behind = met_with marks base next (return_m there) (return_x there) (mark_kind mark) (return_m mark) (return_x mark) after
+  behind = met_with marks base next (return_m there) (return_x there) (mark_kind mark) (return_m mark) (return_x mark)
+      after
       (omega arith) (omega arith) (omega arith) (omega arith) (omega arith);
 }
 

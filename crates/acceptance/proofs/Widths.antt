@@ -54,7 +54,8 @@ made_start m x kind rm rx = eq-eqb (mark_of m x kind rm rx % 2) 1 (omega arith)
 pub after_start : (effect : WidthEffect) (operand mark : ℕ) → is_start (mark_after effect operand mark) ≡ true
 unfolding mark_after
 after_start effect operand mark =
-    made_start (m_after effect (mark_m mark) operand) (x_after effect (mark_x mark) operand) (mark_kind mark) (return_m mark)
+    made_start (m_after effect (mark_m mark) operand) (x_after effect (mark_x mark) operand) (mark_kind mark)
+    (return_m mark)
     (return_x mark)
 
 pub on_return_start : (mark there : ℕ) → is_start (mark_on_return mark there) ≡ true

@@ -1,5 +1,6 @@
 -- 01, 'Rules of acceptance': the rules of successors, calls and returns in the fields of marks, as the paper words
--- them. What a start owes as a value (`owed_by`) is one way to say them; that it says these: proofs/SuccessorRules.antt.
+-- them. What a start owes as a value (`owed_by`) is one way to say them; that it says these:
+-- proofs/SuccessorRules.antt.
 -- Assumes nothing.
 use Rattle.std.specs.Prelude.{◌≡◌, true, List, ℕ, ◌+◌, ◌<◌, length, get_or}
 use Rattle.types.specs.declared.code.Kind.{Kind}

@@ -75,7 +75,8 @@ module _ (mode : Mode) (short : Bool) (operand next : ℕ) (d : Data) (file : Li
   by_action Action.Move choice to = putting file to (word_of v file choice) (status file)
   by_action Action.Store choice to = storing file short d.address (value choice)
   by_action Action.Push choice to = pushes short (value choice) (registers_of file)
-  by_action Action.Pull choice to = pulling file to short (merged n (get_or file to 0) v) (with_result n v (status file))
+  by_action Action.Pull choice to = pulling file to short (merged n (get_or file to 0) v)
+      (with_result n v (status file))
   by_action Action.PullWhole choice to =
       pulling file to short v (pick (eqb choice 1) (with_result n v (status file)) (status file))
   by_action Action.Add choice to = combining file to short 0 v
@@ -91,7 +92,8 @@ module _ (mode : Mode) (short : Bool) (operand next : ℕ) (d : Data) (file : Li
   by_action Action.Swap choice to = swapping file short
   by_action Action.ChangeBits choice to = storing file short d.address (with_bits (eqb to 1) n behind v)
   by_action Action.ChangeFlags choice to = leaving file (with_flags (eqb to 1) (mask_of v choice) (status file))
-  by_action Action.Branch choice to = branching file (is_wanted (eqb to 1) (is_set (2 ^ (choice % 8)) (get_or file 7 0)))
+  by_action Action.Branch choice to = branching file
+      (is_wanted (eqb to 1) (is_set (2 ^ (choice % 8)) (get_or file 7 0)))
   by_action Action.BranchBits choice to = branching file (eqb (other_bits (eqb to 1) n behind v) 0)
   by_action Action.Transfer choice to = transferring file to short (get_or file (choice % 8) 0) (status file)
 

@@ -2,12 +2,9 @@
 -- Assumes nothing.
 use mathlib.Core.Path.{◌≡◌, refl, sym, ap, ◌∙◌}
 use mathlib.Core.Bool.{Bool, true, false}
-use mathlib.Core.List.{[], ◌∷◌}
-use mathlib.Core.Logic.{⊎_elim}
+use mathlib.Core.Logic.{◌⊎◌, ⊎_elim}
 use Prim.Native.Nat.{ℕ, ◌≤◌, ◌<◌}
 use native.Mathlib.Omega.{arith}
-use denote.Enum.Declared.{tag_of}
-use types.Run.{OneOf}
 use Rattle.addressing.specs.declared.reach.AddressRead.{AddressRead}
 use Rattle.addressing.specs.declared.reach.DataRead.{DataRead}
 use Rattle.addressing.specs.Found.{address_read, data_read, alone_of, is_address, residence_by, reached_by, found_at}
@@ -25,7 +22,6 @@ use Rattle.semantics.specs.Memory.{read_data}
 use Rattle.anywidth.specs.AnyWidth.{size, low}
 use Rattle.semantics.specs.Addressing.{bits, data_at, address_of, operand_place_of, operand_by, data_of}
 use Rattle.types.specs.declared.machine.Data.{Data}
-use Rattle.types.specs.contracts.machine.OperandUse.{the_type}
 use Rattle.semantics.proofs.Memory.{on_done, evaluate_bind, after_done, after_unmapped}
 
 most : (short : Bool) → size (bits short) ≤ 65_536
@@ -90,7 +86,8 @@ module _ (m : Memory) (act : Act ℕ) (short : Bool) (a : AddressRead) (e : a �
   alone_nowhere : a ≡ AddressRead.Unmapped → DataRead.Unmapped ≡ data_read (evaluate m (act >>= itself))
   alone_nowhere e' = ap data_read (sym (after_unmapped m act itself (address_unmapped (evaluate m act) a e e')))
 
-  alone_found : (at : ℕ) → a ≡ AddressRead.At at → DataRead.Found (data_at at 0) ≡ data_read (evaluate m (act >>= itself))
+  alone_found : (at : ℕ) → a ≡ AddressRead.At at → DataRead.Found (data_at at 0) ≡ data_read
+      (evaluate m (act >>= itself))
   alone_found at e' = ap data_read (sym (after_done m act itself at (address_done (evaluate m act) a at e e')))
 
   there_nowhere : a ≡ AddressRead.Unmapped → DataRead.Unmapped ≡ data_read (evaluate m (act >>= then))
@@ -139,9 +136,6 @@ module _ (m : Memory) (mode : Mode) (r : Registers) (short : Bool) (operand : �
       data-missing true t e'' = cc
       data-missing false t e'' = there-missing m act short a e at e' w read e''
 
-past_keys : (tag : ℕ) → 2 < tag → OneOf (0 ∷ 1 ∷ 2 ∷ []) tag → ⊥
-past_keys tag past h = ⊎_elim (λ e. omega arith) (λ h'. ⊎_elim (λ e. omega arith) (λ e. omega arith) h') h
-
 -- what is asked of the mode's data, where the code looks for it
 module _ (mode : Mode) (register : Named) (r : Registers) (short : Bool) (operand : ℕ) where
   operand_found : (place : OperandPlace)
@@ -151,15 +145,16 @@ module _ (mode : Mode) (register : Named) (r : Registers) (short : Bool) (operan
   operand_found OperandPlace.Instruction = refl
   operand_found OperandPlace.Register = refl
 
-  pub asked : (access : OperandUse) → OneOf (0 ∷ 1 ∷ 2 ∷ []) (tag_of the_type access)
+  pub asked : (access : OperandUse)
+      → access ≡ OperandUse.Operand ⊎ (access ≡ OperandUse.Addend ⊎ access ≡ OperandUse.Address)
       → data_of access mode register r short operand
       ≡ found_at (residence_by (is_address access) mode) (is_address access) mode register r short operand
   unfolding data_of
   asked OperandUse.Operand h = operand_found (operand_place_of mode)
   asked OperandUse.Addend h = operand_found (operand_place_of mode)
   asked OperandUse.Address h = refl
-  asked OperandUse.Pull h = absurd (past_keys 3 (omega arith) h)
-  asked OperandUse.DirectWord h = absurd (past_keys 4 (omega arith) h)
+  asked OperandUse.Pull h = ⊎_elim (λ e. cc) (λ h'. ⊎_elim (λ e. cc) (λ e. cc) h') h
+  asked OperandUse.DirectWord h = ⊎_elim (λ e. cc) (λ h'. ⊎_elim (λ e. cc) (λ e. cc) h') h
 
 -- data alone, as its action comes to it
 pub value_only : (m : Memory) (act : Act ℕ)

@@ -22,8 +22,10 @@ use Rattle.marklist.proofs.Reading.{nothing_left}
 use Rattle.acceptance.specs.Image.{start_count}
 use Rattle.acceptance.specs.Verdict.{start_at, verdict}
 use Rattle.lists.specs.MarkList.{digits_by, first_address, marks_shown, lines_left}
-use Rattle.lists.specs.Routines.{has_old_lines, routine_digits, first_routine, routine_marks, routines_inside, routine_limit}
-use Rattle.lists.specs.Routines.{routines_fit, StandsIn, Plain, stands_in, stray_at, all_are_listed, accepted_by, is_admitted}
+use Rattle.lists.specs.Routines.{has_old_lines, routine_digits, first_routine, routine_marks, routines_inside}
+use Rattle.lists.specs.Routines.{routine_limit}
+use Rattle.lists.specs.Routines.{routines_fit, StandsIn, Plain, stands_in, stray_at, all_are_listed, accepted_by}
+use Rattle.lists.specs.Routines.{is_admitted}
 use Rattle.lists.specs.Routines.{form_tests, built, marks_built, WithinLimits}
 use Rattle.acceptance.proofs.Image.{RightLength, right_length, base_whole}
 use Rattle.lists.proofs.MarkList.{formed_mark, all_formed_lem, length_shown}
@@ -164,7 +166,8 @@ module _ (base n : ℕ) (text : List ℕ) where
   unfolding routine_marks
   table_plain at none = by (ltb at n) refl
     where
-      formed : (get_or table at 0 ≡ 0) ⊎ ((start_at table at ≡ true) × (get_or table at 0 < 128)) → get_or table at 0 ≡ 0
+      formed : (get_or table at 0 ≡ 0) ⊎ ((start_at table at ≡ true) × (get_or table at 0 < 128)) → get_or table at 0 ≡
+          0
       formed (inl e) = e
       formed (inr s) = absurd (true≢false (sym s.0 ∙ none))
 

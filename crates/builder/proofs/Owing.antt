@@ -14,7 +14,8 @@ use Rattle.decoder.proofs.Layouts.{decoded_layout}
 use Rattle.instructions.specs.Decode.{decode}
 use Rattle.acceptance.specs.Image.{mark_m, mark_x, mark_at}
 use Rattle.instructions.specs.Successors.{next_address, target_address}
-use Rattle.acceptance.specs.Rules.{mark_after, mark_of_routine, mark_on_return, instruction_at, owed_by, owed_at, owed_there}
+use Rattle.acceptance.specs.Rules.{mark_after, mark_of_routine, mark_on_return, instruction_at, owed_by, owed_at}
+use Rattle.acceptance.specs.Rules.{owed_there}
 use Rattle.builder.specs.Order.{put, put_owed, owed_of, owed_behind}
 
 -- ---- by the flow

@@ -53,7 +53,8 @@ module _ (marks : List ℕ) (base address mark : ℕ) where
   pub put_kept : StandsIn marks (put marks base address mark)
   put_kept at s = by (is_free_at marks base address) refl
     where
-      by : (b : Bool) → is_free_at marks base address ≡ b → get_or (put marks base address mark) at 0 ≡ get_or marks at 0
+      by : (b : Bool) → is_free_at marks base address ≡ b → get_or (put marks base address mark) at 0 ≡ get_or marks at
+          0
       by true e =
           rw (put_free marks base address mark e)
           (get_or-set_other marks place at mark 0

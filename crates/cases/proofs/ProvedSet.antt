@@ -21,24 +21,31 @@ use Rattle.instructions.specs.CodeMap.{entry_at}
 use Rattle.instructions.specs.Decode.{judged, decode_on, decode}
 use Rattle.acceptance.specs.Image.{is_formed, length_fits, base_fits, mark_at, reset_fits}
 use Rattle.instructions.specs.Successors.{target_of, m_after, x_after}
-use Rattle.acceptance.specs.Rules.{mark_of_routine, mark_on_return, mark_after, owed_by, owed_at, returns_by, return_fits}
+use Rattle.acceptance.specs.Rules.{mark_of_routine, mark_on_return, mark_after, owed_by, owed_at, returns_by}
+use Rattle.acceptance.specs.Rules.{return_fits}
 use Rattle.types.specs.Refusals.{first_refusal}
 use Rattle.prelude.specs.First.{first_from}
-use Rattle.acceptance.specs.Verdict.{is_clear, is_start_at, all_starts, has_mark_at, all_marks, decoded_result, start_result}
+use Rattle.acceptance.specs.Verdict.{is_clear, is_start_at, all_starts, has_mark_at, all_marks, decoded_result}
+use Rattle.acceptance.specs.Verdict.{start_result}
 use Rattle.acceptance.specs.Verdict.{bad_mark, bad_start, starts_verdict, verdict}
 use Rattle.text.specs.Digits.{digit, digits, digit_value, value, digit_count}
 use Rattle.text.specs.Text.{starts_with}
-use Rattle.lists.specs.MarkList.{header_text, kind_letter, fields, length_digits_shown, is_old, header_shown, list_base_fits}
-use Rattle.lists.specs.MarkList.{is_header, bit_shown, kind_shown, fields_mark, is_line, mark_shown, line_size, marks_shown}
-use Rattle.lists.specs.MarkList.{lines_left, lines_text, marks_of, left_of, is_list, read_as, read_list, marks_by, marks_read}
+use Rattle.lists.specs.MarkList.{header_text, kind_letter, fields, length_digits_shown, is_old, header_shown}
+use Rattle.lists.specs.MarkList.{list_base_fits}
+use Rattle.lists.specs.MarkList.{is_header, bit_shown, kind_shown, fields_mark, is_line, mark_shown, line_size}
+use Rattle.lists.specs.MarkList.{marks_shown}
+use Rattle.lists.specs.MarkList.{lines_left, lines_text, marks_of, left_of, is_list, read_as, read_list, marks_by}
+use Rattle.lists.specs.MarkList.{marks_read}
 use Rattle.prelude.specs.Choice.{bit}
 use Rattle.semantics.specs.Memory.{Memory, memory, byte_at, served_at}
 use Rattle.semantics.specs.Addressing.{operand_by, data_of}
 use Rattle.semantics.specs.Effects.{effect_of}
-use Rattle.semantics.specs.Step.{call_limit, call_record, bytes_from, operates, calls_within, returns_to, plan_by_within}
+use Rattle.semantics.specs.Step.{call_limit, call_record, bytes_from, operates, calls_within, returns_to}
+use Rattle.semantics.specs.Step.{plan_by_within}
 use Rattle.semantics.specs.Step.{stepped, step_within, step}
 use Rattle.types.specs.Runs.{step_limit}
-use Rattle.execution.specs.Run.{level_limit, history_within, ram_fits, calls_fit, state_fits_within, state_fits, admission}
+use Rattle.execution.specs.Run.{level_limit, history_within, ram_fits, calls_fit, state_fits_within, state_fits}
+use Rattle.execution.specs.Run.{admission}
 use Rattle.execution.specs.Run.{executed, ran}
 use Rattle.execution.specs.StateBytes.{core_of}
 use Rattle.prelude.specs.Lists.{Every}
@@ -54,14 +61,18 @@ use Rattle.cases.proofs.Returning.{goes_by, stops_by, returning}
 -- what unfolds this computes with the definitions that the cases reach
 computed : Unit {0}
 unfolding plain pages entry_at judged decode_on decode is_formed length_fits base_fits mark_at reset_fits
-    target_of m_after x_after mark_of_routine mark_on_return mark_after owed_by owed_at returns_by return_fits first_from is_clear
+    target_of m_after x_after mark_of_routine mark_on_return mark_after owed_by owed_at returns_by return_fits
+    first_from is_clear
     is_start_at all_starts has_mark_at all_marks decoded_result start_result bad_mark bad_start first_refusal
     starts_verdict verdict digit digits digit_value value digit_count starts_with header_text kind_letter fields
-    length_digits_shown is_old header_shown is_header bit_shown kind_shown fields_mark is_line mark_shown line_size marks_shown
+    length_digits_shown is_old header_shown is_header bit_shown kind_shown fields_mark is_line mark_shown line_size
+    marks_shown
     lines_left
-    lines_text marks_of left_of is_list list_base_fits read_as read_list marks_by marks_read byte_at served_at operand_by data_of
+    lines_text marks_of left_of is_list list_base_fits read_as read_list marks_by marks_read byte_at served_at
+    operand_by data_of
     effect_of
-    bytes_from operates calls_within returns_to plan_by_within step_within history_within ram_fits calls_fit state_fits_within
+    bytes_from operates calls_within returns_to plan_by_within step_within history_within ram_fits calls_fit
+    state_fits_within
 computed = tt
 
 -- ---- from what computes to what is claimed

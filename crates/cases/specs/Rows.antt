@@ -18,7 +18,8 @@ use Rattle.lists.specs.MarkList.{read_list, marks_read, write_list, page_written
 use Rattle.semantics.specs.Memory.{Memory, memory}
 use Rattle.semantics.specs.Step.{call_limit}
 use Rattle.types.specs.Runs.{step_limit, end_number}
-use Rattle.execution.specs.Run.{history, completed_steps, calls_among, end_of, state_left, ram_left, ram_fits, calls_fit}
+use Rattle.execution.specs.Run.{history, completed_steps, calls_among, end_of, state_left, ram_left, ram_fits}
+use Rattle.execution.specs.Run.{calls_fit}
 use Rattle.execution.specs.Run.{state_fits, Ran, ran}
 use Rattle.prelude.specs.Lists.{Every}
 

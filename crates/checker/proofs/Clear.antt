@@ -1,6 +1,7 @@
 -- Marks whose number is below 256 are 00 behind the first: none of them is a start, and the instruction is clear.
 -- Assumes nothing.
-use Rattle.std.proofs.Common.{◌≡◌, ℕ, zero, suc, ◌+◌, ◌-◌, ◌*◌, ◌<◌, ◌≤◌, true, false, ◌&&◌, ltb, leb, List, [], ◌∷◌, length, get_or, take, drop, sym, refl, arith, get_or-drop, ltb-true, eq-eqb}
+use Rattle.std.proofs.Common.{◌≡◌, ℕ, zero, suc, ◌+◌, ◌-◌, ◌*◌, ◌<◌, ◌≤◌, true, false, ◌&&◌, ltb, leb, List, [], ◌∷◌}
+use Rattle.std.proofs.Common.{length, get_or, take, drop, sym, refl, arith, get_or-drop, ltb-true, eq-eqb}
 use Rattle.fields.specs.Fields.{number}
 use Rattle.prelude.specs.First.{first_from}
 use Rattle.acceptance.specs.Verdict.{start_at, is_clear}

@@ -1,7 +1,8 @@
 -- Where the check takes a shorter way than the definition, both give the same: one comparison for the mark at an
 -- address, kept widths without the operand, 9 before 8, and 10 only where nothing is owed.
 -- Assumes nothing.
-use Rattle.std.proofs.Common.{◌≡◌, ℕ, ◌+◌, ◌-◌, ◌*◌, ◌/◌, ◌%◌, ◌<◌, ◌≤◌, Bool, true, false, eqb, leb, List, [], ◌∷◌, ◌++◌, length, get_or, refl, arith, eqb-true, leb-false, leb-true}
+use Rattle.std.proofs.Common.{◌≡◌, ℕ, ◌+◌, ◌-◌, ◌*◌, ◌/◌, ◌%◌, ◌<◌, ◌≤◌, Bool, true, false, eqb, leb, List, [], ◌∷◌}
+use Rattle.std.proofs.Common.{◌++◌, length, get_or, refl, arith, eqb-true, leb-false, leb-true}
 use lib.ListN.{get_or-eq_default}
 use Rattle.codepages.specs.Packing.{unpacked}
 use Rattle.codepages.proofs.Unpacked.{kept_effect}

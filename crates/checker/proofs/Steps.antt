@@ -1,7 +1,8 @@
 -- A place that breaks no rule lets the search go on behind its instruction: no start stands on the later bytes, and a
 -- place without a start breaks no rule. A step has 1 to 6 bytes.
 -- Assumes nothing.
-use Rattle.std.proofs.Common.{◌≡◌, ℕ, ◌+◌, ◌<◌, ◌≤◌, Bool, true, false, ltb, List, get_or, drop, refl, arith, ltb-false, ltb-true}
+use Rattle.std.proofs.Common.{◌≡◌, ℕ, ◌+◌, ◌<◌, ◌≤◌, Bool, true, false, ltb, List, get_or, drop, refl, arith, ltb-false}
+use Rattle.std.proofs.Common.{ltb-true}
 use Rattle.types.specs.declared.code.Decoded.{Decoded}
 use Rattle.types.specs.declared.refusals.TestResult.{TestResult}
 use Rattle.prelude.specs.Choice.{pick}
@@ -66,7 +67,8 @@ module _ (image marks : List ℕ) (base at : ℕ) where
   unfolding bytes_at
   stepped h p = by (start_at marks at) refl
     where
-      by : (b : Bool) → start_at marks at ≡ b → Passed broken 0 (at + pick b (length_of (decoded_here image marks at)) 1)
+      by : (b : Bool) → start_at marks at ≡ b → Passed broken 0
+          (at + pick b (length_of (decoded_here image marks at)) 1)
       by true e = over (start_rules image marks base at e h) h p
       by false e = one_more_passed broken 0 at p (not_broken h)
 

@@ -1,6 +1,7 @@
 -- The register file as the registers that it holds.
 -- Assumes nothing.
-use Rattle.std.proofs.Common.{◌≡◌, ℕ, zero, suc, ◌<◌, List, [], ◌∷◌, length, set, refl, ap, ◌∙◌, ap₂, mod-eq_of_lt, arith, length-set}
+use Rattle.std.proofs.Common.{◌≡◌, ℕ, zero, suc, ◌<◌, List, [], ◌∷◌, length, set, refl, ap, ◌∙◌, ap₂, mod-eq_of_lt}
+use Rattle.std.proofs.Common.{arith, length-set}
 use Rattle.types.specs.declared.machine.Registers.{Registers}
 use Rattle.semantics.specs.Arithmetic.{registers, with_status}
 use Rattle.types.specs.Status.{number_of, status_of}

@@ -1,7 +1,8 @@
 -- The status register's number with the flags of a mask set or cleared: each flag of an and, an or and an exclusive or
 -- is worked out from the two numbers' own, and m and x are not in 207.
 -- Assumes nothing.
-use Rattle.std.proofs.Common.{◌≡◌, ℕ, zero, suc, ◌/◌, ◌%◌, ◌^◌, ◌<◌, ◌≤◌, Bool, true, false, not, ◌&&◌, ◌||◌, eqb, refl, ap, ◌∙◌, mod-lt, arith}
+use Rattle.std.proofs.Common.{◌≡◌, ℕ, zero, suc, ◌/◌, ◌%◌, ◌^◌, ◌<◌, ◌≤◌, Bool, true, false, not, ◌&&◌, ◌||◌, eqb, refl}
+use Rattle.std.proofs.Common.{ap, ◌∙◌, mod-lt, arith}
 use lib.Bits.{bit_and, bit_or, bit_xor, and_shr, or_shr, xor_shr}
 use lib.Bits.{and_mod, or_mod, xor_mod, and_le_l, or_zero_l, xor_zero_l}
 use Rattle.semantics.specs.Arithmetic.{with_flags_set, with_flags_cleared}

@@ -1,7 +1,8 @@
 -- What operations do, over the file: each row stands for operations that differ in their registers, or in what they
 -- work out, alone. `to` is the place of the register that is put, n the number of bits of the data.
 -- Assumes nothing.
-use Rattle.std.specs.Prelude.{ℕ, ◌+◌, Bool, true, false, List, [], ◌∷◌, bit_and, bit_or, bit_xor, slice_index, slice_index_or}
+use Rattle.std.specs.Prelude.{ℕ, ◌+◌, Bool, true, false, List, [], ◌∷◌, bit_and, bit_or, bit_xor, slice_index}
+use Rattle.std.specs.Prelude.{slice_index_or}
 use Rattle.types.specs.declared.machine.Status.{Status}
 use Rattle.types.specs.declared.machine.OperandPlace.{OperandPlace}
 use Rattle.anywidth.specs.AnyWidth.{low, merged, is_negative, sum, difference, is_past, decremented, shifted_left}

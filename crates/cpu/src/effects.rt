@@ -129,7 +129,8 @@ pub fn branches_if(taken: bool, status: u16) -> Effect
 
 // Data into memory, and the status.
 pub fn stores_to(short: bool, address: u32, v: u64, status: u16) -> Effect
-    ensures { (result ≡ code_effect 7 0 7 0 status result.stores false) × (listed result.stores ≡ spec.stores_of short address v) }
+    ensures { (result ≡ code_effect 7 0 7 0 status result.stores false) ×
+        (listed result.stores ≡ spec.stores_of short address v) }
 {
     Effect {
         first: PS,

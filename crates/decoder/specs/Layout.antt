@@ -36,7 +36,8 @@ unfoldable pub code_on : ℕ → List ℕ → CodeRead
 code_on page bytes =
     pick (ltb (prefix_bytes page) (length bytes))
     (pick (unpacked (packed_at packed_pages page (get_or bytes (prefix_bytes page) 0))).carried
-    (CodeRead.Code (packed_at packed_pages page (get_or bytes (prefix_bytes page) 0)) (prefix_bytes page)) CodeRead.Uncarried)
+    (CodeRead.Code (packed_at packed_pages page (get_or bytes (prefix_bytes page) 0)) (prefix_bytes page))
+    CodeRead.Uncarried)
     CodeRead.Short
 
 unfoldable pub code_read : List ℕ → CodeRead

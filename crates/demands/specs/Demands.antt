@@ -7,7 +7,8 @@
 -- m7700.h take out of a result are `check_numbers`, `read_numbers`, `written_numbers` and, of a run, `numbers`
 -- (packing/specs/Packed.antt). Every other notion is document 01's, in the crates of definitions: of `acceptance`
 -- `Accepts` (Rules), `verdict` (Verdict), what a number means, `Breaks` (Meaning), and what it is to answer by the
--- first ground that holds (Grounds); of `lists` `read_list`, `write_list` (MarkList) and their grounds (ListGrounds); of
+-- first ground that holds (Grounds); of `lists` `read_list`, `write_list` (MarkList) and their grounds (ListGrounds);
+-- of
 -- `semantics` `step` (Step); of `execution` `ran_bytes` (RunBytes), the grounds of a run (RunGrounds), histories and
 -- lists of runs (Run), `Safe` and `Begins` (Guarantee).
 -- Assumes nothing.
@@ -27,7 +28,8 @@ use Rattle.execution.specs.RunGrounds.{WrongBytes, run_grounds}
 use Rattle.lists.specs.ListGrounds.{read_grounds, write_grounds}
 use Rattle.semantics.specs.Memory.{memory}
 use Rattle.semantics.specs.Step.{step, is_completed}
-use Rattle.execution.specs.Run.{Event, end_of, completed_steps, calls_among, state_left, ram_left, one_step, Run, runs_from}
+use Rattle.execution.specs.Run.{Event, end_of, completed_steps, calls_among, state_left, ram_left, one_step, Run}
+use Rattle.execution.specs.Run.{runs_from}
 use Rattle.execution.specs.Run.{joined_history}
 use Rattle.execution.specs.StateBytes.{state_size, state_of, state_bytes}
 use Rattle.execution.specs.RunBytes.{ran_bytes}
@@ -84,7 +86,8 @@ pub record RefusedCheck (c : CheckCall) : Type 0 where
 -- its calls ..; it leaves the state and RAM as they are after the last completed step, or as given if there is none.'
 pub record ByHistory (c : RunCall) : Type 0 where
   pub answer : numbers c
-      ≡ answer_numbers (RunAnswer.Ended (end_of (history_of c)) (completed_steps (history_of c)) (calls_among (history_of c)))
+      ≡ answer_numbers (RunAnswer.Ended (end_of (history_of c)) (completed_steps (history_of c))
+          (calls_among (history_of c)))
   pub state : c.left_state ≡ state_bytes (state_left (state_given c) (history_of c))
   pub ram : c.left_ram ≡ ram_left (holds c.ram) (history_of c)
 

@@ -3,8 +3,10 @@
 -- proofs/Building.antt, of R-7 in proofs/Widening.antt, and of our own request (docs/requests/explain.md) in
 -- proofs/Explaining.antt.
 -- Assumes nothing.
-use Rattle.std.specs.Prelude.{◌≡◌, true, ◌↔◌, ℕ, ◌+◌, ◌*◌, ◌≤◌, ◌<◌, List, [], ◌∷◌, ◌++◌, map, length, get_or, take, drop}
-use Rattle.packing.specs.Packed.{check_numbers, read_numbers, written_numbers, printed_numbers, located_numbers, built_number}
+use Rattle.std.specs.Prelude.{◌≡◌, true, ◌↔◌, ℕ, ◌+◌, ◌*◌, ◌≤◌, ◌<◌, List, [], ◌∷◌, ◌++◌, map, length, get_or, take}
+use Rattle.std.specs.Prelude.{drop}
+use Rattle.packing.specs.Packed.{check_numbers, read_numbers, written_numbers, printed_numbers, located_numbers}
+use Rattle.packing.specs.Packed.{built_number}
 use Rattle.types.specs.declared.code.Instruction.{Instruction}
 use Rattle.types.specs.Refusals.{refusal_number}
 use Rattle.text.specs.Digits.{value}

@@ -257,7 +257,8 @@ module _ (fewer limit : ℕ) (most : fewer ≤ limit) (more : List ℕ) where
     admitted-same (TestResult.Failed why) none = (refl, h)
 
     module _ (none : Shallow m (run_history_within limit m (extended more s) asked)) where
-      events-same : SameEvents s (run_history_within limit m (extended more s) asked) (run_history_within fewer m s asked)
+      events-same : SameEvents s (run_history_within limit m (extended more s) asked)
+          (run_history_within fewer m s asked)
       events-same =
           rw admission-same (admitted-same (admission_within fewer m s asked) (rw admission-same at none))
 

@@ -35,17 +35,22 @@ use Rattle.types.specs.Addresses.{bank_size, address_limit}
 use Rattle.acceptance.specs.Image.{is_start, mark_m, mark_x, mark_kind, return_m, return_x, mark_at}
 use Rattle.instructions.specs.Decode.{page_of, decode}
 use Rattle.instructions.specs.Successors.{next_address, m_after, x_after, kind_number}
-use Rattle.acceptance.specs.Rules.{requirement, mark_of_routine, mark_on_return, mark_after, owed_by, owed_at, returns_by}
+use Rattle.acceptance.specs.Rules.{requirement, mark_of_routine, mark_on_return, mark_after, owed_by, owed_at}
+use Rattle.acceptance.specs.Rules.{returns_by}
 use Rattle.acceptance.specs.Rules.{return_fits, Met, AllMet, StartRules, Accepts}
-use Rattle.semantics.specs.Memory.{Memory, memory, in_ram, is_in_image, Outcome, done, unmapped, evaluate, served_at, and_then}
+use Rattle.semantics.specs.Memory.{Memory, memory, in_ram, is_in_image, Outcome, done, unmapped, evaluate, served_at}
+use Rattle.semantics.specs.Memory.{and_then}
 use Rattle.semantics.specs.Memory.{served}
 use Rattle.semantics.specs.Addressing.{data_of}
 use Rattle.semantics.specs.Arithmetic.{with_s}
 use Rattle.semantics.specs.Effects.{pushed_at}
-use Rattle.semantics.specs.Step.{call_limit, record_unit, call_record, return_of, kind_of, place_of, bytes_from, fetched}
+use Rattle.semantics.specs.Step.{call_limit, record_unit, call_record, return_of, kind_of, place_of, bytes_from}
+use Rattle.semantics.specs.Step.{fetched}
 use Rattle.semantics.specs.Step.{Change, change, Plan, stops, changes, on_read, is_decimal, next, target, short, access}
-use Rattle.semantics.specs.Step.{works, operates, pushes_return, return_bytes, calls, pulls_return, is_return, returns_to}
-use Rattle.semantics.specs.Step.{plan_by, last_opened, plan, depth_after, calls_after, answer_of, state_after, on_served}
+use Rattle.semantics.specs.Step.{works, operates, pushes_return, return_bytes, calls, pulls_return, is_return}
+use Rattle.semantics.specs.Step.{returns_to}
+use Rattle.semantics.specs.Step.{plan_by, last_opened, plan, depth_after, calls_after, answer_of, state_after}
+use Rattle.semantics.specs.Step.{on_served}
 use Rattle.semantics.specs.Step.{finish, step, calls_within, plan_by_within, step_within}
 use Rattle.types.specs.Runs.{stop_number}
 use Rattle.execution.specs.Run.{Event, event, with_ram, history, completed_steps, end_after, end_of, state_left}
@@ -126,7 +131,8 @@ module _ (marks : List ℕ) (base : ℕ) where
 
   -- a call opened on a chain
   chain_opened : (opened : List ℕ) (n address kind mark : ℕ) → address < record_unit → kind ≤ 3 → mark_kind mark ≡ kind
-      → is_start (there address) ≡ true → mark_m (there address) ≡ return_m mark → mark_x (there address) ≡ return_x mark
+      → is_start (there address) ≡ true → mark_m (there address) ≡ return_m mark → mark_x (there address) ≡ return_x
+      mark
       → Chain opened n (there address) → Chain (set opened n (call_record address kind)) (suc n) mark
   chain_opened opened n address kind mark h hk k s m x c = λ inside.
       let entry = call_record address kind in
@@ -291,7 +297,8 @@ module _ (marks : List ℕ) (base : ℕ) (s : State) (i : Instruction) (st : Sta
       let x = x_after i.entry.effect (mark_x mark) i.operand in
       let hm : m ≤ 1 = m_after_bit i.entry.effect (mark_m mark) i.operand (omega arith) in
       let hx : x ≤ 1 = x_after_bit i.entry.effect (mark_x mark) i.operand (omega arith) in
-      let f = fields (mark_at marks base address) m x (mark_kind mark) (return_m mark) (return_x mark) met.has_mark hm hx
+      let f = fields (mark_at marks base address) m x (mark_kind mark) (return_m mark) (return_x mark) met.has_mark hm
+      hx
       (omega arith) (omega arith) (omega arith) in
       record {
         start = met.start_there;
@@ -313,7 +320,8 @@ module _ (marks : List ℕ) (base : ℕ) (s : State) (i : Instruction) (st : Sta
       let k = kind_number kind in
       let f = fields (mark_at marks base target) (mark_m mark) (mark_x mark) k (return_m t) (return_x t) into.has_mark
       (omega arith) (omega arith) (kind_bits kind) (omega arith) (omega arith) in
-      let g = fields (mark_at marks base next) (return_m t) (return_x t) (mark_kind mark) (return_m mark) (return_x mark)
+      let g = fields (mark_at marks base next) (return_m t) (return_x t) (mark_kind mark) (return_m mark)
+      (return_x mark)
       after.has_mark (omega arith) (omega arith) (omega arith) (omega arith) (omega arith) in
       record {
         start = into.start_there;

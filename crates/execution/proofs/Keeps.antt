@@ -34,7 +34,8 @@ use Rattle.semantics.specs.Effects.{pushed_at, bytes}
 use Rattle.semantics.specs.Step.{call_limit, call_record, fetched, Change, change, Plan, stops, changes, on_read}
 use Rattle.semantics.specs.Step.{is_decimal, next, target, short, access, works, operates, pushes_return, return_bytes}
 use Rattle.semantics.specs.Step.{calls, pulls_return, is_return, returns_to, plan_by, last_opened, plan, depth_after}
-use Rattle.semantics.specs.Step.{calls_after, state_after, on_served, finish, on_decoded, step, calls_within, plan_by_within}
+use Rattle.semantics.specs.Step.{calls_after, state_after, on_served, finish, on_decoded, step, calls_within}
+use Rattle.semantics.specs.Step.{plan_by_within}
 use Rattle.semantics.specs.Step.{step_within}
 use Rattle.execution.specs.Run.{event, with_ram, history, state_left, ram_left, admission, ran, history_within}
 use Rattle.execution.specs.StateBytes.{head_size, record_size, core_of, state_of, Keeps}

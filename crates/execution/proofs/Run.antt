@@ -138,7 +138,8 @@ stopped_ends StepAnswer.Called end h e = let z : ◌≡◌ {A = ℕ} 0 1 = cc in
 stopped_ends (StepAnswer.Stopped stop) end h e = let z : ◌≡◌ {A = ℕ} 0 1 = cc in absurd (omega arith)
 
 -- where the end is 0 as many steps are completed as were asked
-pub all_asked : (m : Memory) (s : State) (n : ℕ) → end_of (history m s n) ≡ End.Done → completed_steps (history m s n) ≡ n
+pub all_asked : (m : Memory) (s : State) (n : ℕ) → end_of (history m s n) ≡ End.Done → completed_steps (history m s n)
+    ≡ n
 unfolding history_within
 all_asked m s zero = λ _. refl
 all_asked m s (suc n) =

@@ -104,6 +104,7 @@ run_bytes_answers m bytes asked =
     (run_grounds m (WrongBytes bytes) asked) tests refl (run_decided m (bytes_fit bytes) asked (wrong_bytes bytes)))
   where
     by : (so : TestResult)
-        → (ran_bytes_by so m bytes asked).answer ≡ answered so RunAnswer.NotRun (executed m (state_of bytes) asked).answer
+        → (ran_bytes_by so m bytes asked).answer ≡ answered so RunAnswer.NotRun
+        (executed m (state_of bytes) asked).answer
     by TestResult.Passed = refl
     by (TestResult.Failed why) = refl

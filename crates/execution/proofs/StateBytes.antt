@@ -95,7 +95,8 @@ one_word : (bytes : List ℕ) → parted 2 1 (drop 18 bytes) ≡ field_at 18 2 b
 unfolding parted
 one_word bytes = refl
 
-head_core : (bytes : List ℕ) → AllBytes bytes → head_size ≤ length bytes → head_of (core_of bytes) ≡ take head_size bytes
+head_core : (bytes : List ℕ) → AllBytes bytes → head_size ≤ length bytes → head_of (core_of bytes) ≡ take head_size
+    bytes
 unfolding head_of core_of
 head_core bytes small room =
     rw (

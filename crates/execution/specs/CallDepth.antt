@@ -15,7 +15,8 @@ use Rattle.types.specs.declared.code.Decoded.{Decoded}
 use Rattle.types.specs.declared.machine.State.{State}
 use Rattle.semantics.specs.Memory.{Memory, memory}
 use Rattle.semantics.specs.Step.{call_limit, fetched, Stepped}
-use Rattle.execution.specs.Run.{Event, run_history_within, Ran, ran_within, Run, runs_from_within, joined_history_within}
+use Rattle.execution.specs.Run.{Event, run_history_within, Ran, ran_within, Run, runs_from_within}
+use Rattle.execution.specs.Run.{joined_history_within}
 use Rattle.prelude.specs.Lists.{Every}
 
 -- ---- the same with further records behind

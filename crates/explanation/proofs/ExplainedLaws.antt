@@ -72,7 +72,8 @@ pub explained_by : (image text marks read page left : List ℕ) (h : Header) (n 
     → length (explanation image read h.base h.reset) ≤ line_limit
     → left ≡ page_explained image read h.base h.reset page
     → explained image read h.base h.reset page ≡ Printed.Rows n
-    → (n ≡ length (list_explanation image text)) × (left ≡ list_explanation image text ++ drop n page) × (n ≤ line_limit)
+    → (n ≡ length (list_explanation image text)) × (left ≡ list_explanation image text ++ drop n page) ×
+    (n ≤ line_limit)
 explained_by image text marks read page left h n alike e m room short kept told =
     let same : explanation image read h.base h.reset ≡ list_explanation image text =
     rw m (list_explained image text marks alike h e) in

@@ -14,7 +14,8 @@ number_more : (n : ℕ) (l : List ℕ) → number (take (suc n) l) ≡ get_or l 
 number_more n [] = rw (take-nil n) refl
 number_more n (b ∷ l) = refl
 
-field_more : (at n : ℕ) (bytes : List ℕ) → field_at at (suc n) bytes ≡ get_or bytes at 0 + 256 * field_at (at + 1) n bytes
+field_more : (at n : ℕ) (bytes : List ℕ) → field_at at (suc n) bytes ≡ get_or bytes at 0 + 256 * field_at (at + 1) n
+    bytes
 field_more at n bytes = rw (number_more n (drop at bytes), get_or-drop at bytes 0 0, add-zero at, drop-drop 1 at bytes)
 
 -- the bytes of a field from the byte i on
@@ -33,7 +34,8 @@ module _ (bytes : List ℕ) (at size value i : ℕ) (some : 0 < i) (r : Read byt
       let up : 256 ^ (size - i) ≤ 256 ^ 7 = pow-le-pow_right (omega arith) short in
       omega (arith, r.2)
 
-  pub one_more_read : (b : ℕ) → b ≡ get_or bytes (at + (i - 1)) 0 → b < 256 → Read bytes at size (value * 256 + b) (i - 1)
+  pub one_more_read : (b : ℕ) → b ≡ get_or bytes (at + (i - 1)) 0 → b < 256 → Read bytes at size (value * 256 + b)
+      (i - 1)
   one_more_read b e small =
       let more : size - (i - 1) ≡ suc (size - i) = omega (arith, r.0) in
       let on : at + (i - 1) + 1 ≡ at + i = omega arith in (

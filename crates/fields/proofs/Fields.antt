@@ -124,7 +124,8 @@ unfolding parted
 parted_none size bytes = refl
 
 -- each of the fields stands at its place
-pub parted_at : (size n k : ℕ) (bytes : List ℕ) → k < n → get_or (parted size n bytes) k 0 ≡ field_at (size * k) size bytes
+pub parted_at : (size n k : ℕ) (bytes : List ℕ) → k < n → get_or (parted size n bytes) k 0 ≡ field_at (size * k) size
+    bytes
 unfolding parted
 parted_at size zero k bytes inside = absurd (omega arith)
 parted_at size (suc n) zero bytes inside = rw (mul-zero size) refl

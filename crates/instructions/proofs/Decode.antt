@@ -43,7 +43,8 @@ pub record Passed (page : ℕ) (bytes : List ℕ) (m x : ℕ) (i : Instruction) 
 pub same_whole : (i j : Instruction) → Decoded.Whole i ≡ Decoded.Whole j → i ≡ j
 same_whole i j h = cc
 
-made : (page : ℕ) (bytes : List ℕ) (m x : ℕ) (e : Entry) (n : ℕ) → e ≡ entry_at page (get_or bytes (prefix_bytes page) 0)
+made : (page : ℕ) (bytes : List ℕ) (m x : ℕ) (e : Entry) (n : ℕ) → e ≡ entry_at page
+    (get_or bytes (prefix_bytes page) 0)
     → n ≡ length_at e m x → e.carried ≡ true → n ≤ length bytes
     → Passed page bytes m x (record { entry = e; length = n; operand = operand_of bytes (prefix_bytes page) n })
 made page bytes m x e n at_code at_widths carried inside =

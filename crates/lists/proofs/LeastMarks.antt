@@ -33,8 +33,10 @@ use Rattle.acceptance.specs.Rules.{instruction_at, Met, AllMet}
 use Rattle.instructions.specs.Successors.{target_address}
 use Rattle.acceptance.specs.Verdict.{start_at, is_start_at, all_starts, verdict}
 use Rattle.lists.specs.Routines.{routine_marks, routines_fit, StandsIn, Plain, is_listed, Admitted, Least, missing_at}
-use Rattle.lists.specs.Routines.{stands_in, flow_listed, target_listed, stray_at, all_are_listed, accepted_by, is_admitted}
-use Rattle.lists.specs.Routines.{stands_in_all, admitted_markings, has_marking, least_of, form_tests, build_tests, built}
+use Rattle.lists.specs.Routines.{stands_in, flow_listed, target_listed, stray_at, all_are_listed, accepted_by}
+use Rattle.lists.specs.Routines.{is_admitted}
+use Rattle.lists.specs.Routines.{stands_in_all, admitted_markings, has_marking, least_of, form_tests, build_tests}
+use Rattle.lists.specs.Routines.{built}
 use Rattle.lists.specs.Routines.{marks_after, marks_built, WithinLimits, RefusedExactly, DeliversLeast}
 use Rattle.types.proofs.TestResults.{shown, none_fails, failed_passed}
 use Rattle.acceptance.proofs.Verdict.{start_inside}
@@ -47,7 +49,8 @@ pub stands_tested : (marks others : List ℕ) → stands_in marks others ≡ tru
 unfolding stands_in
 stands_tested marks others h at s =
     let found = none_found (missing_at marks others) (length marks) h at (start_inside marks at s) in
-    eqb-true (get_or others at 0) (get_or marks at 0) (not-false (eqb (get_or others at 0) (get_or marks at 0)) (rw s at found))
+    eqb-true (get_or others at 0) (get_or marks at 0)
+    (not-false (eqb (get_or others at 0) (get_or marks at 0)) (rw s at found))
 
 pub tested_stands : (marks others : List ℕ) → StandsIn marks others → stands_in marks others ≡ true
 unfolding stands_in
@@ -164,9 +167,11 @@ agreed_at (mark ∷ marks) (other ∷ others) (suc at) = agreed_at marks others 
 module _ (marks others : List ℕ) where
   -- both have the mark that is agreed on
   abbrev Agree : ℕ → Type 0
-  Agree at = (get_or marks at 0 ≡ get_or (agreed marks others) at 0) × (get_or others at 0 ≡ get_or (agreed marks others) at 0)
+  Agree at = (get_or marks at 0 ≡ get_or (agreed marks others) at 0) ×
+      (get_or others at 0 ≡ get_or (agreed marks others) at 0)
 
-  agreed_same : (at : ℕ) → get_or marks at 0 ≡ get_or others at 0 → get_or (agreed marks others) at 0 ≡ get_or marks at 0
+  agreed_same : (at : ℕ) → get_or marks at 0 ≡ get_or others at 0 → get_or (agreed marks others) at 0 ≡ get_or marks at
+      0
   agreed_same at same = agreed_at marks others at ∙ rw (eq-eqb (get_or marks at 0) (get_or others at 0) same) refl
 
   -- what is agreed on at a place is the mark of both, or there is none

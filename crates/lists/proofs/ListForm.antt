@@ -106,7 +106,8 @@ unfolding header_text
 same_header count h = rw (digits_low 16 6 h.base (omega arith), digits_low 16 count h.reset (omega arith))
 
 -- the base's low digits are those of its six
-same_first : (old : Bool) (base : ℕ) → first_address (digits_by old) (base % 16 ^ 6) ≡ first_address (digits_by old) base
+same_first : (old : Bool) (base : ℕ) → first_address (digits_by old) (base % 16 ^ 6) ≡ first_address (digits_by old)
+    base
 same_first true base = omega arith
 same_first false base = omega arith
 

@@ -111,7 +111,8 @@ wrong_routines image base reset text =
     let routines = routine_marks base n text in
     of_three (routines_inside base n text) (leb (start_count routines) routine_limit)
     (has_marking image base reset routines)
-    (not_holding (routines_inside base n text) (inside_exactly base n text)) (above (start_count routines) routine_limit)
+    (not_holding (routines_inside base n text) (inside_exactly base n text))
+    (above (start_count routines) routine_limit)
     (has_none image base reset routines)
 
 same_answer : (so : TestResult) → answered so TestResult.Failed TestResult.Passed ≡ so

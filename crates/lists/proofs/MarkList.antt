@@ -155,7 +155,8 @@ shown_lines count address (suc n) text =
     let mark = mark_shown count address text in
     let rest = drop (line_size count mark) text in
     shown_line count address text ∙ ap (line_of count address mark ++◌) (shown_lines count (address + 1) n rest)
-    ∙ sym (append_assoc (line_of count address mark) (lines count (address + 1) (marks_shown count (address + 1) n rest))
+    ∙ sym (append_assoc (line_of count address mark)
+    (lines count (address + 1) (marks_shown count (address + 1) n rest))
     (lines_left count (address + 1) n rest))
 
 -- ---- the lines of marks, shown again
@@ -336,7 +337,8 @@ first_tab : (count n : ℕ) (rest : List ℕ) → count ≤ digits_of_length
 first_tab count n rest few =
     let text = digits 10 count n ++ (tab ∷ rest) in
     let here = get_or_at (digits 10 count n) tab rest 0 count (length_digits 10 count n) in
-    first_only (tab_at text) 0 digits_of_length (first_from (tab_at text) 0 digits_of_length) count (first_is (tab_at text) 0
+    first_only (tab_at text) 0 digits_of_length (first_from (tab_at text) 0 digits_of_length) count
+    (first_is (tab_at text) 0
     digits_of_length)
     (record {
       at_most = omega arith;

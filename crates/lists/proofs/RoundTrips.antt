@@ -24,7 +24,8 @@ use Rattle.acceptance.specs.Image.{start_count}
 use Rattle.acceptance.specs.Verdict.{bad_mark, unformed_at, all_formed}
 use Rattle.lists.specs.MarkList.{length_limit, new_digits, digits_by, header_text, lines, first_address, list_text}
 use Rattle.lists.specs.MarkList.{address_digits, is_old, header_shown, is_header, lines_left, lines_text, left_of}
-use Rattle.lists.specs.MarkList.{marks_shown, marks_of, is_list, list_base_fits, read_tests, read_as, read_list, marks_by}
+use Rattle.lists.specs.MarkList.{marks_shown, marks_of, is_list, list_base_fits, read_tests, read_as, read_list}
+use Rattle.lists.specs.MarkList.{marks_by}
 use Rattle.lists.specs.MarkList.{marks_read, write_tests, write_list, page_by, page_written}
 use Rattle.prelude.proofs.First.{passed_all}
 use Rattle.acceptance.proofs.Image.{right_length, base_below, base_whole, reset_inside}
@@ -167,7 +168,8 @@ module _ (marks : List ℕ) (base reset n : ℕ) (page : List ℕ)
   shows_lines : lines_text new_digits first_line list ≡ lines new_digits low marks
   unfolding list_text lines_text
   shows_lines =
-      drop_at (header_text new_digits first_line) (lines new_digits low marks) (length (header_text new_digits first_line))
+      drop_at (header_text new_digits first_line) (lines new_digits low marks)
+      (length (header_text new_digits first_line))
       refl
 
   shows_marks : (marks_shown new_digits low (length marks) (lines new_digits low marks) ≡ marks)

@@ -117,7 +117,8 @@ module _ (image : List ℕ) (base reset : ℕ) (routines : List ℕ) where
   pub admitted_plain : (others : List ℕ) → Admitted image base reset routines others → Plain others
   admitted_plain others v at none = by (ltb at (length others)) refl
     where
-      formed : (get_or others at 0 ≡ 0) ⊎ ((start_at others at ≡ true) × (get_or others at 0 < 128)) → get_or others at 0 ≡ 0
+      formed : (get_or others at 0 ≡ 0) ⊎ ((start_at others at ≡ true) × (get_or others at 0 < 128)) → get_or others at
+          0 ≡ 0
       formed (inl e) = e
       formed (inr s) = absurd (true≢false (sym s.0 ∙ none))
 

@@ -3,7 +3,8 @@
 -- among them, have one count of digits, which is the first parameter of what hangs on it (02, R-7). A list in four
 -- digits is an old one.
 -- Assumes nothing.
-use Rattle.std.specs.Prelude.{ℕ, zero, suc, ◌+◌, ◌%◌, ◌^◌, Bool, not, ◌&&◌, ◌||◌, List, [], ◌∷◌, ◌++◌, eqb, ltb, leb, length, get_or, drop}
+use Rattle.std.specs.Prelude.{ℕ, zero, suc, ◌+◌, ◌%◌, ◌^◌, Bool, not, ◌&&◌, ◌||◌, List, [], ◌∷◌, ◌++◌, eqb, ltb, leb}
+use Rattle.std.specs.Prelude.{length, get_or, drop}
 use Rattle.types.specs.declared.lists.Header.{Header}
 use Rattle.types.specs.declared.refusals.Refusal.{Refusal}
 use Rattle.types.specs.declared.lists.ListRead.{ListRead}
@@ -12,7 +13,8 @@ use Rattle.prelude.specs.Choice.{pick}
 use Rattle.text.specs.Digits.{digit, digits, value, digit_count}
 use Rattle.text.specs.Text.{starts_with}
 use Rattle.types.specs.Addresses.{bank_size, in_bank_of}
-use Rattle.acceptance.specs.Image.{is_start, mark_m, mark_x, mark_kind, return_m, return_x, mark_of, is_formed, length_fits}
+use Rattle.acceptance.specs.Image.{is_start, mark_m, mark_x, mark_kind, return_m, return_x, mark_of, is_formed}
+use Rattle.acceptance.specs.Image.{length_fits}
 use Rattle.acceptance.specs.Image.{base_fits, reset_fits}
 use Rattle.types.specs.Refusals.{Tests, first_refusal, answered}
 use Rattle.prelude.specs.First.{first_from}
@@ -126,7 +128,8 @@ kind_shown byte = pick (eqb byte 0x4E) 0 (pick (eqb byte 0x53) 1 2)
 
 unfoldable pub fields_mark : List ℕ → ℕ
 fields_mark text =
-    mark_of (bit_shown (get_or text 1 0)) (bit_shown (get_or text 3 0)) (kind_shown (get_or text 5 0)) (bit_shown (get_or text 7 0))
+    mark_of (bit_shown (get_or text 1 0)) (bit_shown (get_or text 3 0)) (kind_shown (get_or text 5 0))
+    (bit_shown (get_or text 7 0))
     (bit_shown (get_or text 9 0))
 
 -- a text begins with the line of a start at an address: with the text of the mark that it shows, which is in form

@@ -150,7 +150,8 @@ least_of markings = passing (stands_in_all markings) markings
 
 -- 14, 1 and 2; 'a wrong image, base or marks length is as in the check'
 abbrev pub form_tests : List ℕ → ℕ → ℕ → ℕ → Tests
-form_tests text image marks base = (is_routine_list text, Refusal.List) ∷ list_tests (has_old_lines text) image marks base
+form_tests text image marks base = (is_routine_list text, Refusal.List) ∷ list_tests (has_old_lines text) image marks
+    base
 
 -- 'no such marking or too many routines, after 14, 1 and 2'
 abbrev pub build_tests : List ℕ → ℕ → ℕ → List ℕ → ℕ → Tests

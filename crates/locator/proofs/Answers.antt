@@ -13,7 +13,8 @@ use Rattle.types.specs.declared.probes.Located.{Located}
 use Rattle.types.specs.Addresses.{address_limit}
 use Rattle.types.specs.Refusals.{Tests, first_refusal}
 use Rattle.acceptance.specs.Verdict.{verdict}
-use Rattle.reports.specs.Locate.{place_number, pass_over, addresses_fit, locate_tests, located_by, located, places_after}
+use Rattle.reports.specs.Locate.{place_number, pass_over, addresses_fit, locate_tests, located_by, located}
+use Rattle.reports.specs.Locate.{places_after}
 use Rattle.reports.specs.Locate.{places_located}
 use Rattle.acceptance.proofs.Image.{right_length, base_whole}
 use Rattle.reports.proofs.Locate.{passed}

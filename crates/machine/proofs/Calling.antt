@@ -30,12 +30,14 @@ use Rattle.semantics.specs.Addressing.{pulled_at}
 use Rattle.semantics.specs.Arithmetic.{with_s, with_status}
 use Rattle.semantics.specs.Effects.{pushed_at}
 use Rattle.types.specs.Addresses.{address_limit, bank_size}
-use Rattle.semantics.specs.Memory.{Memory, Act, ret, ◌>>=◌, Outcome, done, unmapped, evaluate, served, stored, word_from}
+use Rattle.semantics.specs.Memory.{Memory, Act, ret, ◌>>=◌, Outcome, done, unmapped, evaluate, served, stored}
+use Rattle.semantics.specs.Memory.{word_from}
 use Rattle.semantics.specs.Memory.{long_from}
 use Rattle.instructions.specs.Successors.{next_address, in_bank_after, target_address, kind_number}
 use Rattle.types.specs.Status.{status_of}
 use Rattle.semantics.specs.Step as spec
-use Rattle.semantics.specs.Step.{Plan, stops, changes, change, call_limit, kind_of, return_of, return_bytes, call_record}
+use Rattle.semantics.specs.Step.{Plan, stops, changes, change, call_limit, kind_of, return_of, return_bytes}
+use Rattle.semantics.specs.Step.{call_record}
 use Rattle.semantics.specs.Step.{Stepped, returns_to, plan_by, widths_after, plan_by_within}
 use Rattle.semantics.proofs.Memory.{on_done, evaluate_bind}
 use Rattle.semantics.proofs.Step.{pulls_first}
@@ -91,9 +93,11 @@ module _ (e : Effect) (v status : ℕ) (is-effect : e ≡ code_effect 4 v 7 0 st
       → status ≡ get_or file 7 0
       → after ≡ widths_after (instruction i) (registers_of file) (with_s v' (registers_of file))
   puts_s i file v' after h is-v is-status =
-      h ∙ ap (λ k. widths_after (instruction i) (registers_of file) (as_effect k (registers_of file)).registers) is-effect
+      h ∙ ap (λ k. widths_after (instruction i) (registers_of file) (as_effect k (registers_of file)).registers)
+      is-effect
       ∙ ap₂
-      (λ n p. widths_after (instruction i) (registers_of file) (with_status (status_of p) (with_s n (registers_of file))))
+      (λ n p. widths_after (instruction i) (registers_of file)
+      (with_status (status_of p) (with_s n (registers_of file))))
       is-v is-status
 
 -- the plans, case by case
@@ -206,7 +210,8 @@ module _ (i : Fetched) (m : Memory) (place depth : ℕ) (file calls : List ℕ) 
             → left (step_result StepAnswer.Called to (depth + 1)) file' (set calls depth entry) ram'
             ≡ finished (spec.calls core (instruction i) kind) i m place depth file calls
         calls-so to entry file' ram' is-to all is-entry same is-ram =
-            completes i m place depth file calls after to (CallChange.Open next (kind_number kind)) (listed stores) file'
+            completes i m place depth file calls after to (CallChange.Open next (kind_number kind)) (listed stores)
+            file'
             (set calls depth entry) ram' (sym tested ∙ all) same (ap (set calls depth) is-entry) is-ram
             ∙ opened-so to is-to
 
@@ -240,7 +245,8 @@ module _ (i : Fetched) (m : Memory) (place depth : ℕ) (file calls : List ℕ) 
         → left (step_result StepAnswer.Completed address (depth - 1)) file' calls m.ram
         ≡ finished plan i m place depth file calls
     returns-so n file' is-kind below same there e =
-        completes i m place depth file calls (with_s (pulled_at here (return_bytes kind)) here) address CallChange.Close []
+        completes i m place depth file calls (with_s (pulled_at here (return_bytes kind)) here) address
+        CallChange.Close []
         file' calls m.ram refl e refl refl
         ∙ ap (λ p. finished p i m place depth file calls)
         (returned core (instruction i) opened kind address n is-kind below same there)

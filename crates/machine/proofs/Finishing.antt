@@ -13,7 +13,8 @@ use Rattle.types.specs.declared.machine.Stop.{Stop}
 use Rattle.types.specs.declared.machine.Store.{Store}
 use Rattle.types.specs.Addresses.{address_limit, bank_size}
 use Rattle.semantics.specs.Memory.{Memory, served, stored}
-use Rattle.semantics.specs.Step.{Plan, stops, changes, change, place_of, answer_of, depth_after, calls_after, widths_after}
+use Rattle.semantics.specs.Step.{Plan, stops, changes, change, place_of, answer_of, depth_after, calls_after}
+use Rattle.semantics.specs.Step.{widths_after}
 use Rattle.semantics.specs.Step.{stepped}
 use Rattle.machine.specs.declared.commit.StepResult.{StepResult}
 use Rattle.machine.specs.declared.fetch.Fetched.{Fetched}
@@ -24,7 +25,8 @@ use Rattle.machine.specs.StepResults.{state, core_at, step_result, left, finishe
 pub place_kept : (place depth : ℕ) (file : List ℕ) → place < address_limit → place_of (core_at place depth file) ≡ place
 place_kept place depth file h = omega arith
 
-pub core_kept : (place depth : ℕ) (file : List ℕ) → core_at (place % address_limit) depth file ≡ core_at place depth file
+pub core_kept : (place depth : ℕ) (file : List ℕ) → core_at (place % address_limit) depth file ≡ core_at place depth
+    file
 core_kept place depth file =
     ap₂ (λ pc pg. record { registers = registers_of file; pc = pc; pg = pg; depth = depth }) (omega arith) (omega arith)
 

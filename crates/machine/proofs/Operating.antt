@@ -80,7 +80,8 @@ module _ (i : Fetched) (m : Memory) (place depth : ℕ) (file : List ℕ) where
     is-tested : is_decimal (operand_use_of entry.operation) r ≡ decimal
     is-tested = ap (λ a. is_decimal a r) (sym asked-so) ∙ sym tested
 
-    pub stops-decimal : decimal ≡ true → (t : StepResult) → t ≡ step_result (StepAnswer.Stopped Stop.Decimal) place depth
+    pub stops-decimal : decimal ≡ true → (t : StepResult) → t ≡ step_result (StepAnswer.Stopped Stop.Decimal) place
+        depth
         → (calls : List ℕ)
         → left t file calls m.ram ≡ finished (operates c (instruction i) m goes) i m place depth file calls
     stops-decimal h t is-result calls =

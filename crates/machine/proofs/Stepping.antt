@@ -1,16 +1,12 @@
 -- What is fetched decides the step, and its flow the plan.
 -- Assumes nothing.
 use mathlib.Core.Path.{◌≡◌, refl, sym, ap, ◌∙◌}
-use mathlib.Core.Logic.{⊎_elim}
+use mathlib.Core.Logic.{◌⊎◌, ⊎_elim}
 use mathlib.Core.Bool.{Bool}
-use mathlib.Core.List.{List, [], ◌∷◌}
+use mathlib.Core.List.{List, []}
 use Prim.Native.Nat.{ℕ, ◌-◌, ◌%◌, ◌<◌}
-use native.Mathlib.Omega.{arith}
 use lib.ListN.{get_or}
-use types.Run.{OneOf}
-use denote.Enum.Declared.{tag_of}
 use Rattle.cpu.specs.File.{registers_of}
-use Rattle.types.specs.contracts.code.Flow.{the_type}
 use Rattle.types.specs.declared.code.Kind.{Kind}
 use Rattle.types.specs.declared.code.Decoded.{Decoded}
 use Rattle.types.specs.declared.code.Flow.{Flow}
@@ -32,9 +28,6 @@ use Rattle.machine.specs.Fetches.{instruction, decoded_as, is_branch}
 use Rattle.machine.specs.StepResults.{state, core_at, step_result, left, finished, goes_on_by}
 use Rattle.machine.proofs.Finishing.{place_kept, core_kept}
 
-past_keys : (tag : ℕ) → 1 < tag → OneOf (0 ∷ 1 ∷ []) tag → ⊥
-past_keys tag past h = ⊎_elim (λ e. omega arith) (λ e. omega arith) h
-
 module _ (i : Fetched) (m : Memory) (place depth : ℕ) (file opens : List ℕ) (inside : place < address_limit) where
   abbrev c : Core
   c = core_at place depth file
@@ -51,14 +44,14 @@ module _ (i : Fetched) (m : Memory) (place depth : ℕ) (file opens : List ℕ) 
     by-plan p e e' = rw (e, e', is-flow) refl
 
     -- an operation goes on at the next address, or by its target where it branches
-    pub by-operation : OneOf (0 ∷ 1 ∷ []) (tag_of the_type flow) → (branches : Bool) → branches ≡ is_branch flow
+    pub by-operation : flow ≡ Flow.Next ⊎ flow ≡ Flow.Branch → (branches : Bool) → branches ≡ is_branch flow
         → after ≡ finished (operates c there m (goes_on_by branches i place)) i m place depth file opens
         → after ≡ on_decoded (Decoded.Whole there) m (state c opens)
     unfolding plan_by_within
     by-operation h branches e e' =
         by-plan (operates c there m (goes_on_by branches i place)) e' (by flow h branches e)
       where
-        by : (f : Flow) → OneOf (0 ∷ 1 ∷ []) (tag_of the_type f) → (b : Bool) → b ≡ is_branch f
+        by : (f : Flow) → f ≡ Flow.Next ⊎ f ≡ Flow.Branch → (b : Bool) → b ≡ is_branch f
             → operates c there m (goes_on_by b i place) ≡ plan_by c there m opened f
         by Flow.Next h b e =
             rw e
@@ -68,14 +61,15 @@ module _ (i : Fetched) (m : Memory) (place depth : ℕ) (file opens : List ℕ) 
             rw e
             (ap (λ p. operates c there m (λ taken. pick taken (target_address there p) (next_address p i.length)))
             (sym (place_kept place depth file inside)))
-        by Flow.Jump h b e = absurd (past_keys 2 (omega arith) h)
-        by (Flow.Call kind) h b e = absurd (past_keys 3 (omega arith) h)
-        by (Flow.Return kind) h b e = absurd (past_keys 4 (omega arith) h)
-        by Flow.Halt h b e = absurd (past_keys 5 (omega arith) h)
+        by Flow.Jump h b e = ⊎_elim (λ e. cc) (λ e. cc) h
+        by (Flow.Call kind) h b e = ⊎_elim (λ e. cc) (λ e. cc) h
+        by (Flow.Return kind) h b e = ⊎_elim (λ e. cc) (λ e. cc) h
+        by Flow.Halt h b e = ⊎_elim (λ e. cc) (λ e. cc) h
 
     pub by_jump : flow ≡ Flow.Jump
         → after
-        ≡ finished (changes (change (registers_of file) (target_address there place) CallChange.Keep [])) i m place depth
+        ≡ finished (changes (change (registers_of file) (target_address there place) CallChange.Keep [])) i m place
+        depth
         file opens
         → after ≡ on_decoded (Decoded.Whole there) m (state c opens)
     unfolding plan_by_within

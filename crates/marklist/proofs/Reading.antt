@@ -87,7 +87,8 @@ shown_at count address zero k text inside = absurd (omega arith)
 shown_at count address (suc n) zero text inside = rw (add-zero address)
 shown_at count address (suc n) (suc k) text inside =
     let next : address + suc k ≡ address + 1 + k = omega arith in
-    rw next (shown_at count (address + 1) n k (drop (line_size count (mark_shown count address text)) text) (omega arith))
+    rw next (shown_at count (address + 1) n k (drop (line_size count (mark_shown count address text)) text)
+    (omega arith))
 
 module _ (count : ℕ) (h : Header) (text : List ℕ) where
   pub below_base : h.reset < h.base → false ≡ reset_fits (marks_of count h text) h.base h.reset

@@ -14,7 +14,8 @@ use Rattle.types.specs.declared.refusals.TestResult.{TestResult}
 use Rattle.types.specs.declared.lists.ListWritten.{ListWritten}
 use Rattle.types.specs.Refusals.{first_refusal}
 use Rattle.acceptance.specs.Verdict.{marks_tests}
-use Rattle.lists.specs.MarkList.{new_digits, header_text, lines, first_address, list_text, write_tests, write_list, page_by}
+use Rattle.lists.specs.MarkList.{new_digits, header_text, lines, first_address, list_text, write_tests, write_list}
+use Rattle.lists.specs.MarkList.{page_by}
 use Rattle.lists.specs.MarkList.{page_written}
 use Rattle.types.proofs.TestResults.{passes, fails, holds, goes_on}
 use Rattle.text.proofs.Pages.{Front, front_next}
@@ -68,7 +69,8 @@ module _ (marks : List ℕ) (base reset : ℕ) (page : List ℕ) where
         → Front page first (header_text new_digits first_line) now
         → part ≡ lines new_digits low marks ++ drop (length (lines new_digits low marks))
         (take (length now - first) (drop first now))
-        → put_mid first (length now - first) now part ≡ list_text new_digits marks base reset ++ drop (first + count) page
+        → put_mid first (length now - first) now part ≡ list_text new_digits marks base reset ++ drop (first + count)
+        page
     unfolding list_text
     list_put low e room part front got =
         rw (← e) (front_next count (lines new_digits low marks) part front (rw (← l low) at got) (sym (l low)) room

@@ -118,7 +118,8 @@ module _ (table : List ℕ) where
   unfolding Tasked unpacked
   tasked first second unnamed byA byB n = at (n / 4096 % 4) (n % 128) (omega arith)
     where
-      at : (a k : ℕ) → a < 4 → Does (get_or accumulators a Accumulator.Unnamed) (get_or operations k Operation.Unassigned)
+      at : (a k : ℕ) → a < 4 → Does (get_or accumulators a Accumulator.Unnamed)
+          (get_or operations k Operation.Unassigned)
           (part (pick (eqb a 2) 1 0) (get_or table k 0))
       at zero k h = does Accumulator.Unnamed 0 refl first unnamed k
       at (suc zero) k h = does Accumulator.A 0 refl first byA k

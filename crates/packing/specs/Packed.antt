@@ -103,7 +103,8 @@ pub record PrintedNumbers : Type 0 where
   pub length : ℕ
 
 abbrev pub page_printed_numbers : Printed → PrintedNumbers
-page_printed_numbers (Printed.NotPrinted why offset) = record { number = refusal_number why; offset = offset; length = 0 }
+page_printed_numbers (Printed.NotPrinted why offset) = record
+    { number = refusal_number why; offset = offset; length = 0 }
 page_printed_numbers (Printed.Rows n) = record { number = 0; offset = 0; length = n }
 
 -- the check's refusal as the printer gives it, of the numbers in the check's result

@@ -70,7 +70,8 @@ module _ (bytes given page : List ℕ) (k : ℕ) (room : 18 ≤ length given) (i
     next-cell shown part e got =
         let place : (k + 1) * 3 ≡ k * 3 + 3 = omega arith in
         rw place
-        (next-piece (cell bytes) cell_count given page (k * 3) k room-for-all inside p 3 part (sym (length_cell bytes k))
+        (next-piece (cell bytes) cell_count given page (k * 3) k room-for-all inside p 3 part
+        (sym (length_cell bytes k))
         (rw (e, length_cell bytes k) at got))
 
 pub all_cells : (bytes given page : List ℕ) (k : ℕ) → cell_count ≤ k → Cells bytes given page k

@@ -33,7 +33,8 @@ use Rattle.text.proofs.Text.{starts_append}
 use Rattle.text.proofs.DigitLaws.{value_digits}
 use Rattle.instructions.specs.CodeMap.{prefix_bytes, entry_at}
 use Rattle.instructions.specs.Decode.{page_of}
-use Rattle.acceptance.specs.Image.{is_start, mark_m, mark_x, return_m, return_x, mark_of, is_formed, mark_at, length_fits}
+use Rattle.acceptance.specs.Image.{is_start, mark_m, mark_x, return_m, return_x, mark_of, is_formed, mark_at}
+use Rattle.acceptance.specs.Image.{length_fits}
 use Rattle.acceptance.specs.Image.{base_fits}
 use Rattle.acceptance.specs.Rules.{instruction_at, requirement, mark_of_routine}
 use Rattle.instructions.specs.Successors.{next_address, m_after, x_after, kind_number}

@@ -126,7 +126,8 @@ module _ (image marks : List ℕ) (base : ℕ) where
   last_on at = rw add-one (by (start_at marks at))
     where
       by : (b : Bool)
-          → pick b (start at (get_or marks at 0)) (last_at at) ≡ last_of (pick b (suc at) (last_before (start_at marks) at))
+          → pick b (start at (get_or marks at 0)) (last_at at) ≡ last_of
+          (pick b (suc at) (last_before (start_at marks) at))
       by true = refl
       by false = refl
 
@@ -443,7 +444,8 @@ module _ (image marks : List ℕ) (base reset : ℕ) (rules : Accepts image mark
             let clear = there.no_overlap last (omega arith) (omega (arith, f.at_most)) in
             absurd (true≢false (sym (f.found last refl) ∙ clear))
 
-    covered-within : is_covered image marks k ≡ true → (start : ℕ) × (place_of image marks base (base + k) ≡ within start)
+    covered-within : is_covered image marks k ≡ true → (start : ℕ) ×
+        (place_of image marks base (base + k) ≡ within start)
     unfolding is_covered
     covered-within h =
         let at = first_from (covers image marks k) 0 (k + 1) in
@@ -455,7 +457,8 @@ module _ (image marks : List ℕ) (base reset : ℕ) (rules : Accepts image mark
         let place = ap (λ n. place_from image marks base n k) near ∙ place-reached at ∙ ap (placed at) inner.1 in
         (base + at, place_is ∙ place)
 
-    within-covered : (n from : ℕ) → first.Last (start_at marks) (k + 1) n → place_from image marks base n k ≡ within from
+    within-covered : (n from : ℕ) → first.Last (start_at marks) (k + 1) n → place_from image marks base n k ≡ within
+        from
         → is_covered image marks k ≡ true
     unfolding place_from
     within-covered zero from f e = let z : ◌≡◌ {A = ℕ} 0 1 = cc in absurd (omega arith)

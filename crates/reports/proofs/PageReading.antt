@@ -45,7 +45,8 @@ use Rattle.acceptance.proofs.Verdict.{start_inside}
 
 module _ {A : Type 0} (shows : List ℕ → List A) where
   -- the first row is shown before the others
-  shows_more : (row rest : List ℕ) → length row ≡ row_size → page_shows shows (row ++ rest) ≡ shows row ++ page_shows shows
+  shows_more : (row rest : List ℕ) → length row ≡ row_size → page_shows shows (row ++ rest) ≡ shows row ++ page_shows
+      shows
       rest
   unfolding page_shows concat_from
   shows_more row rest long = rw rows (rw first (ap (shows row ++◌) later))
@@ -386,7 +387,8 @@ module _ (image marks : List ℕ) (base reset : ℕ) (a : Accepts image marks ba
   size_is : length (page_text image marks base) ≡ row_size * start_count marks
   unfolding page_text
   size_is =
-      page_length marks (row_at image marks base) 0 (λ k s. rw zero-add (row_long k s)) (λ k s. rw zero-add (no_row k s))
+      page_length marks (row_at image marks base) 0 (λ k s. rw zero-add (row_long k s))
+      (λ k s. rw zero-add (no_row k s))
 
   -- the page shows what its rows show
   shown_by : {A : Type 0} (shows : List ℕ → List A) (what : ℕ → List A)
@@ -432,7 +434,13 @@ module _ (image marks : List ℕ) (base reset : ℕ) (a : Accepts image marks ba
   parted : Parted image (start_at marks) (is_covered image marks) (size image marks)
   parted = record {
     some = λ at s. (row_at_lem at s).some;
-    inside = λ at s. omega (arith, (row_at_lem at s).inside, length-drop at image, start_inside marks at s, same_length);
+    inside = λ at s. omega (
+      arith,
+      (row_at_lem at s).inside,
+      length-drop at image,
+      start_inside marks at s,
+      same_length,
+    );
     alone = λ at k s. (row_at_lem at s).clear k;
     on = λ at k. covered-on image marks k at;
     off = covered-off image marks;

@@ -47,7 +47,12 @@ module _ (address : ℕ) (bytes : List ℕ) (e : Entry) (mark : ℕ) (short : le
 
   pub at_mark : (k : ℕ) → get_or (row address bytes e mark) (29 + k) 0 ≡ get_or (mark_columns mark) k 0
   at_mark k =
-      rw (row_parts, ← get_or-drop 29 (front ++ mark_columns mark) k 0, drop_at front (mark_columns mark) 29 length_front)
+      rw (
+        row_parts,
+        ← get_or-drop 29 (front ++ mark_columns mark) k 0,
+        drop_at front (mark_columns mark) 29
+            length_front,
+      )
 
   pub length_row : length (row address bytes e mark) ≡ row_size
   length_row = rw (row_parts, length-append front (mark_columns mark), length_front) refl

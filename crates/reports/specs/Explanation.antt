@@ -2,7 +2,8 @@
 -- of the line, docs/requests/explain.md, whose words are quoted here. The values are the check's own: the verdict, the
 -- instruction at a start, what that owes.
 -- Assumes nothing.
-use Rattle.std.specs.Prelude.{◌≡◌, ℕ, zero, suc, ◌+◌, ◌-◌, ◌≤◌, ◌<◌, Bool, true, false, not, ◌&&◌, List, [], ◌∷◌, ◌++◌, eqb, ltb, leb, length, get_or, set, take, drop}
+use Rattle.std.specs.Prelude.{◌≡◌, ℕ, zero, suc, ◌+◌, ◌-◌, ◌≤◌, ◌<◌, Bool, true, false, not, ◌&&◌, List, [], ◌∷◌, ◌++◌}
+use Rattle.std.specs.Prelude.{eqb, ltb, leb, length, get_or, set, take, drop}
 use Prim.Native.Char.{code}
 use Prim.Native.String.{String, len, char_at}
 use Rattle.types.specs.declared.code.Flow.{Flow}
@@ -138,7 +139,8 @@ code_entry bytes = entry_at (page_of (get_or bytes 0 0)) (get_or bytes (prefix_o
 
 -- '5 that the code is not carried', with 'the prefix, if there is one, and the code'
 unfoldable pub code_text : ℕ → List ℕ → List ℕ
-code_text address bytes = start_text address (take (prefix_of bytes + 1) bytes) (code_entry bytes) ++ ascii "not carried"
+code_text address bytes = start_text address (take (prefix_of bytes + 1) bytes) (code_entry bytes) ++ ascii
+    "not carried"
 
 -- '6 how many bytes are missing', with 'all bytes from the start to the image's end'; or 'the image ends behind a
 -- prefix'

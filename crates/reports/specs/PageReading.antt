@@ -1,7 +1,8 @@
 -- 02, R-1: 'Joining the byte columns of all rows restores exactly the bytes covered by instructions.' What a page tells
 -- a reader who knows its columns alone, and what an image and its marks have to be told.
 -- Assumes nothing.
-use Rattle.std.specs.Prelude.{◌≡◌, ℕ, zero, suc, ◌+◌, ◌*◌, ◌/◌, ◌<◌, Bool, true, ◌&&◌, List, [], ◌∷◌, eqb, ltb, leb, length, get_or, take, drop}
+use Rattle.std.specs.Prelude.{◌≡◌, ℕ, zero, suc, ◌+◌, ◌*◌, ◌/◌, ◌<◌, Bool, true, ◌&&◌, List, [], ◌∷◌, eqb, ltb, leb}
+use Rattle.std.specs.Prelude.{length, get_or, take, drop}
 use Rattle.types.specs.declared.code.Decoded.{Decoded}
 use Rattle.prelude.specs.Bytes.{AllBytes}
 use Rattle.prelude.specs.Choice.{pick}
@@ -87,8 +88,10 @@ starts_shown marks base =
 -- of the page of an accepted image
 pub record PageTells (image marks : List ℕ) (base : ℕ) : Type 0 where
   -- 'one 35-column row for each start .. closed by 0A'
-  pub size_of_row : (at : ℕ) → at < length marks → start_at marks at ≡ true → length (row_at image marks base at) ≡ row_size
-  pub row_end : (at : ℕ) → at < length marks → start_at marks at ≡ true → get_or (row_at image marks base at) 35 0 ≡ line_end
+  pub size_of_row : (at : ℕ) → at < length marks → start_at marks at ≡ true → length (row_at image marks base at) ≡
+      row_size
+  pub row_end : (at : ℕ) → at < length marks → start_at marks at ≡ true → get_or (row_at image marks base at) 35 0 ≡
+      line_end
   pub page_size : length (page_text image marks base) ≡ row_size * start_count marks
   -- 'Joining the byte columns of all rows restores exactly the bytes covered by instructions.'
   pub bytes : AllBytes image → bytes_on_page (page_text image marks base) ≡ covered_bytes image marks

@@ -92,7 +92,8 @@ module _ (mode : Mode) (named : Accumulator) (r : Registers) (short : Bool) (ope
   operand_small : (p : OperandPlace) → Yields SmallData (operand_by p mode named r short operand)
   unfolding operand_by
   operand_small OperandPlace.Memory =
-      yields_after SmallData (address_of mode r operand) _ (λ address. data_from_lem short address (address + 1) address)
+      yields_after SmallData (address_of mode r operand) _
+      (λ address. data_from_lem short address (address + 1) address)
   operand_small OperandPlace.Instruction = low_small short operand
   operand_small OperandPlace.Register = low_small short (accumulator_of named r)
 

@@ -8,7 +8,8 @@ use Rattle.types.specs.declared.code.Accumulator.{Accumulator}
 use Rattle.types.specs.declared.machine.Status.{Status}
 use Rattle.types.specs.declared.machine.Registers.{Registers}
 use Rattle.types.specs.Status.{mask_c, mask_z, mask_i, mask_d, mask_v, mask_n, is_set}
-use Rattle.anywidth.specs.AnyWidth.{low, merged, is_negative, sum, difference, is_past, sum_overflows, difference_overflows}
+use Rattle.anywidth.specs.AnyWidth.{low, merged, is_negative, sum, difference, is_past, sum_overflows}
+use Rattle.anywidth.specs.AnyWidth.{difference_overflows}
 use Rattle.anywidth.specs.AnyWidth.{rotated}
 use Rattle.semantics.specs.Addressing.{accumulator_of}
 

@@ -22,7 +22,8 @@ use Rattle.types.specs.Status.{number_of}
 use Rattle.anywidth.specs.AnyWidth.{low, is_negative, decremented, cleared_by, shifted_left, shifted_right, is_odd}
 use Rattle.semantics.specs.Addressing.{bits, operand_place_of, accumulator_of, pulled_at}
 use Rattle.semantics.specs.Arithmetic.{with_carry, with_disable, with_overflow, with_flags_set, with_flags_cleared}
-use Rattle.semantics.specs.Arithmetic.{with_x, with_y, with_s, with_dpr, with_dt, with_status, flagged, loads_a, loads_b}
+use Rattle.semantics.specs.Arithmetic.{with_x, with_y, with_s, with_dpr, with_dt, with_status, flagged, loads_a}
+use Rattle.semantics.specs.Arithmetic.{loads_b}
 use Rattle.semantics.specs.Arithmetic.{loads_x, loads_y, transfers_into, loads, adds, subtracts, compares, ands, ors}
 use Rattle.semantics.specs.Arithmetic.{exclusive_ors, rotates_a, swaps}
 

@@ -110,7 +110,8 @@ value_digits radix (suc count) n rest some small =
     rw (
       last_digit radix count n rest,
       value_digits radix count (n / radix) (digit (n % radix) ∷ rest) some fewer,
-      get_or_at (digits radix count (n / radix)) (digit (n % radix)) rest 0 count (length_digits radix count (n / radix)),
+      get_or_at (digits radix count (n / radix)) (digit (n % radix)) rest 0 count
+          (length_digits radix count (n / radix)),
       value_of_digit (n % radix),
     ) (div-add-mod' n radix)
 

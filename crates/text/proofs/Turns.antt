@@ -181,7 +181,8 @@ unfolding weighed
 one_more_worked {i = zero} d two fits some s byte e = absurd (omega arith)
 one_more_worked {radix} {count} {v} {w} {i = suc j} {text = text} d two fits some s byte e =
     let before : suc j - 1 ≡ j = omega arith in
-    let whole : v + (digit_value (get_or text j 0) * w + weighed radix (w * radix) j text) ≡ value_from_last radix count text
+    let whole : v + (digit_value (get_or text j 0) * w + weighed radix (w * radix) j text) ≡ value_from_last radix
+    count text
     = s.whole in
     rw before (record {
       few = omega (arith, s.few);

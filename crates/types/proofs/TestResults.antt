@@ -61,7 +61,8 @@ unfolding first_refusal
 holds {given} why rest e held more = rw (← e, not-false given held) more
 
 -- where tests that were made before refuse, that stays; else the others decide
-pub ends : {so : TestResult} {why : Refusal} (tests more : Tests) → so ≡ first_refusal tests → so ≡ TestResult.Failed why
+pub ends : {so : TestResult} {why : Refusal} (tests more : Tests) → so ≡ first_refusal tests → so ≡ TestResult.Failed
+    why
     → so ≡ first_refusal (tests ++ more)
 unfolding first_refusal
 ends [] more e f = absurd (failed_passed (sym f ∙ e))

@@ -6,7 +6,7 @@
 use Prim.Native.Nat.{ℕ}
 use mathlib.Core.List.{List, [], ◌∷◌}
 use seplogic.Ra.Ura.{Ura}
-use mir.Syntax.{Name, Place, Opd as Operand, Body, Fn, seq, call}
+use mir.Syntax.{Callee, Place, Opd as Operand, Body, Fn, seq, call}
 use mir.Val.{Val}
 use base.Fml.{Lft, Share}
 use base.Logic.{SProp, ent, sep, ex, guard, emp, id⊢, via, mono∗, mono_l, mono_r, fst∗, snd∗, emp∗, ex_i, ex_e, guard_i}
@@ -103,7 +103,7 @@ module _ {M : Type 1} {𝓤 : Ura M} (𝓛 : Logic 𝓤) where
       told : (v : Val) (r : Res S x.0) → ent 𝓤 (Outcome v r) (Told v r)
       told v r =
           let back = Back 𝓛 S x v r in
-          let own = sem 𝓛 (R.own r (v ∷ [])) in
+          let own = sem 𝓛 (R.own_val r (v ∷ [])) in
           fact_use 𝓤 (φ r) (snd∗ 𝓤 back (fact 𝓤 (φ r))) (λ said.
           via 𝓤 back (fst∗ 𝓤 back (fact 𝓤 (φ r)))
           (fact_use 𝓤 (Is R r (v ∷ []))
@@ -112,11 +112,11 @@ module _ {M : Type 1} {𝓤 : Ura M} (𝓛 : Logic 𝓤) where
 
   -- a token that a callee was not lent stands beside what it gives back
   pub token_beside : (κ κ' : Lft) (q q' : Share) (R : RattleType) (r : R.Denot) (v : Val)
-      → let own = sem 𝓛 (R.own r (v ∷ [])) in
+      → let own = sem 𝓛 (R.own_val r (v ∷ [])) in
       ent 𝓤 (sep 𝓤 (sep 𝓤 (toks 𝓛 1 (κ', tt) (q', tt)) own) (A.lft κ q))
       (sep 𝓤 (toks 𝓛 2 (κ, (κ', tt)) (q, (q', tt))) own)
   token_beside κ κ' q q' R r v =
-      qed 𝓛 ((raw (toks 𝓛 1 (κ', tt) (q', tt)) ⊛ ‵ (R.own r (v ∷ []))) ∷ raw (A.lft κ q) ∷ []) ∵
+      qed 𝓛 ((raw (toks 𝓛 1 (κ', tt) (q', tt)) ⊛ ‵ (R.own_val r (v ∷ []))) ∷ raw (A.lft κ q) ∷ []) ∵
       split ! $ move ! (2 ∷ 0 ∷ []) $ join ! $ join ! $ done !
 
   module _ (T : Ended) (c : Clauses 𝓤 T) where
@@ -138,7 +138,7 @@ module _ {M : Type 1} {𝓤 : Ura M} (𝓛 : Logic 𝓤) where
           (ex_i 𝓤 (Told T.signature y.0 φ v) r))))
 
       -- the call rule
-      pub calls : {K : Type 0} {Γ : List (Item 𝓤)} {E : Env 𝓤 H} {C : Calls 𝓤 H} {Λ : Loops 𝓤 H} {f : Name}
+      pub calls : {K : Type 0} {Γ : List (Item 𝓤)} {E : Env 𝓤 H} {C : Calls 𝓤 H} {Λ : Loops 𝓤 H} {f : Callee}
           {xs : List Operand} {d : Place} {rest : Body} {q : Post 𝓤 H}
           → K → FmC 𝓤 H 𝓛.laws C → Triple 𝓤 (C f) Contracted
           → Opds K 𝓛 (raw (Contracted.pre y) ∷ Γ) E xs (Contracted.args y)
@@ -224,7 +224,7 @@ module _ {M : Type 1} {𝓤 : Ura M} (𝓛 : Logic 𝓤) (𝓜 : Model 𝓤 𝓛
     (γ : Routines) where
   open 𝓛 use {H}
 
-  pub walked_meets : (k : Name) (e : Fn) → Closed 𝓤 H (tables 𝓤 H 𝓜 𝓡 γ).C (tables 𝓤 H 𝓜 𝓡 γ).Λ k e
+  pub walked_meets : (k : Callee) (e : Fn) → Closed 𝓤 H (tables 𝓤 H 𝓜 𝓡 γ).C (tables 𝓤 H 𝓜 𝓡 γ).Λ k e
       → (T : Ended) (c : Clauses 𝓤 T) (F : Stated 𝓛 T c)
       → (FmC 𝓤 H 𝓛.laws (tables 𝓤 H 𝓜 𝓡 γ).C
       → Walk 𝓛 T c F (tables 𝓤 H 𝓜 𝓡 γ).C (tables 𝓤 H 𝓜 𝓡 γ).Λ e)

@@ -13,7 +13,8 @@ loop-i-init c = (nothing_told (spec.unformed_at c.args.marks.now), omega arith)
 
 pub loop-i-preserved : goal.loop-i-preserved
 loop-i-preserved c = (
-  one_more_told (spec.unformed_at c.args.marks.now) c.loop-i.bad c.loop-i.i c.malformed-bad.result (c.malformed-bad.ensures ∙
+  one_more_told (spec.unformed_at c.args.marks.now) c.loop-i.bad c.loop-i.i c.malformed-bad.result
+      (c.malformed-bad.ensures ∙
       malformed_unformed
       (is_formed (get_or c.args.marks.now c.loop-i.i 0))) c.loop-i.invariant.0,
   omega (
@@ -25,4 +26,5 @@ loop-i-preserved c = (
 pub returns : goal.returns
 unfolding bad_mark
 returns c =
-    all_told_at (spec.unformed_at c.args.marks.now) c.loop-i.bad c.loop-i.i (length c.args.marks.now) c.loop-i.invariant.0 c.loop-i.invariant.1 c.loop-i-test.false
+    all_told_at (spec.unformed_at c.args.marks.now) c.loop-i.bad c.loop-i.i (length c.args.marks.now)
+    c.loop-i.invariant.0 c.loop-i.invariant.1 c.loop-i-test.false

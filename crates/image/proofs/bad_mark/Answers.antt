@@ -30,5 +30,6 @@ loop-i-preserved c = (
 pub returns : goal.returns
 unfolding bad_mark
 returns c =
-    passed_all (spec.unformed_at c.args.marks.now) 0 c.loop-i.i (length c.args.marks.now) c.loop-i.invariant.0 (omega (arith, c.loop-i.invariant.1))
+    passed_all (spec.unformed_at c.args.marks.now) 0 c.loop-i.i (length c.args.marks.now) c.loop-i.invariant.0
+    (omega (arith, c.loop-i.invariant.1))
     (omega (arith, c.loop-i-test.false))

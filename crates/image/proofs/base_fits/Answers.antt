@@ -24,4 +24,5 @@ pub returns : goal.returns
 unfolding base_fits
 returns c =
     let args = c.args in
-    rw (lt-ltb args.base address_limit (omega (arith, c.if-base-ge-ADDRESS_LIMIT.false))) (fits-left args.base args.n (omega arith))
+    rw (lt-ltb args.base address_limit (omega (arith, c.if-base-ge-ADDRESS_LIMIT.false)))
+    (fits-left args.base args.n (omega arith))

@@ -10,7 +10,8 @@ pub returns-then-address-from : goal.returns-then-address-from
 returns-then-address-from c = sym (served_under_image _ _ _ _ c.if-address-ram.false c.if-address-from.true)
 
 pub returns-then-at-image : goal.returns-then-at-image
-returns-then-at-image c = sym (served_in_image _ _ _ _ c.if-address-ram.false c.if-address-from.false c.if-at-image.true)
+returns-then-at-image c = sym (served_in_image _ _ _ _ c.if-address-ram.false c.if-address-from.false
+    c.if-at-image.true)
 
 pub returns : goal.returns
 returns c = sym (served_past_image _ _ _ _ c.if-address-ram.false c.if-address-from.false c.if-at-image.false)

@@ -1,0 +1,25 @@
+-- A line for each answer.
+use Rattle.answer.proofs.PutLaws.{put_within}
+use Rattle.answer.specs.AnswerLine as spec
+use native.Mathlib.Omega.{arith}
+use Rattle.answer.proofs.lines.put_answer.Goals as goal
+
+pub returns-in-Unread : goal.returns-in-Unread
+unfolding spec.line_for
+returns-in-Unread c =
+    rw c.in-Unread.is (put_within spec.line_limit (omega arith)
+    c.put_unread.ensures)
+
+pub returns-in-Accepted : goal.returns-in-Accepted
+unfolding spec.line_for
+returns-in-Accepted c =
+    rw c.in-Accepted.is (put_within spec.line_limit (omega arith)
+    c.put_letter.ensures)
+
+pub returns-in-Refused : goal.returns-in-Refused
+unfolding spec.line_for
+returns-in-Refused c =
+    rw (
+      c.in-Refused.is,
+      ← c.refusal_number.ensures,
+    ) c.put_refused.ensures

@@ -1,0 +1,24 @@
+-- What was worked out is accepted, and its list is the one of the definition; else the line is.
+use Rattle.builtlist.proofs.Lists.{refused_list, delivered-accepted, delivered-list}
+use Rattle.builtlist.proofs.put_list.Goals as goal
+
+pub put_accepted-requires : goal.put_accepted-requires
+put_accepted-requires c =
+    let args = c.args in
+    let accepted = delivered-accepted args.image.now args.base args.reset args.text.now args.marks.now
+    c.requires.0 (rw (← c.build_marks.ensures.answer) c.in-Passed.is) in
+    ((args.image.now, rw c.build_marks.ensures.marks accepted), c.requires.1)
+
+pub returns-in-Failed : goal.returns-in-Failed
+returns-in-Failed c =
+    let args = c.args in
+    let same = refused_list args.image.now args.base args.reset args.text.now args.marks.now
+    c.requires.0 _ (rw c.build_marks.ensures.answer at c.in-Failed.is) in
+    (rw (← same) c.put_answer.ensures.size, rw (← same) c.put_answer.ensures.same)
+
+pub returns-in-Passed : goal.returns-in-Passed
+returns-in-Passed c =
+    let args = c.args in
+    let same = delivered-list args.image.now args.base args.reset args.text.now args.marks.now
+    c.requires.0 (rw (← c.build_marks.ensures.answer) c.in-Passed.is) in
+    rw (← same, ← c.build_marks.ensures.marks) c.put_accepted.ensures

@@ -1,0 +1,11 @@
+-- Piece behind piece.
+use Rattle.reports.specs.Explanation as spec
+use Rattle.explainer.proofs.AddedLaws.{added_then}
+use Rattle.explainer.proofs.numbers.put_reset.Goals as goal
+
+pub returns : goal.returns
+unfolding spec.reset_text
+returns c =
+    added_then c.put_hex-end.ensures (added_then c.put_text-end.ensures
+    (added_then c.put_fields-end.ensures (added_then c.put_text-end-2.ensures
+    c.put_standing.ensures)))

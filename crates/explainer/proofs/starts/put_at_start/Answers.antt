@@ -1,0 +1,73 @@
+-- What is decoded at the start is the layout's, and decides what is said.
+use native.Mathlib.Omega.{arith}
+use lib.ListN.{drop}
+use Rattle.decoder.proofs.Layouts.{fits-at}
+use Rattle.text.proofs.Pages.{part_whole}
+use Rattle.reports.specs.Explanation as spec
+use Rattle.explainer.proofs.AddedLaws.{added_within}
+use Rattle.explainer.proofs.Decoding.{uncarried_code, few_left, decoded_by}
+use Rattle.explainer.proofs.starts.put_at_start.Goals as goal
+
+pub put_code-requires : goal.put_code-requires
+put_code-requires c =
+    rw (part_whole c.args.at c.args.image.now) (
+      uncarried_code (drop c.args.at c.args.image.now) c.mark_m.result
+          c.mark_x.result (decoded_by _ _ _ c.layout_at.ensures
+          c.in-Uncarried.is),
+      omega (arith, c.requires.1),
+    )
+
+pub put_cut_off-requires : goal.put_cut_off-requires
+put_cut_off-requires c =
+    rw (part_whole c.args.at c.args.image.now) (
+      few_left (drop c.args.at c.args.image.now) c.mark_m.result
+          c.mark_x.result
+          (decoded_by _ _ _ c.layout_at.ensures c.in-Short.is),
+      omega
+          (arith, c.requires.1),
+    )
+
+pub put_instruction-requires : goal.put_instruction-requires
+put_instruction-requires c = (
+  fits-at c.args.image.now c.args.at c.mark_m.result c.mark_x.result
+      c.layout_at.result c.layout_at.ensures _ c.in-Fits.is,
+  c.requires.0,
+  c.requires.1,
+)
+
+pub returns-in-Uncarried : goal.returns-in-Uncarried
+unfolding spec.start_detail
+returns-in-Uncarried c =
+    rw (
+      ← c.byte_at-mark.ensures,
+      ← c.mark_m.ensures.0,
+      ← c.mark_x.ensures.0,
+      decoded_by _ _
+          _ c.layout_at.ensures c.in-Uncarried.is,
+    )
+    (added_within 69 (omega arith) (rw (part_whole c.args.at c.args.image.now) at
+    c.put_code.ensures))
+
+pub returns-in-Short : goal.returns-in-Short
+unfolding spec.start_detail
+returns-in-Short c =
+    rw (
+      ← c.byte_at-mark.ensures,
+      ← c.mark_m.ensures.0,
+      ← c.mark_x.ensures.0,
+      decoded_by _ _
+          _ c.layout_at.ensures c.in-Short.is,
+    )
+    (added_within 69 (omega arith) (rw (part_whole c.args.at c.args.image.now) at
+    c.put_cut_off.ensures))
+
+pub returns-in-Fits : goal.returns-in-Fits
+unfolding spec.start_detail
+returns-in-Fits c =
+    rw (
+      ← c.byte_at-mark.ensures,
+      ← c.mark_m.ensures.0,
+      ← c.mark_x.ensures.0,
+      decoded_by _ _
+          _ c.layout_at.ensures c.in-Fits.is,
+    ) c.put_instruction.ensures

@@ -1,0 +1,41 @@
+-- A refusal leaves the places; nothing is written before the last test, and then the pass writes them.
+use native.Mathlib.Omega.{arith}
+use Rattle.locator.proofs.Answers.{as_many, in_space, refused-then, fit, room, places_found}
+use Rattle.locator.proofs.locate.Goals as goal
+
+pub test_addresses-tested-requires : goal.test_addresses-tested-requires
+test_addresses-tested-requires c =
+    let args = c.args in
+    omega (
+      arith,
+      in_space args.image.now args.marks.now args.base c.requires.0 args.addresses.now
+          args.places.now c.requires.1,
+    )
+
+pub returns-in-Failed : goal.returns-in-Failed
+returns-in-Failed c reset accepted =
+    let args = c.args in
+    refused-then args.image.now args.marks.now args.base reset args.addresses.now args.places.now
+    accepted c.test_addresses-tested.result c.test_addresses-tested.ensures _ c.in-Failed.is
+
+pub pass_marks-requires : goal.pass_marks-requires
+pass_marks-requires c =
+    let args = c.args in
+    let passes = c.in_default.is in (
+      as_many args.image.now args.marks.now args.base c.requires.0 args.addresses.now
+          args.places.now c.requires.1,
+      in_space args.image.now args.marks.now args.base c.requires.0 args.addresses.now
+          args.places.now c.requires.1,
+      fit args.image.now args.marks.now args.base c.requires.0 args.addresses.now args.places.now
+          c.requires.1 c.test_addresses-tested.result c.test_addresses-tested.ensures passes,
+      room args.image.now args.marks.now args.base c.requires.0 args.addresses.now args.places.now
+          c.requires.1 c.test_addresses-tested.result c.test_addresses-tested.ensures passes,
+    )
+
+pub returns : goal.returns
+returns c reset accepted =
+    let args = c.args in
+    places_found args.image.now args.marks.now args.base reset args.addresses.now args.places.now
+    accepted c.test_addresses-tested.result c.test_addresses-tested.ensures c.in_default.is
+    c.pass_marks.result c.pass_marks.new.places c.pass_marks.ensures.0
+    c.pass_marks.ensures.1

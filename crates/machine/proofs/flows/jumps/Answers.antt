@@ -1,0 +1,18 @@
+-- A jump leaves the registers but for the widths, and goes to its target.
+use native.Mathlib.Omega.{arith}
+use Rattle.instructions.specs.Successors.{target_address}
+use Rattle.machine.specs.Fetches.{instruction}
+use Rattle.machine.proofs.Operating.{jumped}
+use Rattle.machine.proofs.flows.jumps.Goals as goal
+
+pub put-requires : goal.put-requires
+put-requires c = (c.requires.2, rw c.leaves.ensures (omega arith, omega arith))
+
+pub returns : goal.returns
+returns c =
+    let a = c.args in (
+      λ m. jumped a.i m a.place a.depth a.registers.now c.leaves.result
+          c.leaves.ensures c.put.new.registers c.put.ensures.0
+          c.target.result (target_address (instruction a.i) a.place) c.target.ensures,
+      c.put.ensures.1,
+    )

@@ -1,0 +1,36 @@
+-- Where 1 or 2 of the image refuses, that stays; then comes 2 of an old list.
+use mathlib.Core.Path.{refl, sym, ◌∙◌}
+use Rattle.acceptance.specs.Verdict.{image_tests}
+use Rattle.acceptance.proofs.Image.{right_length}
+use Rattle.types.proofs.TestResults.{shown, passes, fails, holds}
+use Rattle.marklist.proofs.Reading.{image_fails, image_passes}
+use mathlib.Core.Path.{ap}
+use mathlib.Core.Bool.{not}
+use Rattle.marklist.proofs.reader.test_beside_image.Goals as goal
+
+pub returns-in-Failed : goal.returns-in-Failed
+returns-in-Failed c =
+    let args = c.args in
+    image_fails args.old args.image args.marks args.base c.test_image-tested.ensures
+    c.in-Failed.is
+
+pub bank_fits-requires : goal.bank_fits-requires
+bank_fits-requires c =
+    let args = c.args in
+    let passed = sym c.in_default.is ∙ c.test_image-tested.ensures in
+    (right_length args.image args.marks
+    (shown (image_tests args.image args.marks args.base) (sym passed)).0).few
+
+pub returns-then-not-bank_fits : goal.returns-then-not-bank_fits
+returns-then-not-bank_fits c =
+    let args = c.args in
+    image_passes args.old args.image args.marks args.base (sym c.in_default.is ∙ c.test_image-tested.ensures)
+    c.bank_fits.ensures
+    (fails _ _ refl (ap not c.if-not-bank_fits.true))
+
+pub returns : goal.returns
+returns c =
+    let args = c.args in
+    image_passes args.old args.image args.marks args.base (sym c.in_default.is ∙ c.test_image-tested.ensures)
+    c.bank_fits.ensures
+    (holds _ _ refl (ap not c.if-not-bank_fits.false) passes)

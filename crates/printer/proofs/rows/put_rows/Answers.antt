@@ -1,0 +1,67 @@
+use Rattle.std.proofs.Common.{◌≤◌, arith, length}
+use Rattle.prelude.specs.Concat.{concat_from}
+use Rattle.reports.specs.PrintedPage as spec
+use Rattle.text.proofs.Pages.{front_length, front_inside, part_room}
+use Rattle.printer.proofs.Pieces.{no_piece, piece-fits, next-piece, all_pieces}
+use Rattle.printer.proofs.rows.put_rows.Goals as goal
+
+pub loop-i-init : goal.loop-i-init
+loop-i-init c =
+    let args = c.args in
+    no_piece (spec.row_at args.image.now args.marks.now args.base) (length args.marks.now)
+    args.page.now
+
+pub slice_bounds-put_row_at-count : goal.slice_bounds-put_row_at-count
+slice_bounds-put_row_at-count c = front_inside c.loop-i.invariant.front
+
+-- where one more row is to be written
+pub put_row_at-at-requires : goal.put_row_at-at-requires
+unfolding spec.page_text
+put_row_at-at-requires c =
+    let args = c.args in
+    let loop = c.loop-i in
+    let marks = args.marks.now in
+    let rows = spec.row_at args.image.now marks args.base in
+    let room : length (concat_from rows 0 (length marks)) ≤ length args.page.now = c.requires.0 in
+    let fits =
+    piece-fits rows (length marks) args.page.now loop.page loop.at loop.i room c.loop-i-test.true
+    loop.invariant in (
+      c.pages-codes.ensures,
+      omega (arith, c.requires.1, c.loop-i-test.true),
+      part_room (length (rows loop.i)) loop.invariant.front fits,
+    )
+
+pub overflow_add-at : goal.overflow_add-at
+unfolding spec.page_text
+overflow_add-at c =
+    let args = c.args in
+    let loop = c.loop-i in
+    let marks = args.marks.now in
+    let rows = spec.row_at args.image.now marks args.base in
+    let room : length (concat_from rows 0 (length marks)) ≤ length args.page.now = c.requires.0 in
+    let fits =
+    piece-fits rows (length marks) args.page.now loop.page loop.at loop.i room c.loop-i-test.true
+    loop.invariant in
+    omega (arith, c.put_row_at-at.ensures.0, fits)
+
+pub loop-i-preserved : goal.loop-i-preserved
+unfolding spec.page_text
+loop-i-preserved c =
+    let args = c.args in
+    let loop = c.loop-i in
+    let marks = args.marks.now in
+    let rows = spec.row_at args.image.now marks args.base in
+    let room : length (concat_from rows 0 (length marks)) ≤ length args.page.now = c.requires.0 in
+    next-piece rows (length marks) args.page.now loop.page loop.at loop.i room c.loop-i-test.true loop.invariant
+    c.put_row_at-at.result c.put_row_at-at.new.page c.put_row_at-at.ensures.0 c.put_row_at-at.ensures.1
+
+pub shape_of-page : goal.shape_of-page
+shape_of-page c = front_length c.loop-i.invariant.front
+
+pub returns : goal.returns
+unfolding spec.page_text
+returns c =
+    let args = c.args in
+    let loop = c.loop-i in
+    all_pieces (spec.row_at args.image.now args.marks.now args.base) (length args.marks.now)
+    args.page.now loop.page loop.at loop.i c.loop-i-test.false loop.invariant

@@ -1,0 +1,49 @@
+-- A refused run changes nothing; one that is taken up keeps the bounds that the steps need, and its state is written
+-- back.
+use Rattle.execution.proofs.Run.{admitted}
+use Rattle.runs.proofs.Admitted.{long, shallow, run_refused, run_taken}
+use Rattle.semantics.specs.Memory.{memory}
+use lib.ListN.{length}
+use mathlib.Core.Path.{sym, ap, ◌∙◌}
+use Rattle.runs.proofs.bytes.run.Goals as goal
+
+pub returns-in-Failed : goal.returns-in-Failed
+returns-in-Failed c =
+    let a = c.args in
+    let e =
+    sym (run_refused (memory a.ram.now a.image.now a.base) a.bytes.now a.asked c.core_of-core.result
+    c.calls_of-calls.result c.core_of-core.ensures c.calls_of-calls.ensures c.fits-taken.result
+    c.fits-taken.ensures c.test_run-tested.result c.test_run-tested.ensures _ c.in-Failed.is) in
+    record { answer = ap (λ r. r.answer) e; state = ap (λ r. r.state) e; ram = ap (λ r. r.ram) e }
+
+pub run_steps-steps-requires : goal.run_steps-steps-requires
+run_steps-steps-requires c =
+    let b =
+    admitted (memory c.args.ram.now c.args.image.now c.args.base) c.fits-taken.result c.args.asked
+    (sym c.test_run-tested.ensures ∙ c.in_default.is) in
+    let deep =
+    shallow (length c.args.bytes.now) c.core_of-core.result c.calls_of-calls.result
+    (sym c.fits-taken.ensures ∙ b.taken) in
+    (c.pages.ensures, c.tasks.ensures, b.whole, b.few, deep, b.steps)
+
+pub put_state-requires : goal.put_state-requires
+put_state-requires c =
+    let b =
+    admitted (memory c.args.ram.now c.args.image.now c.args.base) c.fits-taken.result c.args.asked
+    (sym c.test_run-tested.ensures ∙ c.in_default.is) in
+    long (length c.args.bytes.now) c.core_of-core.result c.calls_of-calls.result
+    (sym c.fits-taken.ensures ∙ b.taken)
+
+pub returns : goal.returns
+returns c =
+    let a = c.args in
+    let e =
+    sym (run_taken (memory a.ram.now a.image.now a.base) a.bytes.now a.asked c.core_of-core.result
+    c.calls_of-calls.result c.core_of-core.ensures c.calls_of-calls.ensures c.fits-taken.result
+    c.fits-taken.ensures c.test_run-tested.result c.test_run-tested.ensures c.in_default.is _
+    c.run_steps-steps.ensures) in
+    record {
+      answer = ap (λ r. r.answer) e;
+      state = c.put_state.ensures ∙ ap (λ r. r.state) e;
+      ram = ap (λ r. r.ram) e;
+    }

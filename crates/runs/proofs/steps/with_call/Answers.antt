@@ -1,0 +1,13 @@
+-- A call adds 1, a completed step and a stop add nothing.
+use native.Mathlib.Omega.{arith}
+use mathlib.Core.Path.{refl}
+use Rattle.runs.proofs.steps.with_call.Goals as goal
+
+pub returns-in-Completed : goal.returns-in-Completed
+returns-in-Completed c = rw c.in-Completed.is (omega arith)
+
+pub returns-in-Called : goal.returns-in-Called
+returns-in-Called c = rw c.in-Called.is refl
+
+pub returns-in-Stopped : goal.returns-in-Stopped
+returns-in-Stopped c = rw c.in-Stopped.is (omega arith)
