@@ -6,7 +6,7 @@ use Rattle.loader.proofs.Answers.{located_fits}
 use Rattle.checker.proofs.Packing.{when_refused}
 use Rattle.packing.proofs.Unpacked.{accepted_zero}
 use Rattle.packing.specs.Packed.{packed_located}
-use Rattle.locator.proofs.Answers.{refused-first}
+use Rattle.locator.proofs.Answers.{refused_first}
 use Rattle.loader.proofs.m7700_locate.Goals as goal
 
 pub returns-then-refusal-ne0 : goal.returns-then-refusal-ne0
@@ -14,7 +14,7 @@ returns-then-refusal-ne0 c =
     let args = c.args in
     when_refused args.image.now args.marks.now args.base args.reset c.m7700_check-refusal.result
     c.m7700_check-refusal.ensures c.if-refusal-ne0.true (λ why at e told.
-    let left = refused-first args.image.now args.marks.now args.base args.reset args.addresses.now
+    let left = refused_first args.image.now args.marks.now args.base args.reset args.addresses.now
     args.places.now why at e in
     record { answer = c.pass_on.ensures ∙ told ∙ ap packed_located left.0; places = left.1 })
 

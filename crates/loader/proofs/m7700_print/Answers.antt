@@ -2,7 +2,7 @@
 use mathlib.Core.Path.{◌≡◌, sym, ap, ◌∙◌}
 use Rattle.types.specs.declared.rules.Verdict.{Verdict}
 use Rattle.acceptance.specs.Verdict.{verdict}
-use Rattle.loader.proofs.Answers.{printed-fits}
+use Rattle.loader.proofs.Answers.{printed_fits}
 use Rattle.checker.proofs.Packing.{when_refused}
 use Rattle.packing.proofs.Unpacked.{accepted_zero}
 use Rattle.packing.specs.Packed.{packed_printed}
@@ -33,7 +33,7 @@ pack_printed-requires c =
     let done = judged_page args.image.now args.marks.now args.base args.reset args.page.now
     Verdict.Accepted c.print_accepted.new.page c.print_accepted.result
     accepted c.print_accepted.ensures.answer c.print_accepted.ensures.page in
-    rw done.0 (printed-fits args.image.now args.marks.now args.base args.reset args.page.now)
+    rw done.0 (printed_fits args.image.now args.marks.now args.base args.reset args.page.now)
 
 pub returns : goal.returns
 returns c =
