@@ -17,7 +17,7 @@ lock=$root/target/commands.lock
 # use_crate CRATE: the program is this crate's. A command may have two, so that each has a stamp and a log of its own.
 use_crate() {
     crate=$1
-    program=$root/target/bin/$crate
+    program=$root/crates/$crate/out/$crate
     # As old as the beginning of the last build that succeeded.
     ready=$root/target/${crate%_files}.ready
     log=$root/target/log/${crate%_files}.log
@@ -100,7 +100,7 @@ crates_needed() {
             for (i = 1; i <= count; i++) visit(needs[i])
         }
         { sub(/#.*/, "") }
-        NF == 2 { gsub(/[ \t]/, "", $1); line[$1] = $2 }
+        NF == 2 { split($1, word, " "); line[word[1]] = $2 }
         END { visit(program) }' "$root/crates.txt"
 }
 
@@ -108,9 +108,9 @@ crates_needed() {
 newer_source() {
     local needed sources=("$root/crates.txt")
     while IFS= read -r needed; do
-        sources+=("$root/crates/$needed")
+        sources+=("$root/crates/$needed/"{src,specs,proofs})
     done < <(crates_needed)
-    find "${sources[@]}" -name must-fail -prune -o -newer "$ready" -print 2> /dev/null | head -n 1
+    find "${sources[@]}" -newer "$ready" -print 2> /dev/null | head -n 1
 }
 
 is_ready() {
@@ -125,15 +125,18 @@ can_not_build() {
     exit 3
 }
 
-# Keeps what rt says, and shows which crate of how many is proved.
+# Keeps what rt says, and shows which crate of how many is proved. Of each that it proves rt says first the name.
 show_progress() {
-    local line at=0 count
+    local line at=0 count proved=
     count=$(crates_needed | wc -l)
     while IFS= read -r line; do
         printf '%s\n' "$line"
-        if [[ $line =~ ^'rt: '([A-Za-z0-9_]+' proved ('.*) ]]; then
+        if [[ $line =~ ^'crate '([A-Za-z0-9_]+)': ' ]]; then
+            proved=${BASH_REMATCH[1]}
+        elif [[ $line == 'logic=proved '* && -n $proved ]]; then
             at=$((at + 1))
-            [ -z "$verbose" ] || complain "$at of $((count)): ${BASH_REMATCH[1]}"
+            [ -z "$verbose" ] || complain "$at of $((count)): $proved proved"
+            proved=
         fi
     done > "$log"
 }
@@ -148,22 +151,22 @@ wait_for_build() {
     flock 9
 }
 
-# Proves and builds the program, or says what failed and ends with status 3.
+# Proves and builds the program, or says what failed and ends with status 3. rt builds a program to run it, so it is
+# run without files once.
 prove() {
     echo "$name" > "$lock"
     rm -f "$ready"
-    # rt goes by its own stamp, and would not link a program again that has gone.
-    [ -x "$program" ] || rm -f "$root/target/stamp/$crate"
     : > "$ready.began"
-    (cd "$root" && LC_ALL=$user_locale exec rt check "$crate") < /dev/null 2>&1 | show_progress
+    (cd "$root/crates/$crate" && LC_ALL=$user_locale exec rt run) < /dev/null 2>&1 | show_progress
     if [ "${PIPESTATUS[0]}" != 0 ] || [ ! -x "$program" ]; then
         tail -n 5 "$log" >&2
-        can_not_build "rt check $crate failed; all that it said: $log"
+        can_not_build "rt run in crates/$crate failed; all that it said: $log"
     fi
     mv "$ready.began" "$ready"
 }
 
-# One call at a time builds, of whichever command, since rt works in one folder; the others wait and may find it built.
+# One call at a time builds, of whichever command, since their programs share crates; the others wait and may find it
+# built.
 build() {
     local reason=${newer:+"${newer#"$root/"} is newer than the program: "}
     command -v rt > /dev/null || can_not_build \
@@ -220,10 +223,27 @@ tell_explanation() {
     [ -n "$explanation" ] && printf '%s\n' "$explanation" >&2
 }
 
+# The program takes names that are text in UTF-8. So a file whose name is not all ASCII is opened here, where it can be,
+# and lent under the name of its descriptor. A named pipe can't be opened again, so what it gives goes through another.
+lend_files() {
+    local at file descriptor
+    for at in "${!operands[@]}"; do
+        file=${operands[at]}
+        [[ $file == *[!$'\x01'-$'\x7F']* ]] || continue
+        if [ -p "$file" ]; then
+            exec {descriptor}< <(exec cat < "$file")
+        else
+            { exec {descriptor}< "$file"; } 2> /dev/null || continue
+        fi
+        operands[at]=/dev/fd/$descriptor
+    done
+}
+
 # Runs the program on the operands, prints what it answers, and exits by it.
 finish() {
     local answer status explanation='' refused=$'^R\t([0-9]+)\t([0-9]+)$'
     is_ready || build
+    lend_files
     answer=$("$program" "${operands[@]}")
     status=$?
     if [ -n "$explains" ] && [[ $answer == *$'\n'* ]]; then

@@ -172,14 +172,14 @@ man_page_in_order() {
 builds_in_copy() {
     local copy=$work/copy command=$work/copy/$name path=$work/rt:$PATH got=0 words="$name: proving and building" crate
     crate=$(sed -n 's/^crate=//p' "$here/../$name")
-    export PROGRAM=$here/../target/bin/$crate
-    mkdir -p "$copy/crates/$crate" "$copy/target" "$work/rt"
+    export PROGRAM=$here/../crates/$crate/out/$crate
+    mkdir -p "$copy/crates/$crate/src" "$copy/target" "$work/rt"
     cp "$here/../$name" "$here/../commands.bash" "$here/../words.bash" "$copy"
     echo "$crate:" > "$copy/crates.txt"
-    printf '#!/bin/sh\nmkdir -p target/bin\n[ -z "${LINKED:-}" ] || cp "$PROGRAM" target/bin\n' > "$work/rt/rt"
+    printf '#!/bin/sh\nmkdir -p out\n[ -z "${LINKED:-}" ] || cp "$PROGRAM" out\n' > "$work/rt/rt"
     chmod +x "$work/rt/rt"
     PATH=$path "$command" "${case1[@]}" > "$work/said" 2> "$work/stderr" || got=$?
-    judged 3 '' "$name: rt check $crate failed; all that it said: " "$got" "$name that is not built"
+    judged 3 '' "$name: rt run in crates/$crate failed; all that it said: " "$got" "$name that is not built"
     export LINKED=yes
     if command -v flock > /dev/null; then
         echo another > "$copy/target/commands.lock"

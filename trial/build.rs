@@ -13,7 +13,7 @@ fn main() {
     println!("cargo:rerun-if-changed={}", archive.display());
     if !archive.is_file() {
         let shown = archive.display();
-        eprintln!("no {shown}: run rt staticlib loader, or set M7700_ARCHIVE_DIR");
+        eprintln!("no {shown}: run ../archive, or set M7700_ARCHIVE_DIR");
         exit(1);
     }
     println!("cargo:rustc-link-search=native={}", dir.display());

@@ -18,7 +18,7 @@ fn is_ended(file: &mut impl Read) -> bool {
 }
 
 // Reads until the buffer is full, nothing comes or a read fails, and returns how many bytes came.
-fn read_full(file: &mut impl Read, buffer: &mut [u8]) -> usize
+pub fn read_full(file: &mut impl Read, buffer: &mut [u8]) -> usize
     ensures { IsPrefixLen result buffer.new }
 {
     let mut done = 0;

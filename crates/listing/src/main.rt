@@ -8,164 +8,160 @@ ghost use Rattle.codepages.specs.Packing.{packed_pages};
 use codepages::{CodePages, packed_at, pages};
 use decoder::{entry_at, length_at};
 use entries::operations::word_of;
-use libc::STDOUT_FILENO;
+use std::io;
 use text::digits::digit;
 use types::code::{Accumulator, Entry, Mode, Operation};
 
 // Writes to standard output.
-fn say(text: &[u8]) {
-    io::write_all(STDOUT_FILENO, text);
+fn say(rt: &impl Print, text: &[u8]) -> io::Result<()> {
+    rt.write_all(text)
 }
 
 // A digit in capitals.
-fn say_digit(n: u8)
+fn say_digit(rt: &impl Print, n: u8) -> io::Result<()>
     requires { n < 36 }
 {
-    say(&[digit(n)]);
+    say(rt, &[digit(n)])
 }
 
 // The prefix of a page, -- for none.
-fn say_page(page: usize) {
+fn say_page(rt: &impl Print, page: usize) -> io::Result<()> {
     if page == 0 {
-        say(b"--");
+        say(rt, b"--")
     } else if page == 1 {
-        say(b"42");
+        say(rt, b"42")
     } else {
-        say(b"89");
+        say(rt, b"89")
     }
 }
 
 // The accumulator that the syntax names, - for none.
-fn say_accumulator(accumulator: Accumulator) {
+fn say_accumulator(rt: &impl Print, accumulator: Accumulator) -> io::Result<()> {
     match accumulator {
-        Accumulator::Unnamed => say(b" -"),
-        Accumulator::A => say(b" A"),
-        Accumulator::B => say(b" B"),
+        Accumulator::Unnamed => say(rt, b" -"),
+        Accumulator::A => say(rt, b" A"),
+        Accumulator::B => say(rt, b" B"),
     }
 }
 
 // Appendix B's symbol of a direct mode, nothing for another. Three functions for the 28 modes, since a check's time
 // grows with the square of the arms that lend a literal.
-fn say_direct_mode(mode: Mode) {
+fn say_direct_mode(rt: &impl Print, mode: Mode) -> io::Result<()> {
     match mode {
-        Mode::Direct => say(b" DIR"),
-        Mode::DirectBit => say(b" DIR,b"),
-        Mode::DirectIndexedX => say(b" DIR,X"),
-        Mode::DirectIndexedY => say(b" DIR,Y"),
-        Mode::DirectIndirect => say(b" (DIR)"),
-        Mode::DirectIndexedXIndirect => say(b" (DIR,X)"),
-        Mode::DirectIndirectIndexedY => say(b" (DIR),Y"),
-        Mode::DirectIndirectLong => say(b" L(DIR)"),
-        Mode::DirectIndirectLongIndexedY => say(b" L(DIR),Y"),
-        _ => say(b""),
+        Mode::Direct => say(rt, b" DIR"),
+        Mode::DirectBit => say(rt, b" DIR,b"),
+        Mode::DirectIndexedX => say(rt, b" DIR,X"),
+        Mode::DirectIndexedY => say(rt, b" DIR,Y"),
+        Mode::DirectIndirect => say(rt, b" (DIR)"),
+        Mode::DirectIndexedXIndirect => say(rt, b" (DIR,X)"),
+        Mode::DirectIndirectIndexedY => say(rt, b" (DIR),Y"),
+        Mode::DirectIndirectLong => say(rt, b" L(DIR)"),
+        Mode::DirectIndirectLongIndexedY => say(rt, b" L(DIR),Y"),
+        _ => say(rt, b""),
     }
 }
 
 // Of an absolute or a direct mode.
-fn say_absolute_mode(mode: Mode) {
+fn say_absolute_mode(rt: &impl Print, mode: Mode) -> io::Result<()> {
     match mode {
-        Mode::Absolute => say(b" ABS"),
-        Mode::AbsoluteBit => say(b" ABS,b"),
-        Mode::AbsoluteIndexedX => say(b" ABS,X"),
-        Mode::AbsoluteIndexedY => say(b" ABS,Y"),
-        Mode::AbsoluteLong => say(b" ABL"),
-        Mode::AbsoluteLongIndexedX => say(b" ABL,X"),
-        Mode::AbsoluteIndirect => say(b" (ABS)"),
-        Mode::AbsoluteIndirectLong => say(b" L(ABS)"),
-        Mode::AbsoluteIndexedXIndirect => say(b" (ABS,X)"),
-        _ => say_direct_mode(mode),
+        Mode::Absolute => say(rt, b" ABS"),
+        Mode::AbsoluteBit => say(rt, b" ABS,b"),
+        Mode::AbsoluteIndexedX => say(rt, b" ABS,X"),
+        Mode::AbsoluteIndexedY => say(rt, b" ABS,Y"),
+        Mode::AbsoluteLong => say(rt, b" ABL"),
+        Mode::AbsoluteLongIndexedX => say(rt, b" ABL,X"),
+        Mode::AbsoluteIndirect => say(rt, b" (ABS)"),
+        Mode::AbsoluteIndirectLong => say(rt, b" L(ABS)"),
+        Mode::AbsoluteIndexedXIndirect => say(rt, b" (ABS,X)"),
+        _ => say_direct_mode(rt, mode),
     }
 }
 
 // Of a mode.
-fn say_mode(mode: Mode) {
+fn say_mode(rt: &impl Print, mode: Mode) -> io::Result<()> {
     match mode {
-        Mode::Implied => say(b" IMP"),
-        Mode::Immediate => say(b" IMM"),
-        Mode::Accumulator => say(b" A"),
-        Mode::Stack => say(b" STK"),
-        Mode::Relative => say(b" REL"),
-        Mode::DirectBitRelative => say(b" DIR,b,REL"),
-        Mode::AbsoluteBitRelative => say(b" ABS,b,REL"),
-        Mode::StackPointerRelative => say(b" SR"),
-        Mode::StackPointerRelativeIndirectIndexedY => say(b" (SR),Y"),
-        Mode::BlockTransfer => say(b" BLK"),
-        _ => say_absolute_mode(mode),
+        Mode::Implied => say(rt, b" IMP"),
+        Mode::Immediate => say(rt, b" IMM"),
+        Mode::Accumulator => say(rt, b" A"),
+        Mode::Stack => say(rt, b" STK"),
+        Mode::Relative => say(rt, b" REL"),
+        Mode::DirectBitRelative => say(rt, b" DIR,b,REL"),
+        Mode::AbsoluteBitRelative => say(rt, b" ABS,b,REL"),
+        Mode::StackPointerRelative => say(rt, b" SR"),
+        Mode::StackPointerRelativeIndirectIndexedY => say(rt, b" (SR),Y"),
+        Mode::BlockTransfer => say(rt, b" BLK"),
+        _ => say_absolute_mode(rt, mode),
     }
 }
 
 // The length at two widths.
-fn say_length(entry: Entry, m: u8, x: u8)
+#[tactic(auto, using(instructions::proofs::CodeMap::more_at_most))]
+fn say_length(rt: &impl Print, entry: Entry, m: u8, x: u8) -> io::Result<()>
     requires { entry.bytes ≤ 6 }
 {
-    say(b" ");
-    say_digit(length_at(entry, m, x));
+    say(rt, b" ")?;
+    say_digit(rt, length_at(entry, m, x))
 }
 
 // All of a line behind the code, of an assigned one.
-fn say_entry(n: u32, entry: Entry)
+fn say_entry(rt: &impl Print, n: u32, entry: Entry) -> io::Result<()>
     requires { entry.bytes ≤ 6 }
 {
     let accumulator = entry.accumulator;
     let mode = entry.mode;
     let carried = entry.carried;
-    say(b" ");
-    say(&word_of(n));
-    say_accumulator(accumulator);
-    say_mode(mode);
-    say_length(entry, 0, 0);
-    say_length(entry, 0, 1);
-    say_length(entry, 1, 0);
-    say_length(entry, 1, 1);
+    say(rt, b" ")?;
+    say(rt, &word_of(n))?;
+    say_accumulator(rt, accumulator)?;
+    say_mode(rt, mode)?;
+    say_length(rt, entry, 0, 0)?;
+    say_length(rt, entry, 0, 1)?;
+    say_length(rt, entry, 1, 0)?;
+    say_length(rt, entry, 1, 1)?;
     if carried {
-        say(b" yes\n");
+        say(rt, b" yes\n")
     } else {
-        say(b" no\n");
+        say(rt, b" no\n")
     }
 }
 
 // Whether a code has an operation.
 fn is_assigned(operation: Operation) -> bool {
-    if let Operation::Unassigned = operation {
-        false
-    } else {
-        true
-    }
+    !matches!(operation, Operation::Unassigned)
 }
 
 // The line of a code.
-fn say_line(codes: &CodePages, page: usize, code: u8)
+#[tactic(auto, using(instructions::proofs::CodeMap::bytes_at_most))]
+fn say_line(rt: &impl Print, codes: &CodePages, page: usize, code: u8) -> io::Result<()>
     requires { (codes.now ≡ packed_pages) × (page < 3) }
 {
-    say_page(page);
-    say(b" ");
-    say_digit(code / 16);
-    say_digit(code % 16);
+    say_page(rt, page)?;
+    say(rt, b" ")?;
+    say_digit(rt, code / 16)?;
+    say_digit(rt, code % 16)?;
     let entry = entry_at(codes, page, code);
     let operation = entry.operation;
     if is_assigned(operation) {
-        say_entry(packed_at(codes, page, code), entry);
+        say_entry(rt, packed_at(codes, page, code), entry)
     } else {
-        say(b" - - - 0 0 0 0 no\n");
+        say(rt, b" - - - 0 0 0 0 no\n")
     }
 }
 
 // The 256 lines of a page.
-fn list_page(codes: &CodePages, page: usize)
+fn list_page(rt: &impl Print, codes: &CodePages, page: usize) -> io::Result<()>
     requires { (codes.now ≡ packed_pages) × (page < 3) }
 {
-    let mut code: u8 = 0;
-    while code < 255 {
-        say_line(codes, page, code);
-        code += 1;
+    for code in 0..=255u8 {
+        say_line(rt, codes, page, code)?;
     }
-    say_line(codes, page, 255);
+    Ok(())
 }
 
 // The three pages.
-fn main() {
+fn main(rt: HostRuntime) -> io::Result<()> {
     let codes = pages();
-    list_page(&codes, 0);
-    list_page(&codes, 1);
-    list_page(&codes, 2);
+    list_page(&rt, &codes, 0)?;
+    list_page(&rt, &codes, 1)?;
+    list_page(&rt, &codes, 2)
 }
