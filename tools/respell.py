@@ -38,7 +38,8 @@ OTHER = {
 
 TOKEN = re.compile(r"(?<![A-Za-z0-9_'₀-₉-])[A-Za-z_][A-Za-z0-9_'₀-₉-]*")
 HEAD = re.compile(r"^(?:  )?(?:(?:abbrev|unfoldable|pub|data|record) )*([^\s:(){}]+) (?:[({][^)}]*[)}] )*:(?: |$)")
-MADE = {"Lib.antt", "Proof.antt", "Answers.antt", "Invariants.antt"}
+# A function's proof, in a folder of its own below proofs/: the names in it are those of its goals.
+MADE = re.compile(r"/proofs/.*/(Proof|Answers|Invariants)\.antt$|/Lib\.antt$")
 
 
 def files(root, *ends):
@@ -57,7 +58,7 @@ def snake(name):
 def declared(root):
     own = set()
     for path in files(root, ".antt"):
-        if os.path.basename(path) in MADE:
+        if MADE.search(path):
             continue
         for line in open(path, encoding="utf-8"):
             head = HEAD.match(line)

@@ -7,7 +7,8 @@
 use Rattle.std.specs.Prelude.{◌≡◌, ℕ, List}
 use base.Fml.{Lft}
 use contract.Lifetimes.{Lfts}
-use Rattle.std.specs.Borrow.{Bor}
+use Rattle.std.specs.Borrow.{Bor, MutBor}
+use denote.MutBor.{as_bor}
 use denote.Triple.Entry.{Args}
 use denote.Triple.Clauses.{Lasts, at_exit}
 use Rattle.loader.specs.contracts.m7700_check as Check
@@ -102,8 +103,12 @@ pub record SharedStays : Type 0 where
 -- a lent buffer: for how long, where it lies and what it holds, which are bytes
 pub record Buffer : Type 0 where
   pub lifetime : Lft
-  pub lent : Bor (List ℕ)
+  pub lent : MutBor (List ℕ)
   pub bytes : AllBytes lent.now
+
+-- it as what is lent by `&`, which has no name under which its changes are tracked
+abbrev pub shared : Buffer → Bor (List ℕ)
+shared b = as_bor b.lent
 
 abbrev pub holds : Buffer → List ℕ
 holds b = b.lent.now
@@ -111,7 +116,7 @@ holds b = b.lent.now
 -- lent numbers of 32 bits, as addresses and places are
 pub record Words : Type 0 where
   pub lifetime : Lft
-  pub lent : Bor (List ℕ)
+  pub lent : MutBor (List ℕ)
 
 abbrev pub listed : Words → List ℕ
 listed w = w.lent.now
@@ -119,56 +124,56 @@ listed w = w.lent.now
 abbrev pub CheckContract : Buffer → Buffer → ℕ → ℕ → ℕ → Type 0
 CheckContract image marks base reset result =
     let κs : Lfts 2 = (image.lifetime, (marks.lifetime, tt)) in
-    let given : Args Check.signature κs = (image.lent, (marks.lent, (base, (reset, tt)))) in
+    let given : Args Check.signature κs = (shared image, (shared marks, (base, (reset, tt)))) in
     CheckReads.Learnt κs given result (at_exit Check.ended κs given (tt, (tt, (tt, (tt, tt)))))
 
 abbrev pub ReadContract : Buffer → Buffer → ℕ → List ℕ → Type 0
 ReadContract text marks result marks_left =
     let κs : Lfts 2 = (text.lifetime, (marks.lifetime, tt)) in
-    let given : Args Read.signature κs = (text.lent, (marks.lent, tt)) in
+    let given : Args Read.signature κs = (shared text, (marks.lent, tt)) in
     ReadReads.Learnt κs given result (at_exit Read.ended κs given (tt, (marks_left, tt)))
 
 abbrev pub WriteContract : Buffer → ℕ → ℕ → Buffer → ℕ → List ℕ → Type 0
 WriteContract marks base reset page result page_left =
     let κs : Lfts 2 = (marks.lifetime, (page.lifetime, tt)) in
-    let given : Args Write.signature κs = (marks.lent, (base, (reset, (page.lent, tt)))) in
+    let given : Args Write.signature κs = (shared marks, (base, (reset, (page.lent, tt)))) in
     WriteReads.Learnt κs given result (at_exit Write.ended κs given (tt, (tt, (tt, (page_left, tt)))))
 
 abbrev pub BuildContract : Buffer → ℕ → ℕ → Buffer → Buffer → ℕ → List ℕ → Type 0
 BuildContract image base reset routines marks result marks_left =
     let κs : Lfts 3 = (image.lifetime, (routines.lifetime, (marks.lifetime, tt))) in
-    let given : Args Build.signature κs = (image.lent, (base, (reset, (routines.lent, (marks.lent, tt))))) in
+    let given : Args Build.signature κs = (shared image, (base, (reset, (shared routines, (marks.lent, tt))))) in
     BuildReads.Learnt κs given result (at_exit Build.ended κs given (tt, (tt, (tt, (tt, (marks_left, tt))))))
 
 abbrev pub PrintContract : Buffer → Buffer → ℕ → ℕ → Buffer → ℕ → List ℕ → Type 0
 PrintContract image marks base reset page result page_left =
     let κs : Lfts 3 = (image.lifetime, (marks.lifetime, (page.lifetime, tt))) in
-    let given : Args Print.signature κs = (image.lent, (marks.lent, (base, (reset, (page.lent, tt))))) in
+    let given : Args Print.signature κs = (shared image, (shared marks, (base, (reset, (page.lent, tt))))) in
     PrintReads.Learnt κs given result (at_exit Print.ended κs given (tt, (tt, (tt, (tt, (page_left, tt))))))
 
 abbrev pub ExplainContract : Buffer → Buffer → ℕ → ℕ → Buffer → ℕ → List ℕ → Type 0
 ExplainContract image marks base reset page result page_left =
     let κs : Lfts 3 = (image.lifetime, (marks.lifetime, (page.lifetime, tt))) in
-    let given : Args Explain.signature κs = (image.lent, (marks.lent, (base, (reset, (page.lent, tt))))) in
+    let given : Args Explain.signature κs = (shared image, (shared marks, (base, (reset, (page.lent, tt))))) in
     ExplainReads.Learnt κs given result (at_exit Explain.ended κs given (tt, (tt, (tt, (tt, (page_left, tt))))))
 
 abbrev pub LocateContract : Buffer → Buffer → ℕ → ℕ → Words → Words → ℕ → List ℕ → Type 0
 LocateContract image marks base reset addresses places result places_left =
     let κs : Lfts 4 = (image.lifetime, (marks.lifetime, (addresses.lifetime, (places.lifetime, tt)))) in
     let given : Args Locate.signature κs =
-    (image.lent, (marks.lent, (base, (reset, (addresses.lent, (places.lent, tt)))))) in
+    (shared image, (shared marks, (base, (reset, (as_bor addresses.lent, (places.lent, tt)))))) in
     LocateReads.Learnt κs given result (at_exit Locate.ended κs given (tt, (tt, (tt, (tt, (tt, (places_left, tt)))))))
 
 abbrev pub RunContract : Buffer → ℕ → Buffer → Buffer → ℕ → ℕ → List ℕ → List ℕ → Type 0
 RunContract image base state ram steps result left_state left_ram =
     let κs : Lfts 3 = (image.lifetime, (state.lifetime, (ram.lifetime, tt))) in
-    let given : Args Run.signature κs = (image.lent, (base, (state.lent, (ram.lent, (steps, tt))))) in
+    let given : Args Run.signature κs = (shared image, (base, (state.lent, (ram.lent, (steps, tt))))) in
     RunReads.Learnt κs given result (at_exit Run.ended κs given (tt, (tt, (left_state, (left_ram, (tt, tt))))))
 
 abbrev pub StepContract : Buffer → ℕ → Buffer → Buffer → ℕ → List ℕ → List ℕ → Type 0
 StepContract image base state ram result left_state left_ram =
     let κs : Lfts 3 = (image.lifetime, (state.lifetime, (ram.lifetime, tt))) in
-    let given : Args Step.signature κs = (image.lent, (base, (state.lent, (ram.lent, tt)))) in
+    let given : Args Step.signature κs = (shared image, (base, (state.lent, (ram.lent, tt)))) in
     StepReads.Learnt κs given result (at_exit Step.ended κs given (tt, (tt, (left_state, (left_ram, tt)))))
 
 -- ---- the calls

@@ -33,12 +33,12 @@ use Rattle.explainer.specs.Explainable.{Sound, Explainable}
 
 -- ---- a number by the keys of a `match` that it has not
 
-pub past-four : (number : ℕ) → 1 ≤ number → NoKey number 4 → 4 < number
-past-four number some none =
+pub past_four : (number : ℕ) → 1 ≤ number → NoKey number 4 → 4 < number
+past_four number some none =
     ⊎_elim (λ (e : number ≡ 0). absurd (omega arith)) (λ (h : 4 < number). h) (outside number 4 none)
 
-pub is-ten : (number : ℕ) → 1 ≤ number → number ≤ 10 → NoKey number 9 → number ≡ 10
-is-ten number some few none =
+pub is_ten : (number : ℕ) → 1 ≤ number → number ≤ 10 → NoKey number 9 → number ≡ 10
+is_ten number some few none =
     ⊎_elim (λ (e : number ≡ 0). absurd (omega arith)) (λ (h : 9 < number). omega arith) (outside number 9 none)
 
 module _ (image marks : List ℕ) (base reset : ℕ) where
@@ -55,14 +55,14 @@ module _ (image marks : List ℕ) (base reset : ℕ) where
       inside = inside;
     }
 
-  start-number : (why : Refusal) (at : ℕ) → StartBreaks image marks base at why
+  start_number : (why : Refusal) (at : ℕ) → StartBreaks image marks base at why
       → (5 ≤ refusal_number why) × (refusal_number why ≤ 10)
-  start-number why at (StartBreaks.code e) = (omega arith, omega arith)
-  start-number why at (StartBreaks.cut_off e) = (omega arith, omega arith)
-  start-number why at (StartBreaks.overlap i whole k low high s) = (omega arith, omega arith)
-  start-number why at (StartBreaks.return i whole clear r) = (omega arith, omega arith)
-  start-number why at (StartBreaks.flow i whole clear r w a s) = (omega arith, omega arith)
-  start-number why at (StartBreaks.widths i whole clear r all w a m) = (omega arith, omega arith)
+  start_number why at (StartBreaks.code e) = (omega arith, omega arith)
+  start_number why at (StartBreaks.cut_off e) = (omega arith, omega arith)
+  start_number why at (StartBreaks.overlap i whole k low high s) = (omega arith, omega arith)
+  start_number why at (StartBreaks.return i whole clear r) = (omega arith, omega arith)
+  start_number why at (StartBreaks.flow i whole clear r w a s) = (omega arith, omega arith)
+  start_number why at (StartBreaks.widths i whole clear r all w a m) = (omega arith, omega arith)
 
   shown : (why : Refusal) (at : ℕ) → Breaks image marks base reset why at
       → Explainable image marks base at (refusal_number why)
@@ -91,7 +91,7 @@ module _ (image marks : List ℕ) (base reset : ℕ) where
     sound = λ h. absurd (omega arith);
   }
   shown why at (Breaks.wrong_start l b f r at' why' inside s breaks below) =
-      let n = start-number why' at' breaks in
+      let n = start_number why' at' breaks in
       record {
         some = omega (arith, n.0);
         few = n.1;
@@ -139,10 +139,10 @@ module _ (image marks : List ℕ) (base reset : ℕ) where
 
 -- ---- the answer, as numbers
 
-pub explained-fits : (image marks : List ℕ) (base reset : ℕ) (page : List ℕ)
+pub explained_fits : (image marks : List ℕ) (base reset : ℕ) (page : List ℕ)
     → length (explanation image marks base reset) ≤ line_limit → PrintedFits (explained image marks base reset page)
 unfolding explained
-explained-fits image marks base reset page short =
+explained_fits image marks base reset page short =
     by (leb (length (explanation image marks base reset)) (length page))
   where
     by : (b : Bool) → PrintedFits

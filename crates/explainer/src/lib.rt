@@ -76,7 +76,8 @@ fn put_line(
     reset: u32,
     answer: u32,
 ) -> usize
-    requires { (answer ≡ packed_verdict (verdict image.now marks.now base reset)) × (spec.line_limit ≤ length line.old) }
+    requires { (answer ≡ packed_verdict (verdict image.now marks.now base reset))
+        × (spec.line_limit ≤ length line.old) }
     ensures { Added 0 (spec.explanation image.now marks.now base reset) spec.line_limit
         line.old line.new result }
 {

@@ -24,16 +24,16 @@ read_fits text marks = by (read_list text marks) refl
     by (ListRead.NotRead why) e = tt
     by (ListRead.Read h) e = read_small text marks h e
 
-pub written-fits : (marks : List ℕ) (base reset : ℕ) (page : List ℕ) → WrittenFits (write_list marks base reset page)
-written-fits marks base reset page = by (write_list marks base reset page) refl
+pub written_fits : (marks : List ℕ) (base reset : ℕ) (page : List ℕ) → WrittenFits (write_list marks base reset page)
+written_fits marks base reset page = by (write_list marks base reset page) refl
   where
     by : (a : ListWritten) → write_list marks base reset page ≡ a → WrittenFits a
     by (ListWritten.NotWritten why) e = tt
     by (ListWritten.Written n) e = omega (arith, written_small marks base reset n page e)
 
-pub printed-fits : (image marks : List ℕ) (base reset : ℕ) (page : List ℕ)
+pub printed_fits : (image marks : List ℕ) (base reset : ℕ) (page : List ℕ)
     → PrintedFits (printed image marks base reset page)
-printed-fits image marks base reset page = by (printed image marks base reset page) refl
+printed_fits image marks base reset page = by (printed image marks base reset page) refl
   where
     by : (a : Printed) → printed image marks base reset page ≡ a → PrintedFits a
     by (Printed.NotPrinted why at) e = refused_offset image marks base reset page why at e
@@ -48,7 +48,7 @@ located_fits image marks base reset addresses places = by (located image marks b
     by (Located.MarksRead n) e = omega (arith, read_few image marks base reset addresses places n e)
 
 -- the parts of a place
-pub place-parts : (start : ℕ) → start < address_limit
+pub place_parts : (start : ℕ) → start < address_limit
     → (place_start (place_number (within start)) ≡ start) × (place_kind (place_number (within start)) ≡ 1)
     × (place_start (place_number (behind start)) ≡ start) × (place_kind (place_number (behind start)) ≡ 2)
-place-parts start small = (omega arith, omega arith, omega arith, omega arith)
+place_parts start small = (omega arith, omega arith, omega arith, omega arith)

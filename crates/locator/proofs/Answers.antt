@@ -30,10 +30,10 @@ module _ (image marks : List ℕ) (base reset : ℕ) (addresses places : List �
   abbrev tests : Tests
   tests = locate_tests base (length image) addresses (length places)
 
-  pub refused-first : (why : Refusal) (at : ℕ) → verdict image marks base reset ≡ Verdict.Refused why at
+  pub refused_first : (why : Refusal) (at : ℕ) → verdict image marks base reset ≡ Verdict.Refused why at
       → Answers (Located.NotLocated why at) places
   unfolding located located_by places_located places_after
-  refused-first why at e = (rw e refl, rw e refl)
+  refused_first why at e = (rw e refl, rw e refl)
 
   module _ (accepted : verdict image marks base reset ≡ Verdict.Accepted) where
     -- what acceptance says of the lengths

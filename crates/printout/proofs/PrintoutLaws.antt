@@ -14,13 +14,15 @@ use Rattle.types.specs.declared.refusals.Refusal.{Refusal}
 use Rattle.types.specs.declared.rules.Verdict.{Verdict}
 use Rattle.types.specs.Addresses.{image_limit}
 use Rattle.acceptance.specs.Verdict.{verdict}
-use Rattle.lists.specs.MarkList.{is_old, address_digits, header_shown, marks_of, read_as, read_list, marks_read, marks_by}
+use Rattle.lists.specs.MarkList.{is_old, address_digits, header_shown, marks_of}
+use Rattle.lists.specs.MarkList.{read_as, read_list, marks_read, marks_by}
 use Rattle.reports.specs.PrintedPage.{printed, page_after, page_printed}
 use Rattle.lists.proofs.ListAnswers.{read_passes}
 use Rattle.lists.proofs.RoundTrips.{starts_in_text}
 use Rattle.reports.proofs.PrintedAnswers.{printed_whole, rows_printed, page_rows}
 use Rattle.answer.specs.declared.answers.FileAnswer.{FileAnswer}
-use Rattle.answer.specs.AnswerLine.{list_limit, answer_by, verdict_answer, answer_of, list_answer, answer_for, answer_line}
+use Rattle.answer.specs.AnswerLine.{list_limit, answer_by, verdict_answer, answer_of}
+use Rattle.answer.specs.AnswerLine.{list_answer, answer_for, answer_line}
 use Rattle.answer.proofs.AnswerLaws.{both-short}
 use Rattle.printout.specs.Printout.{files_page, printout_by, printout, page_limit, printed_as, files_printed}
 
@@ -60,7 +62,8 @@ module _ (image text : List ℕ) where
   rows_taken n page e = by given refl e
     where
       by : (r : ListRead) → given ≡ r → printed_as r image text page ≡ Printed.Rows n
-          → (printout_by (answer_of r image text) image text ≡ files_page image text) × (n ≡ length (files_page image text))
+          → (printout_by (answer_of r image text) image text ≡ files_page image text)
+          × (n ≡ length (files_page image text))
       by (ListRead.NotRead why) read told = absurd (omega (arith, ap rows told))
       by (ListRead.Read h) read told =
           let shown = rows_printed image (marks_of (address_digits text) h text) h.base h.reset page n told in

@@ -10,7 +10,8 @@ use Rattle.answer.specs.AnswerLine.{list_limit, answer_for, answer_line}
 
 -- the page of an image by the marks and the base that a list shows
 unfoldable pub files_page : List ℕ → List ℕ → List ℕ
-files_page image text = page_text image (marks_of (address_digits text) (header_shown text) text) (header_shown text).base
+files_page image text =
+    page_text image (marks_of (address_digits text) (header_shown text) text) (header_shown text).base
 
 -- 'From accepted image and marks, print ..'; for others the line of the program check
 unfoldable pub printout_by : FileAnswer → List ℕ → List ℕ → List ℕ
@@ -34,4 +35,5 @@ printed_as (ListRead.Read h) image text page =
     printed image (marks_of (address_digits text) h text) h.base h.reset page
 
 unfoldable pub files_printed : List ℕ → List ℕ → List ℕ → Printed
-files_printed image text page = printed_as (read_as (is_old text) (header_shown text) text (length image)) image text page
+files_printed image text page =
+    printed_as (read_as (is_old text) (header_shown text) text (length image)) image text page

@@ -3,7 +3,7 @@ use native.Mathlib.Omega.{arith}
 use Rattle.reports.specs.Explanation as spec
 use Rattle.reports.proofs.Explanation.{start_said}
 use Rattle.explainer.proofs.AddedLaws.{added_within}
-use Rattle.explainer.proofs.Answers.{past-four}
+use Rattle.explainer.proofs.Answers.{past_four}
 use Rattle.explainer.proofs.put_detail.Goals as goal
 
 pub put_reset-requires : goal.put_reset-requires
@@ -17,7 +17,7 @@ put_mark-requires c =
 
 pub put_at_start-requires : goal.put_at_start-requires
 put_at_start-requires c =
-    let high = past-four c.args.number c.requires.0.some c.in_default.in_default-own.rest in
+    let high = past_four c.args.number c.requires.0.some c.in_default.in_default-own.rest in
     (c.requires.0.sound (omega arith), c.requires.1)
 
 pub returns-in-1 : goal.returns-in-1
@@ -43,6 +43,6 @@ returns-in-4 c =
 pub returns-in_default : goal.returns-in_default
 returns-in_default c =
     let args = c.args in
-    let high = past-four args.number c.requires.0.some c.in_default.in_default-own.rest in
+    let high = past_four args.number c.requires.0.some c.in_default.in_default-own.rest in
     rw (start_said args.image.now args.marks.now args.base args.reset args.at args.number high)
     c.put_at_start.ensures

@@ -3,7 +3,7 @@ use native.Mathlib.Omega.{arith}
 use Rattle.text.specs.Digits.{digit, digits, digit_count}
 use Rattle.reports.specs.Explanation as spec
 use Rattle.explainer.proofs.AddedLaws.{added_within}
-use Rattle.explainer.proofs.Answers.{is-ten}
+use Rattle.explainer.proofs.Answers.{is_ten}
 use Rattle.explainer.proofs.put_heading.Goals as goal
 
 pub returns-in-1 : goal.returns-in-1
@@ -54,5 +54,5 @@ returns-in-9 c =
 pub returns-in_default : goal.returns-in_default
 unfolding spec.heading spec.decimal digits digit_count digit
 returns-in_default c =
-    rw (is-ten c.args.number c.requires.0 c.requires.1 c.in_default.in_default-own.rest)
+    rw (is_ten c.args.number c.requires.0 c.requires.1 c.in_default.in_default-own.rest)
     c.put_text-in_default.ensures
