@@ -1,5 +1,4 @@
 -- The invariant: what has been read is the number of the bytes from i on, or of the first eight of them.
-use Prim.Native.Nat.{◌-◌}
 use Rattle.fields.proofs.Reading.{Read}
 use Rattle.fields.proofs.number.Given as goal
 

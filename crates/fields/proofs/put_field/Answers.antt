@@ -1,4 +1,3 @@
-use Prim.Native.Nat.{◌-◌}
 use native.Mathlib.Omega.{arith}
 use Rattle.fields.proofs.Writing.{all_left, one_less, none_left}
 use Rattle.fields.proofs.put_field.Goals as goal

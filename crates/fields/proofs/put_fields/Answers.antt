@@ -1,4 +1,3 @@
-use Prim.Native.Nat.{◌-◌}
 use native.Mathlib.Omega.{arith}
 use Rattle.fields.proofs.Writing.{every_left, field_room, field-less, no_field_left}
 use Rattle.fields.proofs.put_fields.Goals as goal

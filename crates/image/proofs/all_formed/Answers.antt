@@ -1,4 +1,3 @@
-use Prim.Native.Nat.{◌-◌}
 use native.Mathlib.Omega.{arith}
 use lib.ListN.{length, get_or}
 use Rattle.image.proofs.Forms.{nothing_told, one_more_told, all_told_at, malformed_unformed}

@@ -3,7 +3,6 @@ use Rattle.acceptance.specs.Verdict.{bad_mark}
 use Rattle.acceptance.specs.Verdict as spec
 use lib.ListN.{length}
 use native.Mathlib.Omega.{arith}
-use Prim.Native.Nat.{◌-◌}
 use mathlib.Core.Path.{ap}
 use mathlib.Core.Bool.{not}
 use Rattle.image.proofs.bad_mark.Goals as goal

@@ -1,4 +1,3 @@
-use Prim.Native.Nat.{◌-◌}
 use native.Mathlib.Omega.{arith}
 use Rattle.execution.specs.Run.{call_broken}
 use Rattle.prelude.proofs.First.{none_passed, one_more_passed}

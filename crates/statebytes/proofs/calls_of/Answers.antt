@@ -1,5 +1,4 @@
 use mathlib.Core.Path.{refl}
-use Prim.Native.Nat.{◌-◌}
 use native.Mathlib.Omega.{arith}
 use Rattle.execution.specs.StateBytes.{state_of}
 use Rattle.statebytes.proofs.Entries.{one_more_filled, all_filled}

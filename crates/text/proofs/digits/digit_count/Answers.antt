@@ -1,4 +1,3 @@
-use Prim.Native.Nat.{◌-◌}
 use Rattle.text.proofs.Turns.{none_counted, last_counted, more_counted, all_counted}
 use Rattle.text.proofs.digits.digit_count.Goals as goal
 
