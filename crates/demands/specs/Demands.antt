@@ -87,7 +87,7 @@ pub record RefusedCheck (c : CheckCall) : Type 0 where
 pub record ByHistory (c : RunCall) : Type 0 where
   pub answer : numbers c
       ≡ answer_numbers (RunAnswer.Ended (end_of (history_of c)) (completed_steps (history_of c))
-          (calls_among (history_of c)))
+      (calls_among (history_of c)))
   pub state : c.left_state ≡ state_bytes (state_left (state_given c) (history_of c))
   pub ram : c.left_ram ≡ ram_left (holds c.ram) (history_of c)
 

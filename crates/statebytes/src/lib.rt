@@ -116,6 +116,7 @@ pub fn ram_fits(n: usize, base: u32) -> bool
 }
 
 // An open call has kind 1 or 2 and a 24-bit return address.
+#[tactic(auto, unfolding(execution::specs::Run::call_fits))]
 fn call_fits(entry: u64) -> bool
     ensures { result ≡ call_fits entry }
 {
@@ -146,6 +147,7 @@ fn calls_fit(calls: &[u64; CALL_LIMIT], depth: usize) -> bool
 }
 
 // Number 12: PS within its eleven bits, at most 24 open calls, and each of them fits.
+#[tactic(auto, unfolding(execution::specs::Run::state_fits_within))]
 pub fn state_fits(core: Core, calls: &[u64; CALL_LIMIT]) -> bool
     ensures { result ≡ state_fits (record { core = core; calls = calls.now }) }
 {

@@ -5,6 +5,8 @@ use lib.ListN.{length}
 use lib.Seq.{length-take-le}
 use Rattle.explanation.proofs.ExplainedLaws.{long_list, long_image, within_limits, answer_alone, room_behind}
 use Rattle.explanation.proofs.ExplainedLaws.{both_lines}
+use Prim.Native.Nat.{◌≤◌}
+use Rattle.answer.specs.AnswerLine.{list_limit}
 use Rattle.explanation.proofs.put_explained.Goals as goal
 
 pub returns-then-text-gt-LIST_LIMIT : goal.returns-then-text-gt-LIST_LIMIT
@@ -18,8 +20,9 @@ returns-then-text-gt-LIST_LIMIT c =
 pub returns-then-image-gt-IMAGE_LIMIT : goal.returns-then-image-gt-IMAGE_LIMIT
 returns-then-image-gt-IMAGE_LIMIT c =
     let args = c.args in
+    let short : length args.text.now ≤ list_limit = omega arith in
     let shown = answer_alone args.image.now args.text.now (long_image args.image.now args.text.now
-    c.if-text-gt-LIST_LIMIT.false c.if-image-gt-IMAGE_LIMIT.true) (rw c.answer_for.ensures at c.put_answer-at.ensures)
+    short c.if-image-gt-IMAGE_LIMIT.true) (rw c.answer_for.ensures at c.put_answer-at.ensures)
     in
     record { text = shown.0; part = shown.1 }
 
@@ -42,10 +45,11 @@ overflow_add-result c =
 pub returns : goal.returns
 returns c =
     let args = c.args in
+    let short : length args.text.now ≤ list_limit = omega arith in
     let said = c.put_explanation.ensures in
     let shown = both_lines args.image.now args.text.now c.requires
     (rw c.answer_for.ensures at c.put_answer-at.ensures)
-    (within_limits args.image.now args.text.now c.if-text-gt-LIST_LIMIT.false c.if-image-gt-IMAGE_LIMIT.false) said.0
+    (within_limits args.image.now args.text.now short c.if-image-gt-IMAGE_LIMIT.false) said.0
     said.1
     said.2 in
     record { text = shown.0; part = shown.1 }

@@ -7,6 +7,9 @@ use Rattle.printout.specs.Printout as spec
 use mathlib.Core.Path.{sym, ◌∙◌}
 use lib.ListN.{length}
 use lib.Seq.{length-take-le}
+use Prim.Native.Nat.{◌≤◌}
+use native.Mathlib.Omega.{arith}
+use Rattle.answer.specs.AnswerLine.{list_limit}
 use Rattle.printout.proofs.put_printout.Goals as goal
 
 pub returns-then-text-gt-LIST_LIMIT : goal.returns-then-text-gt-LIST_LIMIT
@@ -19,8 +22,9 @@ returns-then-text-gt-LIST_LIMIT c =
 pub returns-then-image-gt-IMAGE_LIMIT : goal.returns-then-image-gt-IMAGE_LIMIT
 returns-then-image-gt-IMAGE_LIMIT c =
     let args = c.args in
+    let short : length args.text.now ≤ list_limit = omega arith in
     let same = over_limit args.image.now args.text.now
-    (long_image args.image.now args.text.now c.if-text-gt-LIST_LIMIT.false c.if-image-gt-IMAGE_LIMIT.true) in
+    (long_image args.image.now args.text.now short c.if-image-gt-IMAGE_LIMIT.true) in
     record {
       text = rw same c.put_answer_line-then-image-gt-IMAGE_LIMIT.ensures.line;
       part = c.put_answer_line-then-image-gt-IMAGE_LIMIT.ensures.part;
@@ -40,11 +44,12 @@ pub returns-in-Rows : goal.returns-in-Rows
 unfolding page_after
 returns-in-Rows c =
     let args = c.args in
+    let short : length args.text.now ≤ list_limit = omega arith in
     let n = c.in-Rows.size in
     let told = c.in-Rows.is in
     let by-list = c.print_by_list.ensures in
     let taken = rows_taken args.image.now args.text.now n args.page.now (rw (← by-list.answer) told) in
-    let whole = within_limits args.image.now args.text.now c.if-text-gt-LIST_LIMIT.false c.if-image-gt-IMAGE_LIMIT.false
+    let whole = within_limits args.image.now args.text.now short c.if-image-gt-IMAGE_LIMIT.false
     ∙ taken.0 in
     let front = rw told at by-list.page in record {
       text = (rw whole taken.1, rw whole front);
@@ -55,10 +60,11 @@ pub returns-in-NotPrinted : goal.returns-in-NotPrinted
 unfolding page_after
 returns-in-NotPrinted c =
     let args = c.args in
+    let short : length args.text.now ≤ list_limit = omega arith in
     let by-list = c.print_by_list.ensures in
     let answer = c.in-NotPrinted.is in
-    let same = within_limits args.image.now args.text.now c.if-text-gt-LIST_LIMIT.false c.if-image-gt-IMAGE_LIMIT.false
-    ∙ none_taken args.image.now args.text.now _ _ args.page.now c.if-text-gt-LIST_LIMIT.false c.requires
+    let same = within_limits args.image.now args.text.now short c.if-image-gt-IMAGE_LIMIT.false
+    ∙ none_taken args.image.now args.text.now _ _ args.page.now short c.requires
     (rw by-list.answer at answer) in
     let left = rw answer at by-list.page in
     record {
