@@ -15,10 +15,12 @@ OTHER = {
     "allListed": "all_are_listed",
     "check-numbers": "numbers_of_check",
     "goesBy": "goes_on_by",
+    "in-ram": "ram_bytes",
     "inImage": "is_in_image",
     "is-start": "start_there",
     "isFree": "is_free_at",
     "lengthDigits": "digits_of_length",
+    "marks-read": "marks_counted",
     "noStart": "no_start_text",
     "numberBy": "number_from",
     "one-step": "single_step",
@@ -37,7 +39,7 @@ OTHER = {
 }
 
 TOKEN = re.compile(r"(?<![A-Za-z0-9_'₀-₉-])[A-Za-z_][A-Za-z0-9_'₀-₉-]*")
-HEAD = re.compile(r"^(?:  )?(?:(?:abbrev|unfoldable|pub|data|record) )*([^\s:(){}]+) (?:[({][^)}]*[)}] )*:(?: |$)")
+HEAD = re.compile(r"^\s*(?:(?:abbrev|unfoldable|pub|data|record) )*([^\s:(){}]+) (?:[({][^)}]*[)}] )*:(?: |$)")
 # A function's proof, in a folder of its own below proofs/: the names in it are those of its goals.
 MADE = re.compile(r"/proofs/.*/(Proof|Answers|Invariants)\.antt$|/Lib\.antt$")
 

@@ -141,18 +141,18 @@ is_formed_lem : (mark : ℕ) → IsMark mark → is_formed mark ≡ true
 unfolding is_formed
 is_formed_lem mark is = by (is_start mark) (eqb (mark_kind mark) 0) refl refl
   where
-    or-true : (a b : Bool) → b ≡ true → a || b ≡ true
-    or-true true b e = refl
-    or-true false b e = e
+    or_true : (a b : Bool) → b ≡ true → a || b ≡ true
+    or_true true b e = refl
+    or_true false b e = e
 
     by : (started none : Bool) → is_start mark ≡ started → eqb (mark_kind mark) 0 ≡ none → is_formed mark ≡ true
     by false none e k = rw (is.no_start e)
     by true false e k =
-        or-true (eqb mark 0) (start_formed mark)
+        or_true (eqb mark 0) (start_formed mark)
         (rw (e, lt-ltb mark 128 is.bit_7_clear, ne_eqb (mark_kind mark) 3 is.kind_used, k) refl)
     by true true e k =
         let clear = is.no_return (eqb-true (mark_kind mark) 0 k) in
-        or-true (eqb mark 0) (start_formed mark)
+        or_true (eqb mark 0) (start_formed mark)
         (rw (
           e,
           lt-ltb mark 128 is.bit_7_clear,

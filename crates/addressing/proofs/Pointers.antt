@@ -35,28 +35,28 @@ indexed short wanted v x r e e' h = (rw (← e, ← e') h.0, omega (arith, most 
 
 module _ (m : Memory) (at : ℕ) (f : ℕ → ℕ) where
   module _ (w : WordRead) (e : w ≡ word_read (evaluate m (read_word at))) where
-    pub word-found : (v : ℕ) → w ≡ WordRead.Word v
+    pub word_found : (v : ℕ) → w ≡ WordRead.Word v
         → AddressRead.At (f v) ≡ address_read (evaluate m (read_word at >>= (λ p. ret (f p))))
-    word-found v e' =
+    word_found v e' =
         ap address_read
         (sym (after_done m (read_word at) (λ p. ret (f p)) v (word_done (evaluate m (read_word at)) w v e e')))
 
-    pub word-missing : w ≡ WordRead.Unmapped
+    pub word_missing : w ≡ WordRead.Unmapped
         → AddressRead.Unmapped ≡ address_read (evaluate m (read_word at >>= (λ p. ret (f p))))
-    word-missing e' =
+    word_missing e' =
         ap address_read
         (sym (after_unmapped m (read_word at) (λ p. ret (f p)) (word_unmapped (evaluate m (read_word at)) w e e')))
 
   module _ (w : LongRead) (e : w ≡ long_read (evaluate m (read_long at))) where
-    pub long-found : (v : ℕ) → w ≡ LongRead.Long v
+    pub long_found : (v : ℕ) → w ≡ LongRead.Long v
         → AddressRead.At (f v) ≡ address_read (evaluate m (read_long at >>= (λ p. ret (f p))))
-    long-found v e' =
+    long_found v e' =
         ap address_read
         (sym (after_done m (read_long at) (λ p. ret (f p)) v (long_done (evaluate m (read_long at)) w v e e')))
 
-    pub long-missing : w ≡ LongRead.Unmapped
+    pub long_missing : w ≡ LongRead.Unmapped
         → AddressRead.Unmapped ≡ address_read (evaluate m (read_long at >>= (λ p. ret (f p))))
-    long-missing e' =
+    long_missing e' =
         ap address_read
         (sym (after_unmapped m (read_long at) (λ p. ret (f p)) (long_unmapped (evaluate m (read_long at)) w e e')))
 
@@ -98,13 +98,13 @@ module _ (m : Memory) (act : Act ℕ) (short : Bool) (a : AddressRead) (e : a �
     reached : evaluate m (act >>= then) ≡ evaluate m (then at)
     reached = after_done m act then at (address_done (evaluate m act) a at e e')
 
-    there-found : (v : ℕ) → w ≡ WordRead.Word v → DataRead.Found (data_at at v) ≡ data_read (evaluate m (act >>= then))
-    there-found v e'' =
+    there_found : (v : ℕ) → w ≡ WordRead.Word v → DataRead.Found (data_at at v) ≡ data_read (evaluate m (act >>= then))
+    there_found v e'' =
         ap data_read (sym (reached ∙ after_done m (read_data short at) (λ u. ret (data_at at u)) v
         (word_done (evaluate m (read_data short at)) w v read e'')))
 
-    there-missing : w ≡ WordRead.Unmapped → DataRead.Unmapped ≡ data_read (evaluate m (act >>= then))
-    there-missing e'' =
+    there_missing : w ≡ WordRead.Unmapped → DataRead.Unmapped ≡ data_read (evaluate m (act >>= then))
+    there_missing e'' =
         ap data_read (sym (reached ∙ after_unmapped m (read_data short at) (λ u. ret (data_at at u))
         (word_unmapped (evaluate m (read_data short at)) w read e'')))
 
@@ -114,27 +114,27 @@ module _ (m : Memory) (mode : Mode) (r : Registers) (short : Bool) (operand : �
   act = address_of mode r operand
 
   module _ (a : AddressRead) (e : a ≡ address_read (evaluate m act)) where
-    pub data-nowhere : (alone : Bool) → a ≡ AddressRead.Unmapped
+    pub data_nowhere : (alone : Bool) → a ≡ AddressRead.Unmapped
         → DataRead.Unmapped ≡ data_read (evaluate m (reached_by alone mode r short operand))
-    data-nowhere true e' = alone_nowhere m act short a e e'
-    data-nowhere false e' = there_nowhere m act short a e e'
+    data_nowhere true e' = alone_nowhere m act short a e e'
+    data_nowhere false e' = there_nowhere m act short a e e'
 
-    pub address-found : (alone : Bool) → alone ≡ true → (at : ℕ) → a ≡ AddressRead.At at
+    pub address_found : (alone : Bool) → alone ≡ true → (at : ℕ) → a ≡ AddressRead.At at
         → DataRead.Found (data_at at 0) ≡ data_read (evaluate m (reached_by alone mode r short operand))
-    address-found true t at e' = alone_found m act short a e at e'
-    address-found false t at e' = cc
+    address_found true t at e' = alone_found m act short a e at e'
+    address_found false t at e' = cc
 
     module _ (at : ℕ) (e' : a ≡ AddressRead.At at) (w : WordRead)
         (read : w ≡ word_read (evaluate m (read_data short at))) where
-      pub data-found : (alone : Bool) → alone ≡ false → (v : ℕ) → w ≡ WordRead.Word v
+      pub data_found : (alone : Bool) → alone ≡ false → (v : ℕ) → w ≡ WordRead.Word v
           → DataRead.Found (data_at at v) ≡ data_read (evaluate m (reached_by alone mode r short operand))
-      data-found true t v e'' = cc
-      data-found false t v e'' = there-found m act short a e at e' w read v e''
+      data_found true t v e'' = cc
+      data_found false t v e'' = there_found m act short a e at e' w read v e''
 
-      pub data-missing : (alone : Bool) → alone ≡ false → w ≡ WordRead.Unmapped
+      pub data_missing : (alone : Bool) → alone ≡ false → w ≡ WordRead.Unmapped
           → DataRead.Unmapped ≡ data_read (evaluate m (reached_by alone mode r short operand))
-      data-missing true t e'' = cc
-      data-missing false t e'' = there-missing m act short a e at e' w read e''
+      data_missing true t e'' = cc
+      data_missing false t e'' = there_missing m act short a e at e' w read e''
 
 -- what is asked of the mode's data, where the code looks for it
 module _ (mode : Mode) (register : Named) (r : Registers) (short : Bool) (operand : ℕ) where

@@ -47,7 +47,7 @@ module _ (image text : List ℕ) where
     unfolding answer_for
     long_image h = rw (le-leb (length text) list_limit short, lt-leb (length image) image_limit h)
 
-    pub both-short : (answer : FileAnswer) → answer ≡ list_answer image text → length image ≤ image_limit
+    pub both_short : (answer : FileAnswer) → answer ≡ list_answer image text → length image ≤ image_limit
         → answer ≡ answer_for image text
     unfolding answer_for
-    both-short answer e h = rw (le-leb (length text) list_limit short, le-leb (length image) image_limit h) e
+    both_short answer e h = rw (le-leb (length text) list_limit short, le-leb (length image) image_limit h) e

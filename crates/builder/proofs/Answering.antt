@@ -46,17 +46,17 @@ module _ (base n : ℕ) (text : List ℕ) (old : Bool) (is-old : old ≡ has_old
 
   module _ (end : ℕ) (inside : end ≤ length text) (left : drop end text ≡ lines_left (digits_by old) first n text)
     where
-      is-left : drop end text ≡ lines_left (routine_digits text) (first_routine base text) n text
-      is-left = rw (is-first, is-old) at left
+      is_left : drop end text ≡ lines_left (routine_digits text) (first_routine base text) n text
+      is_left = rw (is-first, is-old) at left
 
       pub some_left : (end ≡ length text → ⊥) → false ≡ routines_fit base n text
       unfolding routines_fit routines_inside
-      some_left other = rw (← is-left, ← nothing_left text end inside, ne_eqb end (length text) other)
+      some_left other = rw (← is_left, ← nothing_left text end inside, ne_eqb end (length text) other)
 
       pub none_left : end ≡ length text → (count : ℕ) → count ≡ start_count (routine_marks base n text)
           → leb count routine_limit ≡ routines_fit base n text
       unfolding routines_fit routines_inside
-      none_left same count e = rw (← is-left, ← nothing_left text end inside, eq-eqb end (length text) same, e)
+      none_left same count e = rw (← is_left, ← nothing_left text end inside, eq-eqb end (length text) same, e)
 
 -- ---- every call's target is on the list
 
@@ -131,8 +131,8 @@ module _ (image : List ℕ) (base reset : ℕ) (text marks : List ℕ) where
     pub ends_low : base + length image ≤ address_limit
     ends_low = base_whole base (length image) (list_base (has_old_lines text) base (length image) held.1.1.0)
 
-    pub not-fit : routines_fit base (length image) text ≡ false → Answers (TestResult.Failed Refusal.Routines) marks
-    not-fit fit =
+    pub not_fit : routines_fit base (length image) text ≡ false → Answers (TestResult.Failed Refusal.Routines) marks
+    not_fit fit =
         refused_so Refusal.Routines (routines_refuse image base reset text marks passed fit)
 
     module _ (fit : routines_fit base (length image) text ≡ true) (routines made : List ℕ)
@@ -141,20 +141,20 @@ module _ (image : List ℕ) (base reset : ℕ) (text marks : List ℕ) where
       limits : WithinLimits image base text marks
       limits = within_limits image base reset text marks passed fit
 
-      lacks-nothing : Complete image base reset (routine_marks base (length image) text) made
-      lacks-nothing =
+      lacks_nothing : Complete image base reset (routine_marks base (length image) text) made
+      lacks_nothing =
           complete image base reset (routine_marks base (length image) text) made size
           (subst (λ l. Closed image base reset l made) listed c)
 
-      pub not-admitted : is_admitted image base reset routines made ≡ false
+      pub not_admitted : is_admitted image base reset routines made ≡ false
           → Answers (TestResult.Failed Refusal.Routines) marks
-      not-admitted h =
+      not_admitted h =
           refused_so Refusal.Routines
-          (worked_refused image base reset text marks made limits lacks-nothing (rw listed at h)).0
+          (worked_refused image base reset text marks made limits lacks_nothing (rw listed at h)).0
 
       pub admitted : is_admitted image base reset routines made ≡ true → Answers TestResult.Passed made
       admitted h =
-          let done = worked_delivered image base reset text marks made limits lacks-nothing (rw listed at h) in
+          let done = worked_delivered image base reset text marks made limits lacks_nothing (rw listed at h) in
           (sym done.0, sym done.1)
 
 -- a byte of a table is a start, or 00

@@ -28,24 +28,24 @@ module _ (marks : List ℕ) (base at : ℕ) (i : Instruction) (mark next : ℕ) 
   put_next after flow is-after e = rw (← flow, ← is-mark, ← is-next, ← is-after) e
 
   module _ (to : ℕ) (is-to : to ≡ target_address i (base + at)) where
-    pub put-branch : (after : ℕ) (one : List ℕ) → Flow.Branch ≡ i.entry.flow
+    pub put_branch : (after : ℕ) (one : List ℕ) → Flow.Branch ≡ i.entry.flow
         → after ≡ mark_after i.entry.effect i.operand mark → one ≡ put marks base next after
         → made ≡ put one base to after → made ≡ put_owed marks base (owed_there marks base at i)
     unfolding put_owed owed_at owed_by
-    put-branch after one flow is-after first e =
+    put_branch after one flow is-after first e =
         rw (← flow, ← is-mark, ← is-next, ← is-after, ← is-to, ← first) e
 
-    pub put-jump : (after : ℕ) → Flow.Jump ≡ i.entry.flow → after ≡ mark_after i.entry.effect i.operand mark
+    pub put_jump : (after : ℕ) → Flow.Jump ≡ i.entry.flow → after ≡ mark_after i.entry.effect i.operand mark
         → made ≡ put marks base to after → made ≡ put_owed marks base (owed_there marks base at i)
     unfolding put_owed owed_at owed_by
-    put-jump after flow is-after e = rw (← flow, ← is-mark, ← is-after, ← is-to) e
+    put_jump after flow is-after e = rw (← flow, ← is-mark, ← is-after, ← is-to) e
 
-    pub put-call : (kind : Kind) (there routine back : ℕ) (one : List ℕ) → Flow.Call kind ≡ i.entry.flow
+    pub put_call : (kind : Kind) (there routine back : ℕ) (one : List ℕ) → Flow.Call kind ≡ i.entry.flow
         → there ≡ mark_at marks base to → routine ≡ mark_of_routine kind mark there → back ≡ mark_on_return mark there
         → one ≡ put marks base to routine → made ≡ put one base next back
         → made ≡ put_owed marks base (owed_there marks base at i)
     unfolding put_owed owed_at owed_by
-    put-call kind there routine back one flow is-there is-routine is-back first e =
+    put_call kind there routine back one flow is-there is-routine is-back first e =
         rw (← flow, ← is-mark, ← is-next, ← is-to, ← is-there, ← is-routine, ← is-back, ← first) e
 
 pub put_return : (marks : List ℕ) (base at : ℕ) (i : Instruction) (kind : Kind) → Flow.Return kind ≡ i.entry.flow

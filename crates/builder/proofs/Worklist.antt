@@ -20,7 +20,7 @@ use Rattle.acceptance.specs.Rules.{instruction_at, Met, AllMet}
 use Rattle.acceptance.specs.Verdict.{start_at, is_start_at, all_starts}
 use Rattle.lists.specs.Routines.{StandsIn, Admitted}
 use Rattle.acceptance.proofs.Verdict.{start_inside}
-use Rattle.lists.proofs.Routines.{stands_through, same_at, admitted_length, reset_met, whole-there, owed-met}
+use Rattle.lists.proofs.Routines.{stands_through, same_at, admitted_length, reset_met, whole_there, owed_met}
 use Rattle.lists.proofs.LeastMarks.{Complete}
 use Rattle.builder.specs.Order.{is_free_at, put, put_owed, owed_of, owed_behind, Queue, Kept, Working, Closed}
 use Rattle.builder.proofs.Putting.{is_free, put_free, put_taken}
@@ -145,21 +145,21 @@ module _ (marks : List ℕ) (base : ℕ) where
       (put_kept one base w.address w.mark)
 
   module _ (others : List ℕ) where
-    owed-within : (o : Requirements) → StandsIn marks others → AllMet others base o
+    owed_within : (o : Requirements) → StandsIn marks others → AllMet others base o
         → StandsIn (put_owed marks base o) others
     unfolding put_owed
-    owed-within Requirements.Nothing stands met = stands
-    owed-within (Requirements.One w) stands met = put_within marks base w.address w.mark others met stands
-    owed-within (Requirements.Two v w) stands met =
+    owed_within Requirements.Nothing stands met = stands
+    owed_within (Requirements.One w) stands met = put_within marks base w.address w.mark others met stands
+    owed_within (Requirements.Two v w) stands met =
         put_within (put marks base v.address v.mark) base w.address w.mark others met.1
         (put_within marks base v.address v.mark others met.0 stands)
 
-    owed-there : (o : Requirements) → length others ≡ length marks → AllMet others base o
+    owed_there_lem : (o : Requirements) → length others ≡ length marks → AllMet others base o
         → all_starts (put_owed marks base o) base o ≡ true
     unfolding put_owed all_starts is_start_at
-    owed-there Requirements.Nothing long met = refl
-    owed-there (Requirements.One w) long met = put_there marks base w.address w.mark others met long
-    owed-there (Requirements.Two v w) long met =
+    owed_there_lem Requirements.Nothing long met = refl
+    owed_there_lem (Requirements.One w) long met = put_there marks base w.address w.mark others met long
+    owed_there_lem (Requirements.Two v w) long met =
         let one = put marks base v.address v.mark in
         let two = put one base w.address w.mark in
         rw (
@@ -185,20 +185,20 @@ module _ (image : List ℕ) (base reset : ℕ) (routines : List ℕ) where
           → (owed_of marks base at d ≡ owed_of others base at d) × AllMet others base (owed_of marks base at d)
       by Decoded.NotCarried e = (refl, tt)
       by Decoded.CutOff e = (refl, tt)
-      by (Decoded.Whole i) e = owed-met image base reset routines marks others v stands at s i listed e
+      by (Decoded.Whole i) e = owed_met image base reset routines marks others v stands at s i listed e
 
   -- the start at the reset address
   abbrev with_reset : List ℕ
   with_reset = put routines base reset (mark_of 0 0 0 0 0)
 
   module _ (others : List ℕ) (v : Admitted image base reset routines others) where
-    reset-within : StandsIn with_reset others
-    reset-within =
+    reset_within : StandsIn with_reset others
+    reset_within =
         put_within routines base reset (mark_of 0 0 0 0 0) others (reset_met image base reset routines others v)
-        v.as-listed
+        v.as_listed
 
-    reset-there : length routines ≡ length image → is_start (mark_at with_reset base reset) ≡ true
-    reset-there long =
+    reset_there : length routines ≡ length image → is_start (mark_at with_reset base reset) ≡ true
+    reset_there long =
         put_there routines base reset (mark_of 0 0 0 0 0) others (reset_met image base reset routines others v)
         (admitted_length image base reset routines others v ∙ sym long)
 
@@ -207,9 +207,9 @@ module _ (image : List ℕ) (base reset : ℕ) (routines : List ℕ) where
   begins marks order count long is-put q = rw is-put (record {
     queue = rw is-put at q;
     some = omega arith;
-    as-listed = put_kept routines base reset (mark_of 0 0 0 0 0);
-    within = reset-within;
-    at_reset = λ others v. reset-there others v long;
+    as_listed = put_kept routines base reset (mark_of 0 0 0 0 0);
+    within = reset_within;
+    at_reset = λ others v. reset_there others v long;
     answered = λ others v k low. absurd (omega arith);
   })
 
@@ -232,20 +232,20 @@ module _ (image : List ℕ) (base reset : ℕ) (routines : List ℕ) where
 
     module _ (others : List ℕ) (v : Admitted image base reset routines others) where
       behind : (owed ≡ owed_behind image others base at) × AllMet others base owed
-      behind = behind_met marks others at v (w.within others v) w.as-listed started
+      behind = behind_met marks others at v (w.within others v) w.as_listed started
 
       within_more : StandsIn after others
-      within_more = rw is-after (owed-within marks base others owed (w.within others v) behind.1)
+      within_more = rw is-after (owed_within marks base others owed (w.within others v) behind.1)
 
       here : all_starts after base (owed_behind image others base at) ≡ true
       here =
           rw (← behind.0, is-after)
-          (owed-there marks base others owed
+          (owed_there_lem marks base others owed
           (admitted_length image base reset routines others v ∙ sym long) behind.1)
 
-      answered-more : (k : ℕ) → k < done + 1
+      answered_more : (k : ℕ) → k < done + 1
           → all_starts after base (owed_behind image others base (get_or later k 0)) ≡ true
-      answered-more k below = by (eqb k done) refl
+      answered_more k below = by (eqb k done) refl
         where
           by : (b : Bool) → eqb k done ≡ b
               → all_starts after base (owed_behind image others base (get_or later k 0)) ≡ true
@@ -256,14 +256,14 @@ module _ (image : List ℕ) (base reset : ℕ) (routines : List ℕ) where
               (all_kept marks after base (owed_behind image others base (get_or order k 0)) stood
               (w.answered others v k (omega (arith, other))))
 
-    pub worked-on : Working image base reset routines after later more (done + 1)
-    worked-on = record {
+    pub worked_on : Working image base reset routines after later more (done + 1)
+    worked_on = record {
       queue = q;
       some = omega (arith, kept.0);
-      as-listed = stands_through routines marks after w.as-listed stood;
+      as_listed = stands_through routines marks after w.as_listed stood;
       within = within_more;
       at_reset = λ others v. start_kept marks after base reset stood (w.at_reset others v);
-      answered = answered-more;
+      answered = answered_more;
     }
 
   -- where none of the order is left, all of it has been gone through
@@ -277,7 +277,7 @@ module _ (image : List ℕ) (base reset : ℕ) (routines : List ℕ) where
       → Closed image base reset routines marks
   closed marks order count w = record {
     plain = w.queue.plain;
-    as-listed = w.as-listed;
+    as_listed = w.as_listed;
     within = w.within;
     at_reset = w.at_reset;
     answered = λ others v at s. let c = w.queue.covered at s in rw (← c.2) (w.answered others v c.0 c.1);
@@ -291,9 +291,9 @@ module _ (image : List ℕ) (base reset : ℕ) (routines : List ℕ) where
     size = long;
     plain = c.plain;
     within = c.within others v;
-    listed = c.as-listed;
+    listed = c.as_listed;
     at_reset = c.at_reset others v;
     owed = λ at i s whole.
-        let there = whole-there image base reset routines marks others v (c.within others v) at s i whole in
+        let there = whole_there image base reset routines marks others v (c.within others v) at s i whole in
         rw there at (c.answered others v at s);
   }

@@ -52,7 +52,7 @@ module _ (image : List ℕ) (base reset : ℕ) (routines : List ℕ) where
   pub record Working (marks order : List ℕ) (count done : ℕ) : Type 0 where
     pub queue : Queue marks order count
     pub some : done ≤ count
-    pub as-listed : StandsIn routines marks
+    pub as_listed : StandsIn routines marks
     pub within : (others : List ℕ) → Admitted image base reset routines others → StandsIn marks others
     pub at_reset : (others : List ℕ) → Admitted image base reset routines others
         → is_start (mark_at marks base reset) ≡ true
@@ -62,7 +62,7 @@ module _ (image : List ℕ) (base reset : ℕ) (routines : List ℕ) where
   -- marks that lack nothing which an admitted marking requires behind their starts
   pub record Closed (marks : List ℕ) : Type 0 where
     pub plain : Plain marks
-    pub as-listed : StandsIn routines marks
+    pub as_listed : StandsIn routines marks
     pub within : (others : List ℕ) → Admitted image base reset routines others → StandsIn marks others
     pub at_reset : (others : List ℕ) → Admitted image base reset routines others
         → is_start (mark_at marks base reset) ≡ true

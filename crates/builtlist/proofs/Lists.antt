@@ -61,10 +61,10 @@ module _ (marks : List ℕ) (base reset : ℕ) (accepted : Accepted marks base r
         size (ListWritten.NotWritten why) = 0
         size (ListWritten.Written n) = n + 1
 
-    pub page-written : (n : ℕ) → write_list marks base reset page ≡ ListWritten.Written n
+    pub page_written_lem : (n : ℕ) → write_list marks base reset page ≡ ListWritten.Written n
         → (n ≡ length text) × (page_written marks base reset page ≡ text ++ drop n page)
     unfolding page_written page_by
-    page-written n e =
+    page_written_lem n e =
         let whole = written_whole page (omega (arith, list_most, room)) in
         let same : ListWritten.Written n ≡ ListWritten.Written (length text) = sym e ∙ whole in
         (cc, rw e)
@@ -88,10 +88,10 @@ module _ (image : List ℕ) (base reset : ℕ) (text marks : List ℕ) (alike : 
   refused_list why e = rw (← same_answer, e)
 
   module _ (e : built image base reset text marks ≡ TestResult.Passed) where
-    pub delivered-accepted : verdict image (marks_built image base reset text marks) base reset ≡ Verdict.Accepted
-    delivered-accepted = (delivers_least image base reset text marks e).admitted.passes
+    pub delivered_accepted : verdict image (marks_built image base reset text marks) base reset ≡ Verdict.Accepted
+    delivered_accepted = (delivers_least image base reset text marks e).admitted.passes
 
-    pub delivered-list : list_text new_digits (marks_built image base reset text marks) base reset
+    pub delivered_list : list_text new_digits (marks_built image base reset text marks) base reset
         ≡ list_of image base reset text
     unfolding list_of list_by
-    delivered-list = rw (← same_answer, e) (ap (λ m. list_text new_digits m base reset) (same_marks e))
+    delivered_list = rw (← same_answer, e) (ap (λ m. list_text new_digits m base reset) (same_marks e))

@@ -37,10 +37,10 @@ module _ (image base reset text : List ℕ) where
     long_image h = rw (le-leb (length text) list_limit short, lt-leb (length image) image_limit h)
 
     module _ (few : length image ≤ image_limit) where
-      pub no-base : (given : Bool) → given ≡ is_address base → not given ≡ true
+      pub no_base : (given : Bool) → given ≡ is_address base → not given ≡ true
           → false ≡ is_taken image base reset text
       unfolding is_taken
-      no-base given same failed =
+      no_base given same failed =
           rw (
             le-leb (length text) list_limit short,
             le-leb (length image) image_limit few,
@@ -48,10 +48,10 @@ module _ (image base reset text : List ℕ) where
             not-true given failed,
           )
 
-      pub by-reset : (given so : Bool) → given ≡ is_address base → not given ≡ false → so ≡ is_address reset
+      pub by_reset : (given so : Bool) → given ≡ is_address base → not given ≡ false → so ≡ is_address reset
           → so ≡ is_taken image base reset text
       unfolding is_taken
-      by-reset given so same held e =
+      by_reset given so same held e =
           rw (
             le-leb (length text) list_limit short,
             le-leb (length image) image_limit few,
@@ -65,15 +65,15 @@ module _ (image base reset text : List ℕ) where
     unfolding built_list
     not_taken failed = rw (← same, not-true given failed)
 
-    pub taken-list : not given ≡ false
+    pub taken_list : not given ≡ false
         → list_of image (address_shown base) (address_shown reset) text ≡ built_list image base reset text
     unfolding built_list
-    taken-list held = rw (← same, not-false given held)
+    taken_list held = rw (← same, not-false given held)
 
     -- an image that is taken has few bytes
-    pub taken-few : not given ≡ false → length image ≤ image_limit
+    pub taken_few : not given ≡ false → length image ≤ image_limit
     unfolding is_taken
-    taken-few held =
+    taken_few held =
         let e = sym same ∙ not-false given held in
         let limits = (both_true (leb (length text) list_limit && leb (length image) image_limit) _ e).0 in
         leb-true (length image) image_limit (both_true (leb (length text) list_limit) _ limits).1

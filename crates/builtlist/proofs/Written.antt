@@ -18,9 +18,9 @@ use Rattle.acceptance.proofs.Verdict.{accepted_rules}
 use Rattle.lists.proofs.RoundTrips.{written_then_read}
 use Rattle.answer.specs.declared.answers.FileAnswer.{FileAnswer}
 use Rattle.answer.specs.AnswerLine.{list_limit, answer_by, verdict_answer, list_answer, answer_for}
-use Rattle.answer.proofs.AnswerLaws.{list_taken, both-short}
+use Rattle.answer.proofs.AnswerLaws.{list_taken, both_short}
 use Rattle.builtlist.specs.BuiltList.{address_shown, built_list, WrittenAccepted}
-use Rattle.builtlist.proofs.Lists.{written_whole, delivered-accepted, delivered-list}
+use Rattle.builtlist.proofs.Lists.{written_whole, delivered_accepted, delivered_list}
 
 -- the list of marks that the check accepts is read as these marks, and accepted
 list_accepted : (image marks : List ℕ) (base reset : ℕ) → verdict image marks base reset ≡ Verdict.Accepted
@@ -35,17 +35,17 @@ list_accepted image marks base reset e short =
     let same = take_at text (drop (length text) text) (length text) refl in
     let h : Header = record { base = base; length = length marks; reset = reset } in
     let header : read_list text image ≡ ListRead.Read h = rw (written, same) at read.0 in
-    let marks-read : marks_read text image ≡ marks = rw (written, same) at read.1 in
+    let as_read : marks_read text image ≡ marks = rw (written, same) at read.1 in
     let answer : FileAnswer.Accepted (start_count marks) ≡ list_answer image text =
-    rw (marks-read, e) at (list_taken image text image refl h header) in
-    sym (both-short image text short (FileAnswer.Accepted (start_count marks)) answer fits.few)
+    rw (as_read, e) at (list_taken image text image refl h header) in
+    sym (both_short image text short (FileAnswer.Accepted (start_count marks)) answer fits.few)
 
 pub written_accepted : WrittenAccepted
 unfolding built_list
 written_accepted image word word' text taken built short =
     let base = address_shown word in
     let reset = address_shown word' in
-    let same = delivered-list image base reset text image refl built in
-    let accepted = delivered-accepted image base reset text image refl built in
+    let same = delivered_list image base reset text image refl built in
+    let accepted = delivered_accepted image base reset text image refl built in
     rw (taken, ← same) (list_accepted image (marks_built image base reset text image) base reset accepted
     (rw (taken, ← same) at short))

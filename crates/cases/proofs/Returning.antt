@@ -79,9 +79,9 @@ module _ (m : Memory) (s : State) where
         goes_by m s n (stepped StepAnswer.Completed s m.ram) same refl (replicate n still) (repeated n)
 
     -- a run that is not refused
-    run-back : (n : ℕ) → admission m s n ≡ TestResult.Passed
+    run_back : (n : ℕ) → admission m s n ≡ TestResult.Passed
         → ran m s n ≡ record { answer = RunAnswer.Ended End.Done n 0; state = s; ram = m.ram }
-    run-back n a =
+    run_back n a =
         (admitted_ran m s n a).1 ∙ rw (repeated n, ends n, completes n, calls_none n, state_back n, ram_back n) refl
 
     pub returning : ((n : ℕ) → n ≤ step_limit → admission m s n ≡ TestResult.Passed) → (n : ℕ) → Returns m s n
@@ -92,5 +92,5 @@ module _ (m : Memory) (s : State) where
       calls = rw (repeated n) (calls_none n);
       state = rw (repeated n) (state_back n);
       ram = rw (repeated n) (ram_back n);
-      run = λ h. run-back n (admitted n h);
+      run = λ h. run_back n (admitted n h);
     }

@@ -68,8 +68,8 @@ module _ (file : List ℕ) where
     abbrev pub old : ℕ
     old = slice_index file to
 
-    abbrev pub lowOld : ℕ
-    lowOld = low n old
+    abbrev pub low_old : ℕ
+    low_old = low n old
 
     -- data with N and Z
     abbrev pub loading : ℕ → Status → Effect
@@ -80,28 +80,28 @@ module _ (file : List ℕ) where
     transferring v s = putting to (low n v) (with_result n v s)
 
     -- what was worked out, with N and Z
-    abbrev pub loadingWork : Worked → Effect
-    loadingWork w = loading w.value w.status
+    abbrev pub loading_work : Worked → Effect
+    loading_work w = loading w.value w.status
 
     abbrev pub combining : ℕ → ℕ → Effect
-    combining which v = loadingWork (combined which n lowOld v status)
+    combining which v = loading_work (combined which n low_old v status)
 
     abbrev pub comparing : ℕ → Effect
     comparing v =
         leaving
-        (with_result n (difference n lowOld v true)
-        (with_carry (is_past n (difference n lowOld v true)) status))
+        (with_result n (difference n low_old v true)
+        (with_carry (is_past n (difference n low_old v true)) status))
 
     abbrev pub rotating : ℕ → Effect
-    rotating k = putting to (merged n old (rotated n lowOld k)) status
+    rotating k = putting to (merged n old (rotated n low_old k)) status
 
     -- what was worked out goes where the data came from
     abbrev pub modifying : OperandPlace → ℕ → Worked → Effect
     modifying OperandPlace.Memory address w =
         effect (with_status (with_result n w.value w.status) (registers_of file))
         (stores_of short address (low n w.value)) false
-    modifying OperandPlace.Instruction address w = loadingWork w
-    modifying OperandPlace.Register address w = loadingWork w
+    modifying OperandPlace.Instruction address w = loading_work w
+    modifying OperandPlace.Register address w = loading_work w
 
   -- a register off the stack, S behind it
   abbrev pub pulling : ℕ → Bool → ℕ → Status → Effect

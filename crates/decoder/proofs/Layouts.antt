@@ -93,19 +93,19 @@ module _ (image : List ℕ) (at m x : ℕ) (layout-here : LayoutRead)
     pub fits_in : FittingIn (length image - at) layout-here
     fits_in = rw (is-layout, ← length-drop at image) (fitting (drop at image) m x)
 
-    pub fits-at : (f : Layout) → layout-here ≡ LayoutRead.Fits f → Fitting (length image - at) f
-    fits-at f e = rw e at fits_in
+    pub fits_at : (f : Layout) → layout-here ≡ LayoutRead.Fits f → Fitting (length image - at) f
+    fits_at f e = rw e at fits_in
 
-    pub decoded-fits : (f : Layout) (i : Instruction) → layout-here ≡ LayoutRead.Fits f
+    pub decoded_fits : (f : Layout) (i : Instruction) → layout-here ≡ LayoutRead.Fits f
         → i ≡ instruction_of (drop at image) f
         → Decoded.Whole i ≡ decode (drop at image) m x
-    decoded-fits f i e same = rw (decoded_layout (drop at image) m x, ← is-layout, e, same)
+    decoded_fits f i e same = rw (decoded_layout (drop at image) m x, ← is-layout, e, same)
 
-    pub decoded-uncarried : layout-here ≡ LayoutRead.Uncarried → Decoded.NotCarried ≡ decode (drop at image) m x
-    decoded-uncarried e = rw (decoded_layout (drop at image) m x, ← is-layout, e)
+    pub decoded_uncarried : layout-here ≡ LayoutRead.Uncarried → Decoded.NotCarried ≡ decode (drop at image) m x
+    decoded_uncarried e = rw (decoded_layout (drop at image) m x, ← is-layout, e)
 
-    pub decoded-short : layout-here ≡ LayoutRead.Short → Decoded.CutOff ≡ decode (drop at image) m x
-    decoded-short e = rw (decoded_layout (drop at image) m x, ← is-layout, e)
+    pub decoded_short : layout-here ≡ LayoutRead.Short → Decoded.CutOff ≡ decode (drop at image) m x
+    decoded_short e = rw (decoded_layout (drop at image) m x, ← is-layout, e)
 
 -- a layout goes by its code
 layout_by_lem : (left n prefix m x : ℕ) (a b : Bool)
@@ -159,32 +159,32 @@ module _ (image : List ℕ) (at : ℕ) where
       rw same e
 
   module _ (page prefix : ℕ) (at-prefix : prefix ≡ prefix_bytes page) (at-page : page_of first ≡ page) where
-    pub coded-short : length image - at ≤ prefix → CodeRead.Short ≡ code_read (drop at image)
+    pub coded_short : length image - at ≤ prefix → CodeRead.Short ≡ code_read (drop at image)
     unfolding code_on
-    coded-short few =
+    coded_short few =
         coded_on page CodeRead.Short at-page (rw (length-drop, ← at-prefix, le-ltb prefix (length image - at) few) refl)
 
     module _ (n : ℕ) (some : prefix < length image - at)
         (at_code : n ≡ packed_at packed_pages page (get_or image (at + prefix) 0))
       where
-        by-carried : (b : Bool) → (unpacked n).carried ≡ b
+        by_carried : (b : Bool) → (unpacked n).carried ≡ b
             → pick b (CodeRead.Code n prefix) CodeRead.Uncarried ≡ code_on page (drop at image)
         unfolding code_on
-        by-carried b e =
+        by_carried b e =
             rw (length-drop, ← at-prefix, lt-ltb prefix (length image - at) some, get_or-drop, ← at_code, e) refl
 
-        pub coded-carried : (unpacked n).carried ≡ true → CodeRead.Code n prefix ≡ code_read (drop at image)
-        coded-carried e = coded_on page (CodeRead.Code n prefix) at-page (by-carried true e)
+        pub coded_carried : (unpacked n).carried ≡ true → CodeRead.Code n prefix ≡ code_read (drop at image)
+        coded_carried e = coded_on page (CodeRead.Code n prefix) at-page (by_carried true e)
 
-        pub coded-uncarried : (unpacked n).carried ≡ false → CodeRead.Uncarried ≡ code_read (drop at image)
-        coded-uncarried e = coded_on page CodeRead.Uncarried at-page (by-carried false e)
+        pub coded_uncarried : (unpacked n).carried ≡ false → CodeRead.Uncarried ≡ code_read (drop at image)
+        coded_uncarried e = coded_on page CodeRead.Uncarried at-page (by_carried false e)
 
   pub coded_plain : (n : ℕ) → at < length image → n ≡ packed_at packed_pages 0 first → (unpacked n).carried ≡ true
       → CodeRead.Code n 0 ≡ code_read (drop at image)
   coded_plain n inside at_code e =
-      coded-carried 0 0 refl (plain_page first (rw (← at_code) e)) n (omega arith) (rw add-zero at_code) e
+      coded_carried 0 0 refl (plain_page first (rw (← at_code) e)) n (omega arith) (rw add-zero at_code) e
 
   pub coded_nothing : (page : ℕ) → page ≡ page_of first → page ≡ 0 → at < length image
       → (unpacked (packed_at packed_pages 0 first)).carried ≡ false → CodeRead.Uncarried ≡ code_read (drop at image)
   coded_nothing page is-page zero inside e =
-      coded-uncarried 0 0 refl (sym is-page ∙ zero) (packed_at packed_pages 0 first) (omega arith) (rw add-zero refl) e
+      coded_uncarried 0 0 refl (sym is-page ∙ zero) (packed_at packed_pages 0 first) (omega arith) (rw add-zero refl) e

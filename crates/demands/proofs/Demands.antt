@@ -53,7 +53,7 @@ use Rattle.execution.proofs.RunGrounds.{run_bytes_answers}
 use Rattle.lists.proofs.ListGrounds.{read_answers, write_answers}
 use Rattle.lists.proofs.RoundTrips.{six_again, written_then_read}
 use Rattle.execution.proofs.Run.{stops_leave, executed_one}
-use Rattle.execution.proofs.RunBytes.{bytes-ran, said-left, long-left, taken, refused_leaves, none_leaves}
+use Rattle.execution.proofs.RunBytes.{bytes_ran, said_left, long_left, taken, refused_leaves, none_leaves}
 use Rattle.execution.proofs.Guarantee.{guarantee}
 use Rattle.demands.specs.Calls.{holds, CheckCall, ReadCall, WriteCall, RunCall, numbers, memory_of, state_given}
 use Rattle.demands.specs.Calls.{history_of}
@@ -201,7 +201,7 @@ module _ (c : RunCall) (zero : (numbers c).refusal ≡ 0) where
       by (RunAnswer.NotRun why) e told = absurd (omega (arith, zero, ap (λ n. n.refusal) told, (refusal_range why).0))
       by (RunAnswer.Ended end steps calls) e told =
           let t = taken (memory_of c) (holds c.state) c.steps end steps calls e in
-          shows t.history-is t.ran-is
+          shows t.history_is t.ran_is
 
   by_history : ByHistory c
   by_history = when_taken (λ same run. record {
@@ -328,9 +328,9 @@ left : (c : RunCall) → Long c → Left c
 left c whole =
     let m = memory_of c in
     let given = holds c.state in
-    let same = bytes-ran m given c.steps whole c.state.bytes in
-    let said = said-left m given c.steps whole c.state.bytes c.image.bytes c.ram.bytes in
-    let long = long-left m given c.steps whole c.state.bytes c.image.bytes c.ram.bytes in
+    let same = bytes_ran m given c.steps whole c.state.bytes in
+    let said = said_left m given c.steps whole c.state.bytes c.image.bytes c.ram.bytes in
+    let long = long_left m given c.steps whole c.state.bytes c.image.bytes c.ram.bytes in
     record {
       answer = numbers_of_run c ∙ ap (λ r. answer_numbers r.answer) same;
       state = ap state_of (promised c).state ∙ said;

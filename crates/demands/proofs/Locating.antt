@@ -88,14 +88,14 @@ module _ (c : LocateCall) where
       × ((located_numbers c.result).read ≡ marks_to c.base addresses)
   places_found zero = when_located zero (λ n e read.
       let so = locates_as_alone image marks c.base c.reset addresses places n e in
-      (c.kept.1 ∙ so.each, read ∙ so.marks-read))
+      (c.kept.1 ∙ so.each, read ∙ so.marks_counted))
 
 alone : (c d : LocateCall) (k : ℕ) → (located_numbers c.result).number ≡ 0 → LocatesAlike c d
     → k < length (listed c.addresses) → listed d.addresses ≡ get_or (listed c.addresses) k 0 ∷ []
     → 1 ≤ length (listed d.places)
     → ((located_numbers d.result).number ≡ 0) × (get_or d.places_left 0 0 ≡ get_or c.places_left k 0)
 alone c d k zero same inside one room = when_located c zero (λ n e read.
-    let own = (locates_as_alone (image c) (marks c) c.base c.reset (addresses c) (places c) n e).own-call k
+    let own = (locates_as_alone (image c) (marks c) c.base c.reset (addresses c) (places c) n e).own_call k
     (places d) inside room in
     let a = get_or (addresses c) k 0 in
     let answer : located_of d ≡ Located.MarksRead (a - c.base + 1) =

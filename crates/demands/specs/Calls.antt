@@ -1,8 +1,8 @@
--- The nine exported functions (loader/src/lib.rt) and their calls: what a call is given, its result, what it leaves,
--- and that it keeps its function's contract. Each contract is the function's own: `Learnt` is what a caller learns by
--- the `ensures` that stand there, `Asked` what its `requires` ask, and `statement` the theorem that its code keeps
--- it, all made by the toolchain from the text there. So whoever weakens a promise weakens what is known of a call
--- here.
+-- The nine functions of the C interface (loader/src/lib.rt; loader_c exports each) and their calls: what a call is
+-- given, its result, what it leaves, and that it keeps its function's contract. Each contract is the function's own:
+-- `Learnt` is what a caller learns by the `ensures` that stand there, `Asked` what its `requires` ask, and `statement`
+-- the theorem that its code keeps it, all made by the toolchain from the text there. So whoever weakens a promise
+-- weakens what is known of a call here.
 -- Assumes nothing.
 use Rattle.std.specs.Prelude.{◌≡◌, ℕ, List}
 use base.Fml.{Lft}

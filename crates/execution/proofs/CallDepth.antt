@@ -96,8 +96,8 @@ module _ (fewer limit : ℕ) (most : fewer ≤ limit) (more : List ℕ) where
       by (Served.Unserved stop) = refl
 
   module _ (m : Memory) (s : State) (h : Holds fewer s) where
-    last-same : 0 < s.core.depth → last_opened (extended more s) ≡ last_opened s
-    last-same some = get_or-append s.calls more 0 (s.core.depth - 1) (omega (arith, h.few, h.room))
+    last_same : 0 < s.core.depth → last_opened (extended more s) ≡ last_opened s
+    last_same some = get_or-append s.calls more 0 (s.core.depth - 1) (omega (arith, h.few, h.room))
 
     step_same : MeetsNoCall fewer m.image m.base (event_within limit m (extended more s))
         → step_within limit m (extended more s) ≡ extended_stepped more (step_within fewer m s)
@@ -118,37 +118,37 @@ module _ (fewer limit : ℕ) (most : fewer ≤ limit) (more : List ℕ) where
         by Decoded.NotCarried e = refl
         by (Decoded.Whole i) e =
             ap (λ p. finish p i m (extended more s))
-            (plan_same s.core i (last_opened s) (last_opened (extended more s)) last-same fewer limit most m
+            (plan_same s.core i (last_opened s) (last_opened (extended more s)) last_same fewer limit most m
             i.entry.flow (below i e))
             ∙ finish_same i m s (plan_within fewer m s i)
             (opens_below fewer s.core i m (last_opened s) i.entry.flow) h.room
 
     -- a step keeps the number of records
-    records-kept : length (step_within fewer m s).state.calls ≡ length s.calls
+    records_kept : length (step_within fewer m s).state.calls ≡ length s.calls
     unfolding step_within
-    records-kept = by (fetched m s.core)
+    records_kept = by (fetched m s.core)
       where
         changed : (change : CallChange) → length (calls_after change s.core.depth s.calls) ≡ length s.calls
         changed CallChange.Keep = refl
         changed (CallChange.Open address kind) = length-set s.calls s.core.depth (call_record address kind)
         changed CallChange.Close = refl
 
-        serves-so : (i : Instruction) (d : Change) (v : Served)
+        serves_so : (i : Instruction) (d : Change) (v : Served)
             → length (on_served v i d m s).state.calls ≡ length s.calls
-        serves-so i d Served.All = changed d.calls
-        serves-so i d (Served.Unserved stop) = refl
+        serves_so i d Served.All = changed d.calls
+        serves_so i d (Served.Unserved stop) = refl
 
-        plans-so : (i : Instruction) (p : Plan) → length (finish p i m s).state.calls ≡ length s.calls
-        plans-so i (stops stop) = refl
-        plans-so i (changes d) = serves-so i d (served m d.stores)
+        plans_so : (i : Instruction) (p : Plan) → length (finish p i m s).state.calls ≡ length s.calls
+        plans_so i (stops stop) = refl
+        plans_so i (changes d) = serves_so i d (served m d.stores)
 
         by : (d : Decoded) → length (on_decoded_within fewer d m s).state.calls ≡ length s.calls
         by Decoded.CutOff = refl
         by Decoded.NotCarried = refl
-        by (Decoded.Whole i) = plans-so i (plan_within fewer m s i)
+        by (Decoded.Whole i) = plans_so i (plan_within fewer m s i)
 
     holds_kept : Holds fewer (step_within fewer m s).state
-    holds_kept = record { few = depth_kept m s h.few; room = rw records-kept h.room }
+    holds_kept = record { few = depth_kept m s h.few; room = rw records_kept h.room }
 
   -- ---- a history
 
@@ -236,43 +236,43 @@ module _ (fewer limit : ℕ) (most : fewer ≤ limit) (more : List ℕ) where
         (λ k low high. ap (λ entry. not (call_fits entry))
         (get_or-append s.calls more 0 k (omega (arith, h.few, h.room)))))
 
-    few-same : leb s.core.depth limit ≡ leb s.core.depth fewer
-    few-same =
+    few_same : leb s.core.depth limit ≡ leb s.core.depth fewer
+    few_same =
         le-leb s.core.depth limit (omega (arith, h.few)) ∙ sym (le-leb s.core.depth fewer h.few)
 
-    fits-same : state_fits_within limit (extended more s) ≡ state_fits_within fewer s
+    fits_same : state_fits_within limit (extended more s) ≡ state_fits_within fewer s
     unfolding state_fits_within
-    fits-same =
-        ap₂ (λ few calls. ltb s.core.registers.status.level level_limit && few && calls) few-same calls_same
+    fits_same =
+        ap₂ (λ few calls. ltb s.core.registers.status.level level_limit && few && calls) few_same calls_same
 
-    admission-same : admission_within limit m (extended more s) asked ≡ admission_within fewer m s asked
-    admission-same = ap (λ fits. first_refusal (run_tests m fits asked)) fits-same
+    admission_same : admission_within limit m (extended more s) asked ≡ admission_within fewer m s asked
+    admission_same = ap (λ fits. first_refusal (run_tests m fits asked)) fits_same
 
     -- with the same admission
-    admitted-same : (a : TestResult) → Shallow m (admitted_history_within limit a m (extended more s) asked)
+    admitted_same : (a : TestResult) → Shallow m (admitted_history_within limit a m (extended more s) asked)
         → SameEvents s (admitted_history_within limit a m (extended more s) asked)
         (admitted_history_within fewer a m s asked)
     unfolding admitted_history_within
-    admitted-same TestResult.Passed none = history_same asked m s h none
-    admitted-same (TestResult.Failed why) none = (refl, h)
+    admitted_same TestResult.Passed none = history_same asked m s h none
+    admitted_same (TestResult.Failed why) none = (refl, h)
 
     module _ (none : Shallow m (run_history_within limit m (extended more s) asked)) where
-      events-same : SameEvents s (run_history_within limit m (extended more s) asked)
+      events_same : SameEvents s (run_history_within limit m (extended more s) asked)
           (run_history_within fewer m s asked)
-      events-same =
-          rw admission-same (admitted-same (admission_within fewer m s asked) (rw admission-same at none))
+      events_same =
+          rw admission_same (admitted_same (admission_within fewer m s asked) (rw admission_same at none))
 
-      run-same : SameRun fewer limit more m s asked
+      run_same : SameRun fewer limit more m s asked
       unfolding ran_within
-      run-same = record {
-        history = events-same.0;
-        ran = ap₂ (λ a events. ran_by a m (extended more s) events) admission-same events-same.0
+      run_same = record {
+        history = events_same.0;
+        ran = ap₂ (λ a events. ran_by a m (extended more s) events) admission_same events_same.0
             ∙ come_same (admission_within fewer m s asked) m s (run_history_within fewer m s asked);
       }
 
       run_holds : Holds fewer (ran_within fewer m s asked).state
       unfolding ran_within
-      run_holds = events-same.1
+      run_holds = events_same.1
 
   -- ---- a list of runs
 
@@ -285,7 +285,7 @@ module _ (fewer limit : ℕ) (most : fewer ≤ limit) (more : List ℕ) where
   list_same (n ∷ asked) m s h none =
       let parts = every_parts (MeetsNoCall fewer m.image m.base) (run_history_within limit m (extended more s) n)
       _ none in
-      let first = run-same m s n h parts.0 in
+      let first = run_same m s n h parts.0 in
       let left = ran_within fewer m s n in
       let later = list_same asked (with_ram left.ram m) left.state (run_holds m s n h parts.0)
       (rw first.ran at parts).1 in
@@ -304,7 +304,7 @@ module _ (fewer limit : ℕ) (most : fewer ≤ limit) (more : List ℕ) where
 
 pub call_depth : CallDepth
 call_depth fewer limit most = record {
-  of_a_run = λ m s more asked h none. run-same fewer limit most more m s asked h none;
+  of_a_run = λ m s more asked h none. run_same fewer limit most more m s asked h none;
   of_a_list = λ m s more asked h none. list_same fewer limit most more asked m s h none;
 }
 

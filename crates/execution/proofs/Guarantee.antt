@@ -64,7 +64,7 @@ use Rattle.instructions.proofs.Decode.{same_whole, decodes, decoded_entry}
 use Rattle.acceptance.proofs.Widths.{m_after_bit, x_after_bit, kind_bits, located, fields, Located}
 use Rattle.acceptance.proofs.Verdict.{accepted_rules}
 use Rattle.acceptance.proofs.Image.{right_length, base_whole}
-use Rattle.semantics.proofs.Step.{bytes_inside, is-inside}
+use Rattle.semantics.proofs.Step.{bytes_inside, is_inside_lem}
 use Rattle.execution.proofs.Run.{onward, by_first_step, state_passes, all_asked, admitted_ran, refused_ran}
 use Rattle.acceptance.proofs.SuccessorRules.{both_three, returns_marked}
 
@@ -181,26 +181,26 @@ module _ (marks : List ℕ) (base : ℕ) where
   -- what a change must bring for the machine to stand so after it
   record Arrives (s : State) (i : Instruction) (place : ℕ) (change : CallChange) : Type 0 where
     start : is_start (there place) ≡ true
-    m-after : mark_m (there place) ≡ m_after i.entry.effect (bit s.core.registers.status.m) i.operand
-    x-after : mark_x (there place) ≡ x_after i.entry.effect (bit s.core.registers.status.x) i.operand
+    m_after_lem : mark_m (there place) ≡ m_after i.entry.effect (bit s.core.registers.status.m) i.operand
+    x_after_lem : mark_x (there place) ≡ x_after i.entry.effect (bit s.core.registers.status.x) i.operand
     chain : Chain (calls_after change s.core.depth s.calls) (depth_after change s.core.depth) (there place)
 
   module _ (whole : base + length marks ≤ address_limit) where
     -- a marked start has a 24-bit address
-    start-below : (address : ℕ) → is_start (there address) ≡ true → address < address_limit
-    start-below address h = let l = located marks base address h in omega (arith, l.place, l.inside)
+    start_below : (address : ℕ) → is_start (there address) ≡ true → address < address_limit
+    start_below address h = let l = located marks base address h in omega (arith, l.place, l.inside)
 
     arrived : (s : State) (i : Instruction) (d : Change) → Arrives s i d.place d.calls → Stands (state_after i s d)
     arrived s i d a =
         let m = m_after i.entry.effect (bit s.core.registers.status.m) i.operand in
         let x = x_after i.entry.effect (bit s.core.registers.status.x) i.operand in
-        let few-m : m ≤ 1 = rw (← a.m-after) (omega arith) in
-        let few-x : x ≤ 1 = rw (← a.x-after) (omega arith) in
-        let same = remade d.place (start-below d.place a.start) in
+        let few-m : m ≤ 1 = rw (← a.m_after_lem) (omega arith) in
+        let few-x : x ≤ 1 = rw (← a.x_after_lem) (omega arith) in
+        let same = remade d.place (start_below d.place a.start) in
         record {
           start = rw same a.start;
-          m_marked = rw same (bit_of m few-m ∙ sym a.m-after);
-          x_marked = rw same (bit_of x few-x ∙ sym a.x-after);
+          m_marked = rw same (bit_of m few-m ∙ sym a.m_after_lem);
+          x_marked = rw same (bit_of x few-x ∙ sym a.x_after_lem);
           chain = rw same a.chain;
         }
 
@@ -302,8 +302,8 @@ module _ (marks : List ℕ) (base : ℕ) (s : State) (i : Instruction) (st : Sta
       (omega arith) (omega arith) (omega arith) in
       record {
         start = met.start_there;
-        m-after = rw st.m_marked f.has_m;
-        x-after = rw st.x_marked f.has_x;
+        m_after_lem = rw st.m_marked f.has_m;
+        x_after_lem = rw st.x_marked f.has_x;
         chain = chain_same marks base s.calls s.core.depth mark (mark_at marks base address) f.has_kind
             f.has_return_m f.has_return_x st.chain;
       }
@@ -325,8 +325,8 @@ module _ (marks : List ℕ) (base : ℕ) (s : State) (i : Instruction) (st : Sta
       after.has_mark (omega arith) (omega arith) (omega arith) (omega arith) (omega arith) in
       record {
         start = into.start_there;
-        m-after = rw (keeps, st.m_marked) f.has_m;
-        x-after = rw (keeps, st.x_marked) f.has_x;
+        m_after_lem = rw (keeps, st.m_marked) f.has_m;
+        x_after_lem = rw (keeps, st.x_marked) f.has_x;
         chain = rw add-one
             (chain_opened marks base s.calls s.core.depth next k (mark_at marks base target) (omega arith)
             (kind_bits kind) f.has_kind after.start_there (g.has_m ∙ ap return_m e) (g.has_x ∙ ap return_x e)
@@ -367,8 +367,8 @@ module _ (marks : List ℕ) (base : ℕ) (s : State) (i : Instruction) (st : Sta
       let goes : address ≡ return_of entry = sym (eqb-true (return_of entry) address test.2) in
       record {
         start = rw goes top.0.start;
-        m-after = rw (keeps, st.m_marked, goes) (top.0.same_m ∙ sym own.1);
-        x-after = rw (keeps, st.x_marked, goes) (top.0.same_x ∙ sym own.2);
+        m_after_lem = rw (keeps, st.m_marked, goes) (top.0.same_m ∙ sym own.1);
+        x_after_lem = rw (keeps, st.x_marked, goes) (top.0.same_x ∙ sym own.2);
         chain = rw goes top.1;
       }
 
@@ -493,11 +493,11 @@ module _ (image marks : List ℕ) (base reset : ℕ) (rules : Accepts image mark
       let room : instruction.length ≤ length image - here.at = rw length-drop at d.inside in
       let on : next_address address k ≡ base + (here.at + k) =
       rw here.place (mod-eq_of_lt (omega (arith, within_image, in_space)) ∙ omega arith) in
-      rw on (is-inside m in_space small (here.at + k) (omega (arith, within_image)))
+      rw on (is_inside_lem m in_space small (here.at + k) (omega (arith, within_image)))
 
   marked : Marked marks m s
   marked = record {
-    in_image = rw here.place (is-inside m in_space small here.at within_image);
+    in_image = rw here.place (is_inside_lem m in_space small here.at within_image);
     start_there = st.start;
     m_marked = st.m_marked;
     x_marked = st.x_marked;

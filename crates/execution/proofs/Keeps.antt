@@ -65,13 +65,13 @@ pick_fits : (depth : ℕ) (b : Bool) (d : Change) (stop : Stop) → (b ≡ true 
 pick_fits depth true d stop fits = fits refl
 pick_fits depth false d stop fits = tt
 
-module _ (c : Core) (i : Instruction) (m : Memory) (h : InWidth c.registers) (in-ram : AllBytes m.ram)
+module _ (c : Core) (i : Instruction) (m : Memory) (h : InWidth c.registers) (ram_bytes : AllBytes m.ram)
     (in_image : AllBytes m.image) where
   operates_fits : (goes : Bool → ℕ) → Fits c.depth (operates c i m goes)
   unfolding operates
   operates_fits goes =
       by (is_decimal (access c i) c.registers) (evaluate m reads)
-      (comes m in-ram in_image SmallData reads (data_small i.entry.mode i.entry.accumulator
+      (comes m ram_bytes in_image SmallData reads (data_small i.entry.mode i.entry.accumulator
       c.registers (short c i) i.operand (access c i)))
     where
       reads : Act Data
@@ -171,21 +171,21 @@ pub step_keeps : (m : Memory) (s : State) → AllBytes m.image → InBytes s m.r
 unfolding step_within
 step_keeps m s image h = by (fetched m s.core)
   where
-    served-so : (i : Instruction) (d : Change) (v : Served) → Fits s.core.depth (changes d)
+    served_so : (i : Instruction) (d : Change) (v : Served) → Fits s.core.depth (changes d)
         → InBytes (on_served v i d m s).state (on_served v i d m s).ram
-    served-so i d Served.All f = (changed_keeps i s d f h.0, stored_small d.stores m.ram f.1 h.1)
-    served-so i d (Served.Unserved stop) f = h
+    served_so i d Served.All f = (changed_keeps i s d f h.0, stored_small d.stores m.ram f.1 h.1)
+    served_so i d (Served.Unserved stop) f = h
 
-    planned-so : (i : Instruction) (p : Plan) → Fits s.core.depth p
+    planned_so : (i : Instruction) (p : Plan) → Fits s.core.depth p
         → InBytes (finish p i m s).state (finish p i m s).ram
-    planned-so i (stops stop) f = h
-    planned-so i (changes d) f = served-so i d (served m d.stores) f
+    planned_so i (stops stop) f = h
+    planned_so i (changes d) f = served_so i d (served m d.stores) f
 
     by : (d : Decoded) → InBytes (on_decoded d m s).state (on_decoded d m s).ram
     by Decoded.CutOff = h
     by Decoded.NotCarried = h
     by (Decoded.Whole i) =
-        planned-so i (plan m s i)
+        planned_so i (plan m s i)
         (plan_fits s.core i m h.0.registers h.1 image (last_opened s) i.entry.flow)
 
 -- ---- what a run leaves

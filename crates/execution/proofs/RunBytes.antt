@@ -30,9 +30,9 @@ module _ (m : Memory) (bytes : List ℕ) (asked : ℕ) where
   same_admission long = rw (eq-eqb (length bytes) state_size long) refl
 
   module _ (long : length bytes ≡ state_size) (small : AllBytes bytes) where
-    pub bytes-ran : ran_bytes m bytes asked ≡ as_bytes (ran m (state_of bytes) asked)
+    pub bytes_ran : ran_bytes m bytes asked ≡ as_bytes (ran m (state_of bytes) asked)
     unfolding ran_bytes
-    bytes-ran = rw (same_admission long) (by (admission m (state_of bytes) asked) refl)
+    bytes_ran = rw (same_admission long) (by (admission m (state_of bytes) asked) refl)
       where
         by : (a : TestResult) → admission m (state_of bytes) asked ≡ a
             → ran_bytes_by a m bytes asked ≡ as_bytes (ran m (state_of bytes) asked)
@@ -42,15 +42,15 @@ module _ (m : Memory) (bytes : List ℕ) (asked : ℕ) where
             (λ j. record { answer = RunAnswer.NotRun why; state = sym (bytes_state bytes long small) j; ram = m.ram })
 
     -- what the bytes of a run say is what the run of the state that they say comes to
-    module _ (in_image : AllBytes m.image) (in-ram : AllBytes m.ram) where
+    module _ (in_image : AllBytes m.image) (ram_bytes : AllBytes m.ram) where
       keeps : InBytes (ran m (state_of bytes) asked).state (ran m (state_of bytes) asked).ram
-      keeps = run_keeps m (state_of bytes) asked in_image (given_keeps bytes small, in-ram)
+      keeps = run_keeps m (state_of bytes) asked in_image (given_keeps bytes small, ram_bytes)
 
-      pub said-left : state_of (ran_bytes m bytes asked).state ≡ (ran m (state_of bytes) asked).state
-      said-left = rw bytes-ran (state_bytes_lem (ran m (state_of bytes) asked).state keeps.0)
+      pub said_left : state_of (ran_bytes m bytes asked).state ≡ (ran m (state_of bytes) asked).state
+      said_left = rw bytes_ran (state_bytes_lem (ran m (state_of bytes) asked).state keeps.0)
 
-      pub long-left : length (ran_bytes m bytes asked).state ≡ state_size
-      long-left = rw bytes-ran (bytes_length (ran m (state_of bytes) asked).state keeps.0.calls)
+      pub long_left : length (ran_bytes m bytes asked).state ≡ state_size
+      long_left = rw bytes_ran (bytes_length (ran m (state_of bytes) asked).state keeps.0.calls)
 
   -- bytes of another length are refused as a state is that no run takes
   pub bytes_refused : (length bytes ≡ state_size → ⊥)
@@ -62,8 +62,8 @@ module _ (m : Memory) (bytes : List ℕ) (asked : ℕ) where
 
   pub record Taken : Type 0 where
     pub long : length bytes ≡ state_size
-    pub history-is : run_history m (state_of bytes) asked ≡ history m (state_of bytes) asked
-    pub ran-is : ran_bytes m bytes asked ≡ as_bytes (executed m (state_of bytes) asked)
+    pub history_is : run_history m (state_of bytes) asked ≡ history m (state_of bytes) asked
+    pub ran_is : ran_bytes m bytes asked ≡ as_bytes (executed m (state_of bytes) asked)
 
   pub taken : (end : End) (steps calls : ℕ) → (ran_bytes m bytes asked).answer ≡ RunAnswer.Ended end steps calls → Taken
   unfolding ran_bytes
@@ -77,8 +77,8 @@ module _ (m : Memory) (bytes : List ℕ) (asked : ℕ) where
           let long = eqb-true (length bytes) state_size fits.0 in
           record {
             long = long;
-            history-is = (admitted_ran m (state_of bytes) asked (sym (same_admission long) ∙ e)).0;
-            ran-is = rw e refl;
+            history_is = (admitted_ran m (state_of bytes) asked (sym (same_admission long) ∙ e)).0;
+            ran_is = rw e refl;
           }
       by (TestResult.Failed why) e told = let z : ◌≡◌ {A = ℕ} 0 1 = cc in absurd (omega arith)
 
@@ -99,7 +99,7 @@ module _ (m : Memory) (bytes : List ℕ) (asked : ℕ) where
       → ((ran_bytes m bytes asked).state ≡ bytes) × ((ran_bytes m bytes asked).ram ≡ m.ram)
   none_leaves small end calls told =
       let t = taken end 0 calls told in
-      let same = t.ran-is in
+      let same = t.ran_is in
       let h = history m (state_of bytes) asked in
       let none : RunAnswer.Ended (end_of h) (completed_steps h) (calls_among h) ≡ RunAnswer.Ended end 0 calls =
       sym (ap (λ r. r.answer) same) ∙ told in

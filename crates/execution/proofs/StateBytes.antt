@@ -50,7 +50,7 @@ module _ (s : State) (k : Keeps s) where
           s = number_low 2 s.core.registers.s k.registers.s j;
           dpr = number_low 2 s.core.registers.dpr k.registers.dpr j;
           dt = number_low 1 s.core.registers.dt k.registers.dt j;
-          status = same-status j;
+          status = same_status j;
         };
     pc = number_low 2 s.core.pc k.pc j;
     pg = number_low 1 s.core.pg k.pg j;
@@ -60,8 +60,8 @@ module _ (s : State) (k : Keeps s) where
       given : Status
       given = s.core.registers.status
 
-      same-status : status_of (number (low_bytes 2 (number_of given))) ≡ given
-      same-status =
+      same_status : status_of (number (low_bytes 2 (number_of given))) ≡ given
+      same_status =
           ap status_of (number_low 2 (number_of given) (status_bound given k.registers.level)) ∙ number_status given
 
   pub state_bytes_lem : state_of (state_bytes s) ≡ s

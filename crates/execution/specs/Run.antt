@@ -1,8 +1,9 @@
 -- Runs: 01, 'The machine', from 'A run takes ..' on. The history of a run comes first; its end, its counts and what it
--- leaves are functions of the history. Like a step, a run is defined within any limit of open calls (`..Within limit`);
+-- leaves are functions of the history. Like a step, a run is defined within any limit of open calls (`.._within limit`);
 -- at the end stand the machine's own, within `call_limit`.
 -- Assumes nothing.
-use Rattle.std.specs.Prelude.{ℕ, zero, suc, ◌+◌, Bool, true, false, not, ◌&&◌, ◌||◌, List, [], ◌∷◌, ◌++◌, eqb, ltb, leb, length, get_or}
+use Rattle.std.specs.Prelude.{ℕ, zero, suc, ◌+◌, Bool, true, false, not, ◌&&◌, ◌||◌, List, [], ◌∷◌, ◌++◌, eqb}
+use Rattle.std.specs.Prelude.{ltb, leb, length, get_or}
 use Rattle.types.specs.declared.code.Kind.{Kind}
 use Rattle.types.specs.declared.machine.State.{State}
 use Rattle.types.specs.declared.machine.StepAnswer.{StepAnswer}

@@ -48,8 +48,8 @@ module _ (image marks : List ℕ) (base reset : ℕ) where
     ends_low : base + length marks ≤ address_limit
     ends_low = omega (arith, (right_length (length image) (length marks) l).same, base_whole base (length image) b)
 
-    sound-at : (at : ℕ) → at < length marks → Sound image marks base at
-    sound-at at inside = record {
+    sound_at : (at : ℕ) → at < length marks → Sound image marks base at
+    sound_at at inside = record {
       same = (right_length (length image) (length marks) l).same;
       low = ends_low;
       inside = inside;
@@ -82,7 +82,7 @@ module _ (image marks : List ℕ) (base reset : ℕ) where
     some = omega arith;
     few = omega arith;
     low = λ h. ends_low l b;
-    sound = λ h. sound-at l b at' inside;
+    sound = λ h. sound_at l b at' inside;
   }
   shown why at (Breaks.wrong_reset l b f r) = record {
     some = omega arith;
@@ -96,7 +96,7 @@ module _ (image marks : List ℕ) (base reset : ℕ) where
         some = omega (arith, n.0);
         few = n.1;
         low = λ h. ends_low l b;
-        sound = λ h. sound-at l b at' inside;
+        sound = λ h. sound_at l b at' inside;
       }
 
   -- ---- the check's answer
@@ -106,9 +106,9 @@ module _ (image marks : List ℕ) (base reset : ℕ) where
     told = ap check_numbers packed ∙ verdict_unpacked (verdict image marks base reset)
         (verdict_fits image marks base reset)
 
-    pub accepted-line : answer / 65_536 ≡ 0 → explanation image marks base reset ≡ ascii "accepted\n"
+    pub accepted_line : answer / 65_536 ≡ 0 → explanation image marks base reset ≡ ascii "accepted\n"
     unfolding explanation line_by
-    accepted-line zero = by (verdict image marks base reset) told
+    accepted_line zero = by (verdict image marks base reset) told
       where
         by : (v : Verdict) → check_numbers answer ≡ verdict_numbers v
             → line_by v image marks base reset ≡ ascii "accepted\n"
@@ -126,11 +126,11 @@ module _ (image marks : List ℕ) (base reset : ℕ) where
         by Verdict.Accepted e n = absurd (some (ap (λ n. n.number) n))
         by (Verdict.Refused why at) e n = then why at e (sym (ap (λ n. n.number) n)) (sym (ap (λ n. n.offset) n))
 
-    pub refused-line : (answer / 65_536 ≡ 0 → ⊥)
+    pub refused_line_lem : (answer / 65_536 ≡ 0 → ⊥)
         → explanation image marks base reset
         ≡ refused_line (answer / 65_536) (detail image marks base reset (answer % 65_536) (answer / 65_536))
     unfolding explanation line_by
-    refused-line some = when_refused some (λ why at e number place. rw (e, number, place))
+    refused_line_lem some = when_refused some (λ why at e number place. rw (e, number, place))
 
     pub explainable : (answer / 65_536 ≡ 0 → ⊥)
         → Explainable image marks base (answer % 65_536) (answer / 65_536)

@@ -64,10 +64,10 @@ module _ (bytes₀ : List ℕ) (from size : ℕ) (values : List ℕ) where
         let up : size * suc i ≤ size * length values = mul-le-mul_left size inside in
         omega (arith, l.0, l.1)
 
-    pub field-less : (after : List ℕ) → after ≡ sets bytes at (low_bytes size (get_or values i 0))
+    pub field_less : (after : List ℕ) → after ≡ sets bytes at (low_bytes size (get_or values i 0))
         → AllLeft bytes₀ from size values after (at + size) (i + 1)
     unfolding joined
-    field-less after e =
+    field_less after e =
         let v = get_or values i 0 in
         let long = length_low size v in
         let whole = rw (

@@ -41,7 +41,7 @@ use Rattle.lists.specs.Routines.{marks_after, marks_built, WithinLimits, Refused
 use Rattle.types.proofs.TestResults.{shown, none_fails, failed_passed}
 use Rattle.acceptance.proofs.Verdict.{start_inside}
 use Rattle.lists.proofs.Routines.{stands_through, admitted_length, admitted_formed, admitted_plain, reset_met}
-use Rattle.lists.proofs.Routines.{owed-met, CompleteIn, complete-admitted, least_only}
+use Rattle.lists.proofs.Routines.{owed_met, CompleteIn, complete_admitted, least_only}
 
 -- ---- the tests
 
@@ -118,8 +118,8 @@ module _ (image : List ℕ) (base reset : ℕ) (routines : List ℕ) where
       let inner = both_true (accepted_by (verdict image marks base reset)) (stands_in routines marks) outer.0 in
       record {
         passes = accepted_by_lem (verdict image marks base reset) inner.0;
-        as-listed = stands_tested routines marks inner.1;
-        calls-listed = listed_tested image marks base routines outer.1;
+        as_listed = stands_tested routines marks inner.1;
+        calls_listed = listed_tested image marks base routines outer.1;
       }
 
   pub tested_admitted : (marks : List ℕ) → Admitted image base reset routines marks
@@ -128,8 +128,8 @@ module _ (image : List ℕ) (base reset : ℕ) (routines : List ℕ) where
   tested_admitted marks v =
       rw (
         v.passes,
-        tested_stands routines marks v.as-listed,
-        tested_listed image marks base routines v.calls-listed,
+        tested_stands routines marks v.as_listed,
+        tested_listed image marks base routines v.calls_listed,
       )
 
 -- ---- what two markings agree on
@@ -239,8 +239,8 @@ module _ (image : List ℕ) (base reset : ℕ) (routines : List ℕ) where
       → Admitted image base reset routines others → Admitted image base reset routines (agreed marks others)
   agreed_admitted marks others v w =
       let stands = agreed_stands marks others in
-      let listed = agreed_listed marks others v.as-listed w.as-listed in
-      complete-admitted image base reset routines (agreed marks others) marks v (record {
+      let listed = agreed_listed marks others v.as_listed w.as_listed in
+      complete_admitted image base reset routines (agreed marks others) marks v (record {
         size = length_agreed marks others ∙ admitted_length image base reset routines marks v;
         plain = agreed_plain marks others (admitted_plain image base reset routines marks v);
         within = stands.0;
@@ -249,8 +249,8 @@ module _ (image : List ℕ) (base reset : ℕ) (routines : List ℕ) where
             reset routines others w);
         owed = λ at i s whole.
             let low = agreed marks others in
-            let one = owed-met image base reset routines low marks v stands.0 at s i listed whole in
-            let two = owed-met image base reset routines low others w stands.1 at s i listed whole in
+            let one = owed_met image base reset routines low marks v stands.0 at s i listed whole in
+            let two = owed_met image base reset routines low others w stands.1 at s i listed whole in
             rw (← one.0) (agreed_all marks others base _ one.1 two.1);
       })
 
@@ -380,16 +380,16 @@ module _ (image : List ℕ) (base reset : ℕ) (text marks : List ℕ) where
       (shown (build_tests image base reset text (length marks)) e).1.1.1.0).1
 
   module _ (within : WithinLimits image base text marks) where
-    has-passed : has_marking image base reset routines ≡ true → built image base reset text marks ≡ TestResult.Passed
+    has_passed : has_marking image base reset routines ≡ true → built image base reset text marks ≡ TestResult.Passed
     unfolding built
-    has-passed h =
+    has_passed h =
         none_fails (build_tests image base reset text (length marks))
         (within.form, (within.right_length, (within.right_base, (rw within.all_fit h, tt))))
 
-    none-failed : has_marking image base reset routines ≡ false
+    none_failed : has_marking image base reset routines ≡ false
         → built image base reset text marks ≡ TestResult.Failed Refusal.Routines
     unfolding built first_refusal
-    none-failed h = rw (within.form, within.right_length, within.right_base, within.all_fit, h) refl
+    none_failed h = rw (within.form, within.right_length, within.right_base, within.all_fit, h) refl
 
   -- ---- tests made one after another
 
@@ -417,9 +417,9 @@ module _ (image : List ℕ) (base reset : ℕ) (text marks : List ℕ) where
 
 pub refused_exactly : RefusedExactly
 refused_exactly image base reset text marks within = (
-  λ failed others v. failed_passed (sym failed ∙ has-passed image base reset text marks within
+  λ failed others v. failed_passed (sym failed ∙ has_passed image base reset text marks within
       (has_marking_lem image base reset _ others v)),
-  λ none. none-failed image base reset text marks within (none_had image base reset _ none),
+  λ none. none_failed image base reset text marks within (none_had image base reset _ none),
 )
 
 pub delivers_least : DeliversLeast
@@ -449,7 +449,7 @@ module _ (image : List ℕ) (base reset : ℕ) (routines marks : List ℕ)
   pub worked_none : is_admitted image base reset routines marks ≡ false → (others : List ℕ)
       → Admitted image base reset routines others → ⊥
   worked_none h others v =
-      let admitted = complete-admitted image base reset routines marks others v (complete others v) in
+      let admitted = complete_admitted image base reset routines marks others v (complete others v) in
       true≢false (sym (tested_admitted image base reset routines marks admitted) ∙ h)
 
 -- what that says of the answer and the marks delivered
@@ -461,7 +461,7 @@ module _ (image : List ℕ) (base reset : ℕ) (text given marks : List ℕ)
   worked_delivered h =
       let l = worked_least image base reset (routine_marks base (length image) text) marks complete h in
       let has = has_marking_lem image base reset (routine_marks base (length image) text) marks l.admitted in
-      let answer = has-passed image base reset text given within has in (
+      let answer = has_passed image base reset text given within has in (
         answer,
         least_only image base reset (routine_marks base (length image) text) (marks_built image base reset text given)
             marks (delivers_least image base reset text given answer) l,
@@ -472,5 +472,5 @@ module _ (image : List ℕ) (base reset : ℕ) (text given marks : List ℕ)
       × (marks_built image base reset text given ≡ given)
   worked_refused h =
       let none = worked_none image base reset (routine_marks base (length image) text) marks complete h in
-      let answer = none-failed image base reset text given within (none_had image base reset _ none) in
+      let answer = none_failed image base reset text given within (none_had image base reset _ none) in
       (answer, refused_keeps image base reset text given Refusal.Routines answer)

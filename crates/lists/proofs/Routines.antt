@@ -140,43 +140,43 @@ module _ (image : List ℕ) (base reset : ℕ) (routines : List ℕ) where
     abbrev here : start_at others at ≡ true
     here = rw (stands at s) s
 
-    pub rules-there : StartRules image others base at
-    rules-there = (admitted_rules others v).at_starts at (start_inside others at here) here
+    pub rules_there : StartRules image others base at
+    rules_there = (admitted_rules others v).at_starts at (start_inside others at here) here
 
-    pub whole-there : (i : Instruction) → instruction_at image marks at ≡ Decoded.Whole i
+    pub whole_there : (i : Instruction) → instruction_at image marks at ≡ Decoded.Whole i
         → instruction_at image others at ≡ Decoded.Whole i
-    whole-there i whole = rw (stands at s) whole
+    whole_there i whole = rw (stands at s) whole
 
-    pub listed-there : (i : Instruction) (kind : Kind) → instruction_at image marks at ≡ Decoded.Whole i
+    pub listed_there : (i : Instruction) (kind : Kind) → instruction_at image marks at ≡ Decoded.Whole i
         → i.entry.flow ≡ Flow.Call kind → is_listed routines base (target_address i (base + at)) ≡ true
-    listed-there i kind whole call = v.calls-listed at i kind here (whole-there i whole) call
+    listed_there i kind whole call = v.calls_listed at i kind here (whole_there i whole) call
 
-    same-owed : (i : Instruction)
+    same_owed : (i : Instruction)
         → ((kind : Kind) → i.entry.flow ≡ Flow.Call kind
         → is_start (mark_at marks base (target_address i (base + at))) ≡ true)
         → owed_there marks base at i ≡ owed_there others base at i
     unfolding owed_at
-    same-owed i started =
+    same_owed i started =
         rw (stands at s)
         (owed_same i.entry.flow _ _ _ _ _ _
         (λ kind call. sym (same_at marks others base (target_address i (base + at)) stands (started kind call))))
 
     -- what is owed in that marking is met there
-    pub owed-there : (i : Instruction) → instruction_at image marks at ≡ Decoded.Whole i
+    pub owed_there_lem : (i : Instruction) → instruction_at image marks at ≡ Decoded.Whole i
         → AllMet others base (owed_there others base at i)
-    owed-there i whole =
-        let r = rules-there in
-        let same : r.instruction ≡ i = same_whole r.instruction i (sym r.whole ∙ whole-there i whole) in
+    owed_there_lem i whole =
+        let r = rules_there in
+        let same : r.instruction ≡ i = same_whole r.instruction i (sym r.whole ∙ whole_there i whole) in
         rw same at r.successors
 
     -- Where the routines stand already, the same is owed here.
-    pub owed-met : (i : Instruction) → StandsIn routines marks → instruction_at image marks at ≡ Decoded.Whole i
+    pub owed_met : (i : Instruction) → StandsIn routines marks → instruction_at image marks at ≡ Decoded.Whole i
         → (owed_there marks base at i ≡ owed_there others base at i) × AllMet others base (owed_there marks base at i)
-    owed-met i listed whole =
-        let same = same-owed i (λ kind call.
-        let l = listed-there i kind whole call in
+    owed_met i listed whole =
+        let same = same_owed i (λ kind call.
+        let l = listed_there i kind whole call in
         rw (same_at routines marks base (target_address i (base + at)) listed l) l) in
-        (same, rw same (owed-there i whole))
+        (same, rw same (owed_there_lem i whole))
 
   -- ---- marks that lack nothing
 
@@ -192,9 +192,9 @@ module _ (image : List ℕ) (base reset : ℕ) (routines : List ℕ) where
 
   module _ (marks others : List ℕ) (v : Admitted image base reset routines others)
       (c : CompleteIn others marks) where
-    complete-formed : (at : ℕ) → at < length marks → is_formed (get_or marks at 0) ≡ true
+    complete_formed : (at : ℕ) → at < length marks → is_formed (get_or marks at 0) ≡ true
     unfolding is_formed
-    complete-formed at inside = by (start_at marks at) refl
+    complete_formed at inside = by (start_at marks at) refl
       where
         by : (b : Bool) → start_at marks at ≡ b → is_formed (get_or marks at 0) ≡ true
         by true s =
@@ -202,18 +202,18 @@ module _ (image : List ℕ) (base reset : ℕ) (routines : List ℕ) where
             ((admitted_rules others v).formed at (start_inside others at (here marks others v c.within at s)))
         by false s = rw (c.plain at s) refl
 
-    complete-reset : reset_fits marks base reset ≡ true
+    complete_reset : reset_fits marks base reset ≡ true
     unfolding reset_fits
-    complete-reset =
+    complete_reset =
         rw (← same_at marks others base reset c.within c.at_reset)
         (admitted_rules others v).at_reset
 
-    complete-start : (at : ℕ) → start_at marks at ≡ true → StartRules image marks base at
-    complete-start at s =
-        let r = rules-there marks others v c.within at s in
+    complete_start : (at : ℕ) → start_at marks at ≡ true → StartRules image marks base at
+    complete_start at s =
+        let r = rules_there marks others v c.within at s in
         let whole : instruction_at image marks at ≡ Decoded.Whole r.instruction = rw (← c.within at s) r.whole in
         let started = c.owed at r.instruction s whole in
-        let same = same-owed marks others v c.within at s r.instruction
+        let same = same_owed marks others v c.within at s r.instruction
         (λ kind call. target_started marks others base at r.instruction kind call started) in
         record {
           instruction = r.instruction;
@@ -231,17 +231,17 @@ module _ (image : List ℕ) (base reset : ℕ) (routines : List ℕ) where
             by false t = refl
 
     -- they are an admitted marking themselves
-    pub complete-admitted : Admitted image base reset routines marks
-    complete-admitted = record {
+    pub complete_admitted : Admitted image base reset routines marks
+    complete_admitted = record {
       passes = rules_accepted image marks base reset (record {
         right_length = rw (c.size ∙ sym (admitted_length others v)) (admitted_rules others v).right_length;
         right_base = (admitted_rules others v).right_base;
-        formed = complete-formed;
-        at_reset = complete-reset;
-        at_starts = λ at inside s. complete-start at s;
+        formed = complete_formed;
+        at_reset = complete_reset;
+        at_starts = λ at inside s. complete_start at s;
       });
-      as-listed = c.listed;
-      calls-listed = λ at i kind s whole call. listed-there marks others v c.within at s i kind whole call;
+      as_listed = c.listed;
+      calls_listed = λ at i kind s whole call. listed_there marks others v c.within at s i kind whole call;
     }
 
 -- ---- the least is one

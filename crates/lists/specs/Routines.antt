@@ -81,8 +81,8 @@ module _ (image : List ℕ) (base reset : ℕ) (routines : List ℕ) where
   -- a marking that 'passes the check, holds every listed routine as listed, and has all call targets on the list'
   pub record Admitted (marks : List ℕ) : Type 0 where
     pub passes : verdict image marks base reset ≡ Verdict.Accepted
-    pub as-listed : StandsIn routines marks
-    pub calls-listed : (at : ℕ) (i : Instruction) (kind : Kind) → start_at marks at ≡ true
+    pub as_listed : StandsIn routines marks
+    pub calls_listed : (at : ℕ) (i : Instruction) (kind : Kind) → start_at marks at ≡ true
         → instruction_at image marks at ≡ Decoded.Whole i → i.entry.flow ≡ Flow.Call kind
         → is_listed routines base (target_address i (base + at)) ≡ true
 

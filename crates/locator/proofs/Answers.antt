@@ -46,9 +46,9 @@ module _ (image marks : List ℕ) (base reset : ℕ) (addresses places : List �
     in_space = base_whole base (length image) ((accepts_exactly image marks base reset).0 accepted).right_base
 
     module _ (tested : TestResult) (so : tested ≡ first_refusal tests) where
-      pub refused-then : (why : Refusal) → tested ≡ TestResult.Failed why → Answers (Located.NotLocated why 0) places
+      pub refused_then : (why : Refusal) → tested ≡ TestResult.Failed why → Answers (Located.NotLocated why 0) places
       unfolding located located_by places_located places_after
-      refused-then why e = let f = sym so ∙ e in (rw (accepted, f) refl, rw (accepted, f) refl)
+      refused_then why e = let f = sym so ∙ e in (rw (accepted, f) refl, rw (accepted, f) refl)
 
       module _ (passes : tested ≡ TestResult.Passed) where
         pub fit : addresses_fit base (length image) addresses ≡ true
@@ -62,9 +62,9 @@ module _ (image marks : List ℕ) (base reset : ℕ) (addresses places : List �
             ≡ map place_number (pass_over image marks base addresses).places ++ drop (length addresses) places
             → Answers (Located.MarksRead read) left
         unfolding located located_by places_located places_after
-        places_found read left is_read is-left =
+        places_found read left is_read is_left =
             let f = sym so ∙ passes in
             let found = (pass_over image marks base addresses).places in
             let many : length (map place_number found) ≡ length addresses =
             rw ((passed image marks base addresses as_many fit).0, length-map, length-map) in
-            (rw (accepted, f, is_read) refl, rw (accepted, f, many) is-left)
+            (rw (accepted, f, is_read) refl, rw (accepted, f, many) is_left)

@@ -98,9 +98,9 @@ module _ (addresses : List ℕ) where
             lt-ltb (get_or addresses k 0) (base + size) h,
           )
 
-    pub each-inside : (k : ℕ) → Inside k → length addresses ≤ k → true ≡ all_inside base size addresses
+    pub each_inside : (k : ℕ) → Inside k → length addresses ≤ k → true ≡ all_inside base size addresses
     unfolding all_inside
-    each-inside k so h = rw (so, drop_of_length-le addresses h)
+    each_inside k so h = rw (so, drop_of_length-le addresses h)
 
     -- ---- 16, by its three tests
 
@@ -113,10 +113,10 @@ module _ (addresses : List ℕ) where
       unfolding addresses_fit
       unordered h = rw (le-leb (length addresses) address_count few, ← ordered, not-true up h)
 
-      pub fit-by : (within : Bool) → within ≡ all_inside base size addresses → not up ≡ false
+      pub fit_by : (within : Bool) → within ≡ all_inside base size addresses → not up ≡ false
           → within ≡ addresses_fit base size addresses
       unfolding addresses_fit
-      fit-by within e h = rw (le-leb (length addresses) address_count few, ← ordered, not-false up h) e
+      fit_by within e h = rw (le-leb (length addresses) address_count few, ← ordered, not-false up h) e
 
 -- ---- 15
 

@@ -59,8 +59,8 @@ module _ (image : List ℕ) (at mark m x : ℕ) (here : LayoutRead) (is-layout :
     pub end_fits : (f : Layout) → here ≡ LayoutRead.Fits f → at + f.length ≡ end_at image at mark
     end_fits f e = rw (← is_m, ← is_x, decoded_layout (drop at image) m x, ← is-layout, e)
 
-    pub end-uncarried : here ≡ LayoutRead.Uncarried → at ≡ end_at image at mark
-    end-uncarried e = rw (← is_m, ← is_x, decoded_layout (drop at image) m x, ← is-layout, e) (omega arith)
+    pub end_uncarried : here ≡ LayoutRead.Uncarried → at ≡ end_at image at mark
+    end_uncarried e = rw (← is_m, ← is_x, decoded_layout (drop at image) m x, ← is-layout, e) (omega arith)
 
     pub end_short : here ≡ LayoutRead.Short → at ≡ end_at image at mark
     end_short e = rw (← is_m, ← is_x, decoded_layout (drop at image) m x, ← is-layout, e) (omega arith)
@@ -171,28 +171,28 @@ module _ (image marks : List ℕ) (base : ℕ) (addresses given : List ℕ) wher
       climbing = rw first at so.climb
 
       -- lies in the image, at or behind the mark that is read next
-      pub mark-left : i < length marks
-      mark-left = omega (arith, climbing.0, climbing.1)
+      pub mark_left : i < length marks
+      mark_left = omega (arith, climbing.0, climbing.1)
 
       abbrev now : Last
       now = last_after last i (get_or marks i 0)
 
-      one-read : left k last i
+      one_read_lem : left k last i
           ≡ one_read (eqb address (base + i)) (place_by image base now i)
           (pass image base (i + 1) now (drop (i + 1) marks)
           (pick (eqb address (base + i)) (drop (k + 1) addresses) (address ∷ drop (k + 1) addresses)))
-      one-read = rw first (pass_one image base marks i last address (drop (k + 1) addresses) mark-left)
+      one_read_lem = rw first (pass_one image base marks i last address (drop (k + 1) addresses) mark_left)
 
       -- its place, if it lies where the mark is read
       abbrev number : ℕ
       number = place_number (place_by image base now i)
 
-      here-served : length addresses ≤ length given → eqb address (base + i) ≡ true
+      here_served : length addresses ≤ length given → eqb address (base + i) ≡ true
           → Passes (set places k number) (k + 1) now (i + 1)
-      here-served room e =
+      here_served room e =
           let inside : k < length places = omega (arith, so.size) in
           let next : left k last i ≡ one_read true (place_by image base now i) (left (k + 1) now (i + 1)) =
-          rw e at one-read in
+          rw e at one_read_lem in
           let front : take (k + 1) (set places k number) ≡ take k places ++ (number ∷ []) =
           rw add-one (take-suc-set places k number inside) in
           record {
@@ -207,10 +207,10 @@ module _ (image marks : List ℕ) (base : ℕ) (addresses given : List ℕ) wher
             read = omega (arith, so.read, ap (λ p. p.read) next);
           }
 
-      not-here : eqb address (base + i) ≡ false → Passes places k now (i + 1)
-      not-here e =
+      not_here : eqb address (base + i) ≡ false → Passes places k now (i + 1)
+      not_here e =
           let next : left k last i ≡ one_read false (place_by image base now i) (left k now (i + 1)) =
-          rw (← first) at (rw e at one-read) in
+          rw (← first) at (rw e at one_read_lem) in
           record {
             climb = rw first (climbs_on base i (base + length marks) address (drop (k + 1) addresses) false e climbing);
             some = so.some;
@@ -232,8 +232,8 @@ module _ (image marks : List ℕ) (base : ℕ) (addresses given : List ℕ) wher
           by : (b : Bool) → eqb address (base + i) ≡ b → q.served ≡ pick b (k + 1) k
               → after ≡ pick b (set places k number) places → last_of q ≡ now
               → Passes after q.served (last_of q) (i + 1)
-          by true e count stored same = rw (count, stored, same) (here-served room e)
-          by false e count stored same = rw (count, stored, same) (not-here e)
+          by true e count stored same = rw (count, stored, same) (here_served room e)
+          by false e count stored same = rw (count, stored, same) (not_here e)
 
   -- no address is left
   pub ends : (places : List ℕ) (k : ℕ) (last : Last) (i : ℕ) → Passes places k last i → length addresses ≤ k

@@ -45,7 +45,7 @@ use Rattle.machine.specs.declared.commit.StepResult.{StepResult}
 use Rattle.machine.specs.declared.fetch.Fetched.{Fetched}
 use Rattle.machine.specs.Fetches.{instruction}
 use Rattle.machine.specs.StepResults.{core_at, step_result, left, finished, in_next_bank}
-use Rattle.machine.proofs.Finishing.{place_kept, stops_so, stops-at-stores, completes}
+use Rattle.machine.proofs.Finishing.{place_kept, stops_so, stops_at_stores, completes}
 
 no_second : (a b : Bool) → b ≡ false → a && b ≡ false
 no_second true b h = h
@@ -68,20 +68,20 @@ module _ (m : Memory) (place depth : ℕ) (file : List ℕ) (i : Fetched) (s fir
     (r : LongRead) (is-s : s ≡ (registers_of file).s) (is-first : first ≡ (s + 1) % bank_size)
     (is-second : second ≡ (s + 2) % bank_size)
   where
-    pub pulls-word : (n : ℕ) (w : WordRead) → n ≡ i.length → place < address_limit → kind ≡ Kind.ByRts
+    pub pulls_word : (n : ℕ) (w : WordRead) → n ≡ i.length → place < address_limit → kind ≡ Kind.ByRts
         → w ≡ word_read (evaluate m (word_from first second)) → r ≡ in_next_bank place n w
         → r ≡ long_read (evaluate m (spec.pulls_return (core_at place depth file) (instruction i) kind))
-    pulls-word n w is-n h is-kind read e =
+    pulls_word n w is-n h is-kind read e =
         let pulled = word_from (pulled_at (registers_of file) 1) (pulled_at (registers_of file) 2) in
         rw (e, read, is-first, is-second, is-s, is-kind, is-n)
         (next_bank m place i.length pulled
         ∙ ap (λ p. long_read (evaluate m (pulled >>= (λ a. ret (in_bank_after p i.length a)))))
         (sym (place_kept place depth file h)))
 
-    pub pulls-long : kind ≡ Kind.ByRtl → third ≡ (s + 3) % bank_size
+    pub pulls_long : kind ≡ Kind.ByRtl → third ≡ (s + 3) % bank_size
         → r ≡ long_read (evaluate m (long_from first second third))
         → r ≡ long_read (evaluate m (spec.pulls_return (core_at place depth file) (instruction i) kind))
-    pulls-long is-kind is-third e = rw (e, is-first, is-second, is-third, is-s, is-kind) refl
+    pulls_long is-kind is-third e = rw (e, is-first, is-second, is-third, is-s, is-kind) refl
 
 -- S put into the file, and the status that was there
 module _ (e : Effect) (v status : ℕ) (is-effect : e ≡ code_effect 4 v 7 0 status Stores.None false) where
@@ -124,9 +124,9 @@ module _ (c : Core) (i : Instruction) where
     none_open h = rw h refl
 
     module _ (n : ℕ) (is-kind : n ≡ kind_number kind) where
-      other-kind : (kind_of opened ≡ n → ⊥) → stops Stop.Astray ≡ returns_to c i opened kind address
+      other_kind : (kind_of opened ≡ n → ⊥) → stops Stop.Astray ≡ returns_to c i opened kind address
       unfolding returns_to
-      other-kind h =
+      other_kind h =
           rw (← is-kind, no_second (ltb 0 c.depth) (eqb (kind_of opened) n) (ne_eqb (kind_of opened) n h)) refl
 
       returned : 0 < c.depth → kind_of opened ≡ n → return_of opened ≡ address
@@ -148,14 +148,14 @@ module _ (c : Core) (i : Instruction) where
 
   module _ (m : Memory) (opened : ℕ) (kind : Kind) (w : LongRead)
       (read : w ≡ long_read (evaluate m (spec.pulls_return c i kind))) where
-    return-unmapped : w ≡ LongRead.Unmapped → stops Stop.Unmapped ≡ plan_by c i m opened (Flow.Return kind)
-    return-unmapped e =
+    return_unmapped : w ≡ LongRead.Unmapped → stops Stop.Unmapped ≡ plan_by c i m opened (Flow.Return kind)
+    return_unmapped e =
         sym (pulls_first m c i opened kind (long_unmapped (evaluate m (spec.pulls_return c i kind)) w read e))
 
-    return-to : (address : ℕ) → w ≡ LongRead.Long address
+    return_to : (address : ℕ) → w ≡ LongRead.Long address
         → returns_to c i opened kind address ≡ plan_by c i m opened (Flow.Return kind)
     unfolding plan_by_within
-    return-to address e = rw (long_done (evaluate m (spec.pulls_return c i kind)) w address read e) refl
+    return_to address e = rw (long_done (evaluate m (spec.pulls_return c i kind)) w address read e) refl
 
 -- the steps, exit by exit
 module _ (i : Fetched) (m : Memory) (place depth : ℕ) (file calls : List ℕ) where
@@ -167,9 +167,9 @@ module _ (i : Fetched) (m : Memory) (place depth : ℕ) (file calls : List ℕ) 
 
   -- a call
   module _ (kind : Kind) where
-    pub stops-deep : (t : StepResult) → t ≡ step_result (StepAnswer.Stopped Stop.Deep) place depth → call_limit ≤ depth
+    pub stops_deep : (t : StepResult) → t ≡ step_result (StepAnswer.Stopped Stop.Deep) place depth → call_limit ≤ depth
         → left t file calls m.ram ≡ finished (spec.calls core (instruction i) kind) i m place depth file calls
-    stops-deep t e h =
+    stops_deep t e h =
         stops_so i m place depth file calls Stop.Deep (spec.calls core (instruction i) kind) t e
         (deep core (instruction i) kind h)
 
@@ -180,71 +180,71 @@ module _ (i : Fetched) (m : Memory) (place depth : ℕ) (file calls : List ℕ) 
         → listed stores ≡ spec.pushes_return (core_at place depth file) (instruction i) kind)
         (tested : w ≡ served m (listed stores))
       where
-        next-kept : next ≡ spec.next core (instruction i)
-        next-kept = is-next ∙ ap (λ p. next_address p i.length) (sym (place_kept place depth file h))
+        next_kept : next ≡ spec.next core (instruction i)
+        next_kept = is-next ∙ ap (λ p. next_address p i.length) (sym (place_kept place depth file h))
 
         abbrev after : Registers
         after = with_s (pushed_at here (return_bytes kind)) here
 
-        opened-so : (to : ℕ) → to ≡ target_address (instruction i) place
+        opened_so : (to : ℕ) → to ≡ target_address (instruction i) place
             → finished (changes (change after to (CallChange.Open next (kind_number kind)) (listed stores))) i m place
             depth file calls
             ≡ finished (spec.calls core (instruction i) kind) i m place depth file calls
-        opened-so to e =
+        opened_so to e =
             ap (λ p. finished p i m place depth file calls)
             (called core (instruction i) kind to next stores below
-            (e ∙ ap (target_address (instruction i)) (sym (place_kept place depth file h))) next-kept
-            (pushed place depth file i is-s next-kept))
+            (e ∙ ap (target_address (instruction i)) (sym (place_kept place depth file h))) next_kept
+            (pushed place depth file i is-s next_kept))
 
-        pub stops-pushing : (stop : Stop) (t : StepResult) → t ≡ step_result (StepAnswer.Stopped stop) place depth
+        pub stops_pushing : (stop : Stop) (t : StepResult) → t ≡ step_result (StepAnswer.Stopped stop) place depth
             → w ≡ Served.Unserved stop
             → left t file calls m.ram ≡ finished (spec.calls core (instruction i) kind) i m place depth file calls
-        stops-pushing stop t e e' =
-            stops-at-stores i m place depth file calls after (target_address (instruction i) place)
+        stops_pushing stop t e e' =
+            stops_at_stores i m place depth file calls after (target_address (instruction i) place)
             (CallChange.Open next (kind_number kind)) (listed stores) stop t e (sym tested ∙ e')
-            ∙ opened-so (target_address (instruction i) place) refl
+            ∙ opened_so (target_address (instruction i) place) refl
 
-        pub calls-so : (to entry : ℕ) (file' ram' : List ℕ) → to ≡ target_address (instruction i) place → w ≡ Served.All
+        pub calls_so : (to entry : ℕ) (file' ram' : List ℕ) → to ≡ target_address (instruction i) place → w ≡ Served.All
             → entry ≡ call_record next (kind_number kind) → registers_of file' ≡ widths_after (instruction i) here after
             → ram' ≡ stored (listed stores) m.ram
             → left (step_result StepAnswer.Called to (depth + 1)) file' (set calls depth entry) ram'
             ≡ finished (spec.calls core (instruction i) kind) i m place depth file calls
-        calls-so to entry file' ram' is-to all is-entry same is-ram =
+        calls_so to entry file' ram' is-to all is-entry same is-ram =
             completes i m place depth file calls after to (CallChange.Open next (kind_number kind)) (listed stores)
             file'
             (set calls depth entry) ram' (sym tested ∙ all) same (ap (set calls depth) is-entry) is-ram
-            ∙ opened-so to is-to
+            ∙ opened_so to is-to
 
   -- a return
   module _ (opened : ℕ) (kind : Kind) (address : ℕ) where
     abbrev plan : Plan
     plan = returns_to core (instruction i) opened kind address
 
-    pub stops-none-open : (t : StepResult) → t ≡ step_result (StepAnswer.Stopped Stop.Astray) place depth → depth ≡ 0
+    pub stops_none_open : (t : StepResult) → t ≡ step_result (StepAnswer.Stopped Stop.Astray) place depth → depth ≡ 0
         → left t file calls m.ram ≡ finished plan i m place depth file calls
-    stops-none-open t e h =
+    stops_none_open t e h =
         stops_so i m place depth file calls Stop.Astray plan t e (none_open core (instruction i) opened kind address h)
 
-    pub stops-other-kind : (n : ℕ) (t : StepResult) → n ≡ kind_number kind
+    pub stops_other_kind : (n : ℕ) (t : StepResult) → n ≡ kind_number kind
         → t ≡ step_result (StepAnswer.Stopped Stop.Astray) place depth
         → (kind_of opened ≡ n → ⊥) → left t file calls m.ram ≡ finished plan i m place depth file calls
-    stops-other-kind n t is-kind e h =
+    stops_other_kind n t is-kind e h =
         stops_so i m place depth file calls Stop.Astray plan t e
-        (other-kind core (instruction i) opened kind address n is-kind h)
+        (other_kind core (instruction i) opened kind address n is-kind h)
 
-    pub stops-other-address : (t : StepResult) → t ≡ step_result (StepAnswer.Stopped Stop.Astray) place depth
+    pub stops_other_address : (t : StepResult) → t ≡ step_result (StepAnswer.Stopped Stop.Astray) place depth
         → (return_of opened ≡ address → ⊥)
         → left t file calls m.ram ≡ finished plan i m place depth file calls
-    stops-other-address t e h =
+    stops_other_address t e h =
         stops_so i m place depth file calls Stop.Astray plan t e
         (other_address core (instruction i) opened kind address h)
 
-    pub returns-so : (n : ℕ) (file' : List ℕ) → n ≡ kind_number kind → 0 < depth → kind_of opened ≡ n
+    pub returns_so : (n : ℕ) (file' : List ℕ) → n ≡ kind_number kind → 0 < depth → kind_of opened ≡ n
         → return_of opened ≡ address
         → registers_of file' ≡ widths_after (instruction i) here (with_s (pulled_at here (return_bytes kind)) here)
         → left (step_result StepAnswer.Completed address (depth - 1)) file' calls m.ram
         ≡ finished plan i m place depth file calls
-    returns-so n file' is-kind below same there e =
+    returns_so n file' is-kind below same there e =
         completes i m place depth file calls (with_s (pulled_at here (return_bytes kind)) here) address
         CallChange.Close []
         file' calls m.ram refl e refl refl
@@ -254,18 +254,18 @@ module _ (i : Fetched) (m : Memory) (place depth : ℕ) (file calls : List ℕ) 
   module _ (opened s : ℕ) (kind : Kind) (w : LongRead) (is-s : s ≡ here.s)
       (read : (depth : ℕ) (file : List ℕ) (j : Fetched) → s ≡ (registers_of file).s → i.length ≡ j.length
       → w ≡ long_read (evaluate m (spec.pulls_return (core_at place depth file) (instruction j) kind))) where
-    pub stops-pulling : (t : StepResult) → t ≡ step_result (StepAnswer.Stopped Stop.Unmapped) place depth
+    pub stops_pulling : (t : StepResult) → t ≡ step_result (StepAnswer.Stopped Stop.Unmapped) place depth
         → w ≡ LongRead.Unmapped
         → left t file calls m.ram
         ≡ finished (plan_by core (instruction i) m opened (Flow.Return kind)) i m place depth file calls
-    stops-pulling t e e' =
+    stops_pulling t e e' =
         stops_so i m place depth file calls Stop.Unmapped (plan_by core (instruction i) m opened (Flow.Return kind)) t e
-        (return-unmapped core (instruction i) m opened kind w (read depth file i is-s refl) e')
+        (return_unmapped core (instruction i) m opened kind w (read depth file i is-s refl) e')
 
-    pub pulls-so : (address : ℕ) (after : Stepped) → w ≡ LongRead.Long address
+    pub pulls_so : (address : ℕ) (after : Stepped) → w ≡ LongRead.Long address
         → after ≡ finished (returns_to core (instruction i) opened kind address) i m place depth file calls
         → after ≡ finished (plan_by core (instruction i) m opened (Flow.Return kind)) i m place depth file calls
-    pulls-so address after e is-after =
+    pulls_so address after e is-after =
         is-after
         ∙ ap (λ p. finished p i m place depth file calls)
-        (return-to core (instruction i) m opened kind w (read depth file i is-s refl) address e)
+        (return_to core (instruction i) m opened kind w (read depth file i is-s refl) address e)

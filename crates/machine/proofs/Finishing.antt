@@ -38,10 +38,10 @@ module _ (i : Fetched) (m : Memory) (place depth : ℕ) (file calls : List ℕ) 
   stops_so stop p t e e' = rw (e, ← e') refl
 
   module _ (after : Registers) (to : ℕ) (opens : CallChange) (stores : List Store) where
-    pub stops-at-stores : (stop : Stop) (t : StepResult) → t ≡ step_result (StepAnswer.Stopped stop) place depth
+    pub stops_at_stores : (stop : Stop) (t : StepResult) → t ≡ step_result (StepAnswer.Stopped stop) place depth
         → served m stores ≡ Served.Unserved stop
         → left t file calls m.ram ≡ finished (changes (change after to opens stores)) i m place depth file calls
-    stops-at-stores stop t e e' = rw (e, e') refl
+    stops_at_stores stop t e e' = rw (e, e') refl
 
     -- all parts of a change carried out
     pub completes : (file' calls' ram' : List ℕ) → served m stores ≡ Served.All

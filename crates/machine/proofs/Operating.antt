@@ -74,27 +74,27 @@ module _ (i : Fetched) (m : Memory) (place depth : ℕ) (file : List ℕ) where
   module _ (goes : Bool → ℕ) (task : ℕ) (access : OperandUse)
       (is-task : Does entry.accumulator entry.operation task)
       (is-access : access ≡ (unpacked_task task).access) (decimal : Bool) (tested : decimal ≡ is_decimal access r) where
-    asked-so : access ≡ operand_use_of entry.operation
-    asked-so = is-access ∙ is-task.0
+    asked_so : access ≡ operand_use_of entry.operation
+    asked_so = is-access ∙ is-task.0
 
-    is-tested : is_decimal (operand_use_of entry.operation) r ≡ decimal
-    is-tested = ap (λ a. is_decimal a r) (sym asked-so) ∙ sym tested
+    is_tested : is_decimal (operand_use_of entry.operation) r ≡ decimal
+    is_tested = ap (λ a. is_decimal a r) (sym asked_so) ∙ sym tested
 
-    pub stops-decimal : decimal ≡ true → (t : StepResult) → t ≡ step_result (StepAnswer.Stopped Stop.Decimal) place
+    pub stops_decimal : decimal ≡ true → (t : StepResult) → t ≡ step_result (StepAnswer.Stopped Stop.Decimal) place
         depth
         → (calls : List ℕ)
         → left t file calls m.ram ≡ finished (operates c (instruction i) m goes) i m place depth file calls
-    stops-decimal h t is-result calls =
+    stops_decimal h t is-result calls =
         stops_so i m place depth file calls Stop.Decimal (operates c (instruction i) m goes) t is-result
-        (sym (decimal_first m c (instruction i) goes (is-tested ∙ h)))
+        (sym (decimal_first m c (instruction i) goes (is_tested ∙ h)))
 
     module _ (h : decimal ≡ false) (width : DataWidth) (is-width : width ≡ entry.width)
         (status : ℕ) (is-status : status ≡ get_or file 7 0) (by-m : Bool) (is_m : by-m ≡ is_set mask_m status)
         (by-x : Bool) (is_x : by-x ≡ is_set mask_x status) (short : Bool) (is-short : short ≡ is_short width by-m by-x)
         (mode : Mode) (is-mode : mode ≡ entry.mode) (named : Accumulator) (is-named : named ≡ entry.accumulator)
         (w : DataRead) (read : w ≡ data_read (evaluate m (data_of access mode named r short i.operand))) where
-      short-so : short ≡ spec.short c (instruction i)
-      short-so = rw (is-short, is-width, is_m, is_x, is-status) refl
+      short_so : short ≡ spec.short c (instruction i)
+      short_so = rw (is-short, is-width, is_m, is_x, is-status) refl
 
       abbrev asked : Outcome Data
       asked =
@@ -103,54 +103,54 @@ module _ (i : Fetched) (m : Memory) (place depth : ℕ) (file : List ℕ) where
           i.operand)
 
       again : w ≡ data_read asked
-      again = read ∙ rw (asked-so, is-mode, is-named, short-so) refl
+      again = read ∙ rw (asked_so, is-mode, is-named, short_so) refl
 
-      unmapped-plan : w ≡ DataRead.Unmapped → stops Stop.Unmapped ≡ operates c (instruction i) m goes
+      unmapped_plan : w ≡ DataRead.Unmapped → stops Stop.Unmapped ≡ operates c (instruction i) m goes
       unfolding operates
-      unmapped-plan e = rw (is-tested, h, data_unmapped asked w again e) refl
+      unmapped_plan e = rw (is_tested, h, data_unmapped asked w again e) refl
 
-      pub stops-unmapped : w ≡ DataRead.Unmapped → (t : StepResult)
+      pub stops_unmapped : w ≡ DataRead.Unmapped → (t : StepResult)
           → t ≡ step_result (StepAnswer.Stopped Stop.Unmapped) place depth
           → (calls : List ℕ)
           → left t file calls m.ram ≡ finished (operates c (instruction i) m goes) i m place depth file calls
-      stops-unmapped e t is-result calls =
+      stops_unmapped e t is-result calls =
           stops_so i m place depth file calls Stop.Unmapped (operates c (instruction i) m goes) t is-result
-          (unmapped-plan e)
+          (unmapped_plan e)
 
       module _ (given : Data) (found : w ≡ DataRead.Found given) (inside : place < address_limit)
           (next : ℕ) (is-next : next ≡ next_address place i.length) (e : Kept)
           (is-effect : as_effect e r ≡ effect_by mode short i.operand next given file (unpacked_task task))
           (to : ℕ) (is-to : to ≡ goes e.taken) where
-        next-so : next ≡ spec.next c (instruction i)
-        next-so = is-next ∙ ap (λ n. next_address n i.length) (sym (place_kept place depth file inside))
+        next_so : next ≡ spec.next c (instruction i)
+        next_so = is-next ∙ ap (λ n. next_address n i.length) (sym (place_kept place depth file inside))
 
-        effect-so : as_effect e r
+        effect_so : as_effect e r
             ≡ effect_of entry.mode entry.accumulator (spec.short c (instruction i)) i.operand
             (spec.next c (instruction i)) given r entry.operation
-        effect-so =
+        effect_so =
             is-effect
             ∙ is-task.1 mode short i.operand next given file
-            ∙ rw (is-mode, short-so, next-so) refl
+            ∙ rw (is-mode, short_so, next_so) refl
 
-        works-so : changes (change (as_effect e r).registers to CallChange.Keep (listed e.stores))
+        works_so : changes (change (as_effect e r).registers to CallChange.Keep (listed e.stores))
             ≡ spec.works c (instruction i) goes given
-        works-so =
+        works_so =
             ap (λ n. changes (change (as_effect e r).registers n CallChange.Keep (listed e.stores))) is-to
-            ∙ ap (planned_by goes) effect-so
+            ∙ ap (planned_by goes) effect_so
 
-        worked-plan : changes (change (as_effect e r).registers to CallChange.Keep (listed e.stores))
+        worked_plan : changes (change (as_effect e r).registers to CallChange.Keep (listed e.stores))
             ≡ operates c (instruction i) m goes
         unfolding operates
-        worked-plan = rw (is-tested, h, data_done asked w given again found) works-so
+        worked_plan = rw (is_tested, h, data_done asked w given again found) works_so
 
-        pub works-on : (t : StepResult) (file' ram' : List ℕ)
+        pub works_on : (t : StepResult) (file' ram' : List ℕ)
             → ((calls : List ℕ) → left t file' calls ram'
             ≡ finished (changes (change (as_effect e r).registers to CallChange.Keep (listed e.stores))) i m place
             depth file calls)
             → (calls : List ℕ)
             → left t file' calls ram' ≡ finished (operates c (instruction i) m goes) i m place depth file calls
-        works-on t file' ram' finishes calls =
-            finishes calls ∙ ap (λ p. finished p i m place depth file calls) worked-plan
+        works_on t file' ram' finishes calls =
+            finishes calls ∙ ap (λ p. finished p i m place depth file calls) worked_plan
 
   -- a jump leaves the registers but for the widths
   pub jumped : (e : Kept) → e ≡ code_effect 7 0 7 0 (get_or file 7 0) Stores.None false

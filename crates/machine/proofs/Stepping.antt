@@ -39,17 +39,17 @@ module _ (i : Fetched) (m : Memory) (place depth : ℕ) (file opens : List ℕ) 
   opened = get_or opens (depth - 1) 0
 
   module _ (flow : Flow) (is-flow : flow ≡ there.entry.flow) (after : Stepped) where
-    by-plan : (p : Plan) → after ≡ finished p i m place depth file opens → p ≡ plan_by c there m opened flow
+    by_plan : (p : Plan) → after ≡ finished p i m place depth file opens → p ≡ plan_by c there m opened flow
         → after ≡ on_decoded (Decoded.Whole there) m (state c opens)
-    by-plan p e e' = rw (e, e', is-flow) refl
+    by_plan p e e' = rw (e, e', is-flow) refl
 
     -- an operation goes on at the next address, or by its target where it branches
-    pub by-operation : flow ≡ Flow.Next ⊎ flow ≡ Flow.Branch → (branches : Bool) → branches ≡ is_branch flow
+    pub by_operation : flow ≡ Flow.Next ⊎ flow ≡ Flow.Branch → (branches : Bool) → branches ≡ is_branch flow
         → after ≡ finished (operates c there m (goes_on_by branches i place)) i m place depth file opens
         → after ≡ on_decoded (Decoded.Whole there) m (state c opens)
     unfolding plan_by_within
-    by-operation h branches e e' =
-        by-plan (operates c there m (goes_on_by branches i place)) e' (by flow h branches e)
+    by_operation h branches e e' =
+        by_plan (operates c there m (goes_on_by branches i place)) e' (by flow h branches e)
       where
         by : (f : Flow) → f ≡ Flow.Next ⊎ f ≡ Flow.Branch → (b : Bool) → b ≡ is_branch f
             → operates c there m (goes_on_by b i place) ≡ plan_by c there m opened f
@@ -74,7 +74,7 @@ module _ (i : Fetched) (m : Memory) (place depth : ℕ) (file opens : List ℕ) 
         → after ≡ on_decoded (Decoded.Whole there) m (state c opens)
     unfolding plan_by_within
     by_jump e e' =
-        by-plan (changes (change (registers_of file) (target_address there place) CallChange.Keep [])) e' (rw e jumped)
+        by_plan (changes (change (registers_of file) (target_address there place) CallChange.Keep [])) e' (rw e jumped)
       where
         jumped : changes (change (registers_of file) (target_address there place) CallChange.Keep [])
             ≡ plan_by c there m opened Flow.Jump
@@ -86,21 +86,21 @@ module _ (i : Fetched) (m : Memory) (place depth : ℕ) (file opens : List ℕ) 
         → after ≡ finished (calls c there kind) i m place depth file opens
         → after ≡ on_decoded (Decoded.Whole there) m (state c opens)
     unfolding plan_by_within
-    by_call kind e e' = by-plan (calls c there kind) e' (rw e called)
+    by_call kind e e' = by_plan (calls c there kind) e' (rw e called)
       where
         called : calls c there kind ≡ plan_by c there m opened (Flow.Call kind)
         called = refl
 
-    pub by-return : (kind : Kind) (last : ℕ) → flow ≡ Flow.Return kind → last ≡ opened
+    pub by_return : (kind : Kind) (last : ℕ) → flow ≡ Flow.Return kind → last ≡ opened
         → after ≡ finished (plan_by c there m last (Flow.Return kind)) i m place depth file opens
         → after ≡ on_decoded (Decoded.Whole there) m (state c opens)
-    by-return kind last e e' e'' = by-plan (plan_by c there m last (Flow.Return kind)) e'' (rw (e, e') refl)
+    by_return kind last e e' e'' = by_plan (plan_by c there m last (Flow.Return kind)) e'' (rw (e, e') refl)
 
-    pub by-halt : (t : StepResult) → flow ≡ Flow.Halt → t ≡ step_result (StepAnswer.Stopped Stop.Halt) place depth
+    pub by_halt : (t : StepResult) → flow ≡ Flow.Halt → t ≡ step_result (StepAnswer.Stopped Stop.Halt) place depth
         → after ≡ left t file opens m.ram
         → after ≡ on_decoded (Decoded.Whole there) m (state c opens)
     unfolding plan_by_within
-    by-halt t e e' e'' = by-plan (stops Stop.Halt) (rw (e'', e') refl) (rw e halted)
+    by_halt t e e' e'' = by_plan (stops Stop.Halt) (rw (e'', e') refl) (rw e halted)
       where
         halted : stops Stop.Halt ≡ plan_by c there m opened Flow.Halt
         halted = refl
@@ -110,24 +110,24 @@ module _ (m : Memory) (place depth : ℕ) (file opens : List ℕ) (found : Fetch
   here = core_at (place % address_limit) depth file
 
   module _ (is-fetched : decoded_as found ≡ fetched m here) (after : Stepped) where
-    by-fetch : after ≡ on_decoded (decoded_as found) m (state here opens)
+    by_fetch : after ≡ on_decoded (decoded_as found) m (state here opens)
         → after ≡ step m (state (core_at place depth file) opens)
     unfolding step_within
-    by-fetch e =
+    by_fetch e =
         e ∙ ap (λ d. on_decoded d m (state here opens)) is-fetched
         ∙ ap (λ c. on_decoded (fetched m c) m (state c opens)) (core_kept place depth file)
 
-    pub step-whole : (i : Fetched) → found ≡ Fetch.Whole i
+    pub step_whole : (i : Fetched) → found ≡ Fetch.Whole i
         → after ≡ on_decoded (Decoded.Whole (instruction i)) m (state here opens)
         → after ≡ step m (state (core_at place depth file) opens)
-    step-whole i e e' = by-fetch (rw e e')
+    step_whole i e e' = by_fetch (rw e e')
 
-    pub step-uncarried : (t : StepResult) → found ≡ Fetch.NotCarried
+    pub step_uncarried : (t : StepResult) → found ≡ Fetch.NotCarried
         → t ≡ step_result (StepAnswer.Stopped Stop.Uncarried) place depth
         → after ≡ left t file opens m.ram → after ≡ step m (state (core_at place depth file) opens)
-    step-uncarried t e e' e'' = by-fetch (rw (e, e'', e', core_kept place depth file) refl)
+    step_uncarried t e e' e'' = by_fetch (rw (e, e'', e', core_kept place depth file) refl)
 
-    pub step-outside : (t : StepResult) → found ≡ Fetch.CutOff
+    pub step_outside : (t : StepResult) → found ≡ Fetch.CutOff
         → t ≡ step_result (StepAnswer.Stopped Stop.Outside) place depth
         → after ≡ left t file opens m.ram → after ≡ step m (state (core_at place depth file) opens)
-    step-outside t e e' e'' = by-fetch (rw (e, e'', e', core_kept place depth file) refl)
+    step_outside t e e' e'' = by_fetch (rw (e, e'', e', core_kept place depth file) refl)

@@ -169,6 +169,7 @@ fn entry_of(address: u32, kind: Kind) -> u64
 }
 
 // A call, unless too many are open or its pushes are not served.
+#[tactic(auto, using(crate::proofs::Calling::stops_deep))]
 pub(crate) fn calls_to(
     image: &[u8],
     base: u32,

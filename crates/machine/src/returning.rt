@@ -57,6 +57,7 @@ fn pulls_return(
 }
 
 // A return to an address, if the call opened last is of its kind and returns there.
+#[tactic(auto, using(crate::proofs::Calling::stops_none_open))]
 fn returns_to(
     i: Fetched,
     opened: u64,

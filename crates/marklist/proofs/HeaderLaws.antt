@@ -73,17 +73,17 @@ module _ (count : ℕ) (h : Header) (page : List ℕ) (k : ℕ) (e : k ≡ decim
   letter_put = two_front page 0x49 tab (omega (arith, header_room))
 
   module _ (a : List ℕ) (got-a : Got 16 6 h.base tab 2 (lettered page) a) where
-    pub base-put : Front page 9 ((0x49 ∷ tab ∷ []) ++ (digits 16 6 h.base ++ (tab ∷ [])))
+    pub base_put : Front page 9 ((0x49 ∷ tab ∷ []) ++ (digits 16 6 h.base ++ (tab ∷ [])))
         (put_at 2 (lettered page) a)
-    base-put = front_next 7 _ a letter_put got-a (length_field 16 6 h.base tab) (omega (arith, header_room))
+    base_put = front_next 7 _ a letter_put got-a (length_field 16 6 h.base tab) (omega (arith, header_room))
 
     module _ (b : List ℕ) (got-b : Got 10 k h.length tab 9 (put_at 2 (lettered page) a) b) where
-      pub length-put : Front page (9 + k + 1)
+      pub length_put : Front page (9 + k + 1)
           (((0x49 ∷ tab ∷ []) ++ (digits 16 6 h.base ++ (tab ∷ []))) ++ (digits 10 k h.length ++ (tab ∷ [])))
           (put_at 9 (put_at 2 (lettered page) a) b)
-      length-put =
+      length_put =
           front_at (9 + k + 1) (omega arith)
-          (front_next (k + 1) _ b base-put got-b (length_field 10 k h.length tab) (omega (arith, header_room)))
+          (front_next (k + 1) _ b base_put got-b (length_field 10 k h.length tab) (omega (arith, header_room)))
 
       module _ (c : List ℕ)
           (got-c : Got 16 count h.reset line_end (9 + k + 1) (put_at 9 (put_at 2 (lettered page) a) b) c) where
@@ -97,16 +97,16 @@ module _ (count : ℕ) (h : Header) (page : List ℕ) (k : ℕ) (e : k ≡ decim
         unfolding header_text
         joined_is = rw (← e) (simp append_assoc)
 
-        pub reset-put : Front page (9 + k + 1 + (count + 1)) joined
+        pub reset_put : Front page (9 + k + 1 + (count + 1)) joined
             (put_at (9 + k + 1) (put_at 9 (put_at 2 (lettered page) a) b) c)
-        reset-put =
-            front_next (count + 1) _ c length-put got-c (length_field 16 count h.reset line_end)
+        reset_put =
+            front_next (count + 1) _ c length_put got-c (length_field 16 count h.reset line_end)
             (omega (arith, header_room))
 
-        pub header-put : put_at (9 + k + 1) (put_at 9 (put_at 2 (lettered page) a) b) c
+        pub header_put : put_at (9 + k + 1) (put_at 9 (put_at 2 (lettered page) a) b) c
             ≡ header_text count h ++ drop (length (header_text count h)) page
-        header-put =
-            let size : 9 + k + 1 + (count + 1) ≡ length (header_text count h) = sym reset-put.long ∙ ap length
+        header_put =
+            let size : 9 + k + 1 + (count + 1) ≡ length (header_text count h) = sym reset_put.long ∙ ap length
             joined_is in
-            reset-put.same ∙ ap (◌++ drop (9 + k + 1 + (count + 1)) page) joined_is ∙ ap
+            reset_put.same ∙ ap (◌++ drop (9 + k + 1 + (count + 1)) page) joined_is ∙ ap
             (λ n. header_text count h ++ drop n page) size

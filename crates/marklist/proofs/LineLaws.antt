@@ -52,7 +52,7 @@ module _ (count address : ℕ) (text : List ℕ) where
 
   module _ (mark : ℕ) (shown : mark ≡ fields_mark (drop count text)) (inside : address < 16 ^ count)
       (begins : starts_with (digits 16 count address) text ≡ true) where
-    pub by-fields : (b : Bool) → (starts_with (fields mark) (drop count text) && is_formed mark) ≡ b
+    pub by_fields : (b : Bool) → (starts_with (fields mark) (drop count text) && is_formed mark) ≡ b
         → mark_shown count address text ≡ pick b mark 0
     unfolding mark_shown is_line
-    by-fields b h = rw (← shown, lt-ltb address (16 ^ count) inside, begins, h)
+    by_fields b h = rw (← shown, lt-ltb address (16 ^ count) inside, begins, h)

@@ -67,18 +67,18 @@ module _ (text : List ℕ) (at next address : ℕ) (some : at < length text) (so
   passed_address low = some_left (none_later count next rest (rw is_Address at low))
 
   module _ (size : ℕ) (is-size : size ≡ line_size count (mark_shown count address rest)) where
-    by-line : (b : Bool) → is_line count address rest ≡ b → size ≡ pick b (count + 11) 0
-    by-line b e = is-size ∙ size_shown count address rest b e
+    by_line : (b : Bool) → is_line count address rest ≡ b → size ≡ pick b (count + 11) 0
+    by_line b e = is-size ∙ size_shown count address rest b e
 
     pub no_line : size ≡ 0 → false ≡ is_routine_list text
     no_line none = by (is_line count address rest) refl
       where
         by : (b : Bool) → is_line count address rest ≡ b → false ≡ is_routine_list text
-        by true e = absurd (omega (arith, by-line true e))
+        by true e = absurd (omega (arith, by_line true e))
         by false e = some_left (none_there count next rest (rw is_Address at e))
 
-    pub line-judged : next ≤ address → (size ≡ 0 → ⊥) → Judged text (at + size) (address + 1)
-    line-judged low other = by (is_line count address rest) refl
+    pub line_judged : next ≤ address → (size ≡ 0 → ⊥) → Judged text (at + size) (address + 1)
+    line_judged low other = by (is_line count address rest) refl
       where
         by : (b : Bool) → is_line count address rest ≡ b → Judged text (at + size) (address + 1)
         by true e =
@@ -88,10 +88,10 @@ module _ (text : List ℕ) (at next address : ℕ) (some : at < length text) (so
               omega (arith, inside),
               omega (arith, is-size, shown_inside count address rest, length-drop at text),
               ap (left_to count (span text) (address + 1))
-                  (sym (drop-drop size at text) ∙ ap (λ n. drop n rest) (by-line true e))
+                  (sym (drop-drop size at text) ∙ ap (λ n. drop n rest) (by_line true e))
                   ∙ rw (← is_Address) at (sym taken) ∙ so.2,
             )
-        by false e = absurd (other (by-line false e))
+        by false e = absurd (other (by_line false e))
 
 pub all_judged : (text : List ℕ) (at next : ℕ) → length text ≤ at → Judged text at next → true ≡ is_routine_list text
 unfolding is_routine_list

@@ -171,19 +171,19 @@ module _ (digits : ℕ) where
         let next : address + i + 1 ≡ address + suc i = omega arith in
         rw (drop-cons marks i 0 inside, add-one i, next)
 
-    pub line-fits : at + line_size digits (get_or marks i 0) ≤ length given
-    line-fits =
+    pub line_fits : at + line_size digits (get_or marks i 0) ≤ length given
+    line_fits =
         let whole = simp length-append at (ap length (rw lines_next at p.2)) in
         omega (arith, p.1.long, length_line_of digits (address + i) (get_or marks i 0), whole)
 
-    pub one-more-put : (size : ℕ) (part : List ℕ) → size ≡ line_size digits (get_or marks i 0)
+    pub one_more_put : (size : ℕ) (part : List ℕ) → size ≡ line_size digits (get_or marks i 0)
         → part ≡ line_of digits (address + i) (get_or marks i 0) ++ drop size (take (length page - at) (drop at page))
         → Put given address marks (put_mid at (length page - at) page part) (at + size) (i + 1)
-    one-more-put size part e got =
+    one_more_put size part e got =
         let mark = get_or marks i 0 in
         let f = front_next size (line_of digits (address + i) mark) part p.1 got
         (length_line_of digits (address + i) mark ∙ sym e)
-        (rw e line-fits) in
+        (rw e line_fits) in
         let rest = lines digits (address + (i + 1)) (drop (i + 1) marks) in (
           omega arith,
           rw (front_take f) f,

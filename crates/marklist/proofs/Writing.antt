@@ -37,10 +37,10 @@ module _ (marks : List ℕ) (base reset : ℕ) (page : List ℕ) where
         goes_on (marks_tests (length marks) marks base reset) _ passed refl
         (fails {given = false} _ _ (sym (rw (← s) (lt-leb size (length page) short))) refl)
 
-    pub is-written : size ≤ length page → (ListWritten.Written size ≡ write_list marks base reset page)
+    pub is_written : size ≤ length page → (ListWritten.Written size ≡ write_list marks base reset page)
         × (list_text new_digits marks base reset ++ drop size page ≡ page_written marks base reset page)
     unfolding write_list page_written page_by
-    is-written long =
+    is_written long =
         let all : TestResult.Passed ≡ first_refusal (write_tests marks base reset page) =
         goes_on (marks_tests (length marks) marks base reset) _ passed refl
         (holds {given = true} _ _ (sym (rw (← s) (le-leb size (length page) long))) refl passes) in
@@ -49,9 +49,9 @@ module _ (marks : List ℕ) (base reset : ℕ) (page : List ℕ) where
   -- the length of the first line and that of the lines
   module _ (first count : ℕ) (f : first ≡ length (header_text new_digits first_line))
       (l : (address : ℕ) → count ≡ length (lines new_digits address marks)) where
-    pub list-size : first + count ≡ length (list_text new_digits marks base reset)
+    pub list_size : first + count ≡ length (list_text new_digits marks base reset)
     unfolding list_text
-    list-size =
+    list_size =
         rw (length-append (header_text new_digits first_line) (lines new_digits (first_address new_digits base) marks))
         (omega (
           arith,
@@ -59,10 +59,10 @@ module _ (marks : List ℕ) (base reset : ℕ) (page : List ℕ) where
           l (first_address new_digits base),
         ))
 
-    pub header-front : first + count ≤ length page → {now : List ℕ}
+    pub header_front : first + count ≤ length page → {now : List ℕ}
         → now ≡ header_text new_digits first_line ++ drop (length (header_text new_digits first_line)) page
         → Front page first (header_text new_digits first_line) now
-    header-front room e = record { same = rw (← f) at e; long = sym f; room = omega (arith, room) }
+    header_front room e = record { same = rw (← f) at e; long = sym f; room = omega (arith, room) }
 
     pub list_put : (low : ℕ) → low ≡ first_address new_digits base → first + count ≤ length page → {now : List ℕ}
         (part : List ℕ)

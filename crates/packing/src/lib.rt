@@ -1,5 +1,5 @@
 // The answers of the C interface as numbers (include/m7700.h). Each function asks that the answer fits its bits, which
-// every answer does (proofs/Answers.antt, Counts.antt).
+// every answer does (proofs where the answers are made: checker, Packing.antt; loader, Answers.antt and Counts.antt).
 #![tactic(auto)]
 
 ghost use Rattle.std.specs.Prelude.{◌≡◌};

@@ -39,17 +39,17 @@ module _ (piece : ℕ → List ℕ) (count : ℕ) (given : List ℕ) where
           rw left
 
       -- the next piece fits
-      pub piece-fits : at + length (piece i) ≤ length given
-      piece-fits =
+      pub piece_fits : at + length (piece i) ≤ length given
+      piece_fits =
           let all = simp length-append at (ap length (rw next at p.whole)) in
           omega (arith, p.front.long, all)
 
       -- and is written
-      pub next-piece : (size : ℕ) (part : List ℕ) → size ≡ length (piece i)
+      pub next_piece : (size : ℕ) (part : List ℕ) → size ≡ length (piece i)
           → part ≡ piece i ++ drop size (take (length page - at) (drop at page))
           → Pieces (put_mid at (length page - at) page part) (at + size) (i + 1)
-      next-piece size part e got =
-          let f = front_next size (piece i) part p.front got (sym e) (rw e piece-fits) in
+      next_piece size part e got =
+          let f = front_next size (piece i) part p.front got (sym e) (rw e piece_fits) in
           let rest = concat_from piece (i + 1) (count - (i + 1)) in
           record {
             few = omega arith;

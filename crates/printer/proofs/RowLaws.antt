@@ -24,7 +24,7 @@ use Rattle.decoder.specs.declared.LayoutRead.{LayoutRead}
 use Rattle.decoder.specs.Layout.{decoded_of}
 use Rattle.decoder.proofs.Layouts.{decoded_layout}
 use Rattle.view.specs.Layout.{layout_at}
-use Rattle.printer.proofs.Pieces.{Pieces, piece-fits, next-piece, all_pieces}
+use Rattle.printer.proofs.Pieces.{Pieces, piece_fits, next_piece, all_pieces}
 
 -- ---- cells
 
@@ -53,24 +53,24 @@ Cells bytes given page k = Pieces (cell bytes) cell_count given page (k * 3) k
 module _ (bytes given page : List ℕ) (k : ℕ) (room : 18 ≤ length given) (inside : k < cell_count)
     (p : Cells bytes given page k)
   where
-    room-for-all : length (concat_from (cell bytes) 0 cell_count) ≤ length given
-    room-for-all = omega (arith, cells_from bytes 0 cell_count)
+    room_for_all : length (concat_from (cell bytes) 0 cell_count) ≤ length given
+    room_for_all = omega (arith, cells_from bytes 0 cell_count)
 
-    pub cell-fits : k * 3 + 3 ≤ length given
-    cell-fits =
+    pub cell_fits : k * 3 + 3 ≤ length given
+    cell_fits =
         omega (
           arith,
-          piece-fits (cell bytes) cell_count given page (k * 3) k room-for-all inside p,
+          piece_fits (cell bytes) cell_count given page (k * 3) k room_for_all inside p,
           length_cell bytes k,
         )
 
-    pub next-cell : (shown part : List ℕ) → shown ≡ cell bytes k
+    pub next_cell : (shown part : List ℕ) → shown ≡ cell bytes k
         → part ≡ shown ++ drop (length shown) (take (length page - k * 3) (drop (k * 3) page))
         → Cells bytes given (put_mid (k * 3) (length page - k * 3) page part) (k + 1)
-    next-cell shown part e got =
+    next_cell shown part e got =
         let place : (k + 1) * 3 ≡ k * 3 + 3 = omega arith in
         rw place
-        (next-piece (cell bytes) cell_count given page (k * 3) k room-for-all inside p 3 part
+        (next_piece (cell bytes) cell_count given page (k * 3) k room_for_all inside p 3 part
         (sym (length_cell bytes k))
         (rw (e, length_cell bytes k) at got))
 
@@ -138,20 +138,20 @@ module _ (image marks : List ℕ) (base at : ℕ) where
       whole_row f e = rw e at by_layout
 
       -- its size, and the page where it was put
-      pub whole-size : (f : Layout) → layout-here ≡ LayoutRead.Fits f → row_size ≡ length (row_at image marks base at)
-      whole-size f e =
+      pub whole_size : (f : Layout) → layout-here ≡ LayoutRead.Fits f → row_size ≡ length (row_at image marks base at)
+      whole_size f e =
           rw (whole_row f e) (sym (length_row (base + at) (take f.length (drop at image)) (unpacked f.number) mark
           (word_short f.number)))
 
-      pub whole-put : (f : Layout) → layout-here ≡ LayoutRead.Fits f → (there size : ℕ) (page given : List ℕ)
+      pub whole_put : (f : Layout) → layout-here ≡ LayoutRead.Fits f → (there size : ℕ) (page given : List ℕ)
           → there ≡ mark → size ≡ f.length
           → page ≡ row (base + at) (take size (drop at image)) (unpacked f.number) there ++ drop row_size given
           → page ≡ row_at image marks base at ++ drop row_size given
-      whole-put f e there size page given e-mark e-size got = rw (whole_row f e) (rw (e-mark, e-size) at got)
+      whole_put f e there size page given e-mark e-size got = rw (whole_row f e) (rw (e-mark, e-size) at got)
 
-      pub uncarried-row : layout-here ≡ LayoutRead.Uncarried → row_at image marks base at ≡ []
+      pub uncarried_row : layout-here ≡ LayoutRead.Uncarried → row_at image marks base at ≡ []
       unfolding row_of
-      uncarried-row e = rw e at by_layout
+      uncarried_row e = rw e at by_layout
 
       pub short_row : layout-here ≡ LayoutRead.Short → row_at image marks base at ≡ []
       unfolding row_of

@@ -23,7 +23,7 @@ use Rattle.reports.proofs.PrintedAnswers.{printed_whole, rows_printed, page_rows
 use Rattle.answer.specs.declared.answers.FileAnswer.{FileAnswer}
 use Rattle.answer.specs.AnswerLine.{list_limit, answer_by, verdict_answer, answer_of}
 use Rattle.answer.specs.AnswerLine.{list_answer, answer_for, answer_line}
-use Rattle.answer.proofs.AnswerLaws.{both-short}
+use Rattle.answer.proofs.AnswerLaws.{both_short}
 use Rattle.printout.specs.Printout.{files_page, printout_by, printout, page_limit, printed_as, files_printed}
 
 -- which tells answers apart
@@ -104,4 +104,4 @@ module _ (image text : List ℕ) where
   pub within_limits : length text ≤ list_limit → length image ≤ image_limit
       → printout image text ≡ printout_by (list_answer image text) image text
   unfolding printout
-  within_limits short few = rw (← both-short image text short (list_answer image text) refl few)
+  within_limits short few = rw (← both_short image text short (list_answer image text) refl few)

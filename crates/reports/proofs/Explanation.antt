@@ -323,8 +323,8 @@ module _ (image marks : List ℕ) (base at : ℕ) (i : Instruction)
         (kind_bits kind) low-m low_x
 
     -- its own mark, if that is the target's, keeps the widths
-    same-widths : (mark_m (get_or called at 0) ≡ mark_m own) × (mark_x (get_or called at 0) ≡ mark_x own)
-    same-widths = by (eqb to (base + at)) refl
+    same_widths : (mark_m (get_or called at 0) ≡ mark_m own) × (mark_x (get_or called at 0) ≡ mark_x own)
+    same_widths = by (eqb to (base + at)) refl
       where
         by : (b : Bool) → eqb to (base + at) ≡ b
             → (mark_m (get_or called at 0) ≡ mark_m own) × (mark_x (get_or called at 0) ≡ mark_x own)
@@ -339,23 +339,23 @@ module _ (image marks : List ℕ) (base at : ℕ) (i : Instruction)
         rw (
           is_call,
           put_there marks base to routine there,
-          same-widths.0,
-          same-widths.1,
+          same_widths.0,
+          same_widths.1,
           has.has_return_m,
           has.has_return_x,
         )
 
-    mends-routine : Mended image called base at i 0
-    mends-routine = record {
-      whole = rw (same-widths.0, same-widths.1) whole;
+    mends_routine : Mended image called base at i 0
+    mends_routine = record {
+      whole = rw (same_widths.0, same_widths.1) whole;
       met = rw asked (put_meets marks base to routine there
           (made_start (mark_m own) (mark_x own) (kind_number kind) rm rx));
     }
 
     -- the marks that the fields of the required mark show
-    shown-routine : shown_mark true (mark_of_routine kind own (mark_at marks base to)) rm rx ≡ routine
+    shown_routine : shown_mark true (mark_of_routine kind own (mark_at marks base to)) rm rx ≡ routine
     unfolding mark_of_routine
-    shown-routine =
+    shown_routine =
         let t = mark_at marks base to in
         let f = fields (mark_of (mark_m own) (mark_x own) (kind_number kind) (return_m t) (return_x t)) (mark_m own)
         (mark_x own) (kind_number kind) (return_m t) (return_x t) refl (omega arith) (omega arith) (kind_bits kind)
@@ -395,7 +395,7 @@ module _ (image marks : List ℕ) (base at : ℕ) (i : Instruction)
       mends_at to changed k there (not_itself (jump_kept is) to other) (after_start _ _ _)
       (asks_with Flow.Jump is (put_mark marks base to changed) k)
   mends_by (Flow.Call kind) is zero rm rx lm lx c a there other =
-      rw (shown-routine kind is rm rx lm lx there) (mends-routine kind is rm rx lm lx there)
+      rw (shown_routine kind is rm rx lm lx there) (mends_routine kind is rm rx lm lx there)
   mends_by (Flow.Call kind) is (suc k) rm rx lm lx c a there other =
       let mark = mark_on_return own (mark_at marks base to) in
       let apart : to ≡ next → ⊥ = λ same. absurd (omega (arith, c (record { is_call = rw is refl; same = same }))) in

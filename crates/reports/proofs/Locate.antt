@@ -370,8 +370,8 @@ locates_as_alone image marks base reset addresses places read e =
     let same = (right_length (length image) (length marks) rules.right_length).same in
     record {
       each = done_leaves image marks base reset addresses places read e;
-      marks-read = done.reads ∙ (passed image marks base addresses same done.fit).1;
-      own-call = λ k one inside room.
+      marks_counted = done.reads ∙ (passed image marks base addresses same done.fit).1;
+      own_call = λ k one inside room.
           let a = get_or addresses k 0 in
           let fits = one_fits base (length image) addresses k done.fit inside in
           let reads : (pass_over image marks base (a ∷ [])).read ≡ a - base + 1 =
@@ -399,9 +399,9 @@ module _ (image marks : List ℕ) (base reset : ℕ) (rules : Accepts image mark
     abbrev placed : ℕ → Bool → Place
     placed at reaches = pick reaches (within (base + at)) (behind (base + at))
 
-    place-reached : (at : ℕ) → place_from image marks base (suc at) k ≡ placed at (ltb k (at + bytes_at at))
+    place_reached : (at : ℕ) → place_from image marks base (suc at) k ≡ placed at (ltb k (at + bytes_at at))
     unfolding place_from
-    place-reached at = refl
+    place_reached at = refl
 
     place_is : place_of image marks base (base + k) ≡ place_from image marks base nearest k
     unfolding place_of
@@ -410,9 +410,9 @@ module _ (image marks : List ℕ) (base reset : ℕ) (rules : Accepts image mark
     covering : (at : ℕ) → start_at marks at ≡ true → at ≤ k → k < at + bytes_at at → covers image marks k at ≡ true
     covering at s low high = rw (s, le-leb at k low, lt-ltb k (at + bytes_at at) high)
 
-    covered-at : (at : ℕ) → at ≤ k → covers image marks k at ≡ true → is_covered image marks k ≡ true
+    covered_at : (at : ℕ) → at ≤ k → covers image marks k at ≡ true → is_covered image marks k ≡ true
     unfolding is_covered
-    covered-at at low h = by (ltb (first_from (covers image marks k) 0 (k + 1)) (k + 1)) refl
+    covered_at at low h = by (ltb (first_from (covers image marks k) 0 (k + 1)) (k + 1)) refl
       where
         by : (b : Bool) → ltb (first_from (covers image marks k) 0 (k + 1)) (k + 1) ≡ b → b ≡ true
         by true e = refl
@@ -422,8 +422,8 @@ module _ (image marks : List ℕ) (base reset : ℕ) (rules : Accepts image mark
             absurd (true≢false (sym h ∙ never))
 
     -- the start that covers a place is the nearest: none stands on the later bytes of an instruction
-    covering-nearest : (at n : ℕ) → n ≡ nearest → covers image marks k at ≡ true → n ≡ suc at
-    covering-nearest at n e h =
+    covering_nearest : (at n : ℕ) → n ≡ nearest → covers image marks k at ≡ true → n ≡ suc at
+    covering_nearest at n e h =
         let outer = both_true (start_at marks at) (leb at k && ltb k (at + bytes_at at)) h in
         let inner = both_true (leb at k) (ltb k (at + bytes_at at)) outer.1 in
         let low = leb-true at k inner.0 in
@@ -444,40 +444,40 @@ module _ (image marks : List ℕ) (base reset : ℕ) (rules : Accepts image mark
             let clear = there.no_overlap last (omega arith) (omega (arith, f.at_most)) in
             absurd (true≢false (sym (f.found last refl) ∙ clear))
 
-    covered-within : is_covered image marks k ≡ true → (start : ℕ) ×
+    covered_within : is_covered image marks k ≡ true → (start : ℕ) ×
         (place_of image marks base (base + k) ≡ within start)
     unfolding is_covered
-    covered-within h =
+    covered_within h =
         let at = first_from (covers image marks k) 0 (k + 1) in
         let low = ltb-true at (k + 1) h in
         let here = (first_is (covers image marks k) 0 (k + 1)).found (omega arith) in
-        let near = covering-nearest at nearest refl here in
+        let near = covering_nearest at nearest refl here in
         let outer = both_true (start_at marks at) (leb at k && ltb k (at + bytes_at at)) here in
         let inner = both_true (leb at k) (ltb k (at + bytes_at at)) outer.1 in
-        let place = ap (λ n. place_from image marks base n k) near ∙ place-reached at ∙ ap (placed at) inner.1 in
+        let place = ap (λ n. place_from image marks base n k) near ∙ place_reached at ∙ ap (placed at) inner.1 in
         (base + at, place_is ∙ place)
 
-    within-covered : (n from : ℕ) → first.Last (start_at marks) (k + 1) n → place_from image marks base n k ≡ within
+    within_covered : (n from : ℕ) → first.Last (start_at marks) (k + 1) n → place_from image marks base n k ≡ within
         from
         → is_covered image marks k ≡ true
     unfolding place_from
-    within-covered zero from f e = let z : ◌≡◌ {A = ℕ} 0 1 = cc in absurd (omega arith)
-    within-covered (suc at) from f e = by (ltb k (at + bytes_at at)) refl (sym (place-reached at) ∙ e)
+    within_covered zero from f e = let z : ◌≡◌ {A = ℕ} 0 1 = cc in absurd (omega arith)
+    within_covered (suc at) from f e = by (ltb k (at + bytes_at at)) refl (sym (place_reached at) ∙ e)
       where
         by : (b : Bool) → ltb k (at + bytes_at at) ≡ b → placed at b ≡ within from
             → is_covered image marks k ≡ true
         by true h told =
             let low : at ≤ k = omega (arith, f.at_most) in
-            covered-at at low (covering at (f.found at refl) low (ltb-true k (at + bytes_at at) h))
+            covered_at at low (covering at (f.found at refl) low (ltb-true k (at + bytes_at at) h))
         by false h told = let z : ◌≡◌ {A = ℕ} 0 1 = cc in absurd (omega arith)
 
-    pub covers-exactly : (is_covered image marks k ≡ true)
+    pub covers_exactly : (is_covered image marks k ≡ true)
         ↔ ((start : ℕ) × (place_of image marks base (base + k) ≡ within start))
-    covers-exactly = (
-      covered-within,
-      λ w. within-covered nearest w.0 (last_is (start_at marks) (k + 1)) (sym place_is ∙ w.1),
+    covers_exactly = (
+      covered_within,
+      λ w. within_covered nearest w.0 (last_is (start_at marks) (k + 1)) (sym place_is ∙ w.1),
     )
 
 pub within_covers : (image marks : List ℕ) (base reset : ℕ) → Accepts image marks base reset
     → WithinCovers image marks base
-within_covers = covers-exactly
+within_covers = covers_exactly

@@ -311,9 +311,9 @@ module _ (image marks : List ℕ) where
     abbrev place : ℕ
     place = first_from (covers image marks k) 0 (k + 1)
 
-    covered-on : (at : ℕ) → start_at marks at ≡ true → at ≤ k → k < at + size at → is_covered image marks k ≡ true
+    covered_on : (at : ℕ) → start_at marks at ≡ true → at ≤ k → k < at + size at → is_covered image marks k ≡ true
     unfolding is_covered
-    covered-on at s low high = by (ltb place (k + 1)) refl
+    covered_on at s low high = by (ltb place (k + 1)) refl
       where
         by : (b : Bool) → ltb place (k + 1) ≡ b → b ≡ true
         by true h = refl
@@ -322,9 +322,9 @@ module _ (image marks : List ℕ) where
             let none = (first_is (covers image marks k) 0 (k + 1)).before at (omega arith) (omega arith) in
             sym (rw (s, le-leb at k low, lt-ltb k (at + size at) high) at none)
 
-    covered-off : ((at : ℕ) → at ≤ k → start_at marks at ≡ true → at + size at ≤ k) → is_covered image marks k ≡ false
+    covered_off : ((at : ℕ) → at ≤ k → start_at marks at ≡ true → at + size at ≤ k) → is_covered image marks k ≡ false
     unfolding is_covered
-    covered-off ended = by (ltb place (k + 1)) refl
+    covered_off ended = by (ltb place (k + 1)) refl
       where
         by : (b : Bool) → ltb place (k + 1) ≡ b → b ≡ false
         by false h = refl
@@ -442,8 +442,8 @@ module _ (image marks : List ℕ) (base reset : ℕ) (a : Accepts image marks ba
       same_length,
     );
     alone = λ at k s. (row_at_lem at s).clear k;
-    on = λ at k. covered-on image marks k at;
-    off = covered-off image marks;
+    on = λ at k. covered_on image marks k at;
+    off = covered_off image marks;
   }
 
   bytes_are : AllBytes image → page_shows row_bytes (page_text image marks base) ≡ covered_bytes image marks

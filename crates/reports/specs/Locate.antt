@@ -155,9 +155,9 @@ module _ (image marks : List ℕ) (base reset : ℕ) where
     -- the places are those of the addresses asked alone, each by the definition
     pub each : places_located image marks base reset addresses places
         ≡ map place_number (map (place_of image marks base) addresses) ++ drop (length addresses) places
-    pub marks-read : read ≡ marks_to base addresses
+    pub marks_counted : read ≡ marks_to base addresses
     -- 'each address's result equals that of asking it alone', by a call of its own
-    pub own-call : (k : ℕ) (one : List ℕ) → k < length addresses → 1 ≤ length one
+    pub own_call : (k : ℕ) (one : List ℕ) → k < length addresses → 1 ≤ length one
         → (located image marks base reset (get_or addresses k 0 ∷ []) one
         ≡ Located.MarksRead (get_or addresses k 0 - base + 1))
         × (get_or (places_located image marks base reset (get_or addresses k 0 ∷ []) one) 0 0

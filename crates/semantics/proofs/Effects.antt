@@ -55,7 +55,7 @@ abbrev ByteOnly : ByteRead → Type 0
 ByteOnly (ByteRead.Byte b) = b < 256
 ByteOnly ByteRead.Unmapped = Unit {0}
 
-module _ (m : Memory) (in-ram : AllBytes m.ram) (in_image : AllBytes m.image) where
+module _ (m : Memory) (ram_bytes : AllBytes m.ram) (in_image : AllBytes m.image) where
   byte_read : (at : ℕ) → ByteOnly (byte_at m at)
   unfolding byte_at
   byte_read at = by (in_ram m at) (is_in_image m at)
@@ -63,7 +63,7 @@ module _ (m : Memory) (in-ram : AllBytes m.ram) (in_image : AllBytes m.image) wh
       by : (b c : Bool)
           → ByteOnly (pick b (ByteRead.Byte (get_or m.ram at 0))
           (pick c (ByteRead.Byte (get_or m.image (at - m.base) 0)) ByteRead.Unmapped))
-      by true c = in-ram at
+      by true c = ram_bytes at
       by false true = in_image (at - m.base)
       by false false = tt
 
@@ -132,34 +132,34 @@ module _ (r : Registers) (h : InWidth r) where
   in_dt n v = omega arith
 
   module _ (short : Bool) (n : ℕ) where
-    in-a : InWidth (with_a (merged (bits short) r.a n) r)
-    in-a = omega (arith, merged_small short r.a n h.a)
+    in_a : InWidth (with_a (merged (bits short) r.a n) r)
+    in_a = omega (arith, merged_small short r.a n h.a)
 
     in_b : InWidth (with_b (merged (bits short) r.b n) r)
     in_b = omega (arith, merged_small short r.b n h.b)
 
-    loads-a : InWidth (loads_a (bits short) n r)
-    loads-a = omega (arith, merged_small short r.a n h.a)
+    loads_a_lem : InWidth (loads_a (bits short) n r)
+    loads_a_lem = omega (arith, merged_small short r.a n h.a)
 
-    loads-b : InWidth (loads_b (bits short) n r)
-    loads-b = omega (arith, merged_small short r.b n h.b)
+    loads_b_lem : InWidth (loads_b (bits short) n r)
+    loads_b_lem = omega (arith, merged_small short r.b n h.b)
 
-    loads-x : InWidth (loads_x (bits short) n r)
-    loads-x = omega (arith, merged_small short r.x n h.x)
+    loads_x_lem : InWidth (loads_x (bits short) n r)
+    loads_x_lem = omega (arith, merged_small short r.x n h.x)
 
-    loads-y : InWidth (loads_y (bits short) n r)
-    loads-y = omega (arith, merged_small short r.y n h.y)
+    loads_y_lem : InWidth (loads_y (bits short) n r)
+    loads_y_lem = omega (arith, merged_small short r.y n h.y)
 
     into_x : InWidth (transfers_into with_x (bits short) n r)
     into_x = omega (arith, low_small short n)
 
-    into-y : InWidth (transfers_into with_y (bits short) n r)
-    into-y = omega (arith, low_small short n)
+    into_y_lem : InWidth (transfers_into with_y (bits short) n r)
+    into_y_lem = omega (arith, low_small short n)
 
-    loads-in : (named : Accumulator) → InWidth (loads named (bits short) n r)
-    loads-in Accumulator.Unnamed = loads-a
-    loads-in Accumulator.A = loads-a
-    loads-in Accumulator.B = loads-b
+    loads_in : (named : Accumulator) → InWidth (loads named (bits short) n r)
+    loads_in Accumulator.Unnamed = loads_a_lem
+    loads_in Accumulator.A = loads_a_lem
+    loads_in Accumulator.B = loads_b_lem
 
 stores_small : (short : Bool) (address v : ℕ) → SmallStores (stores_of short address v)
 stores_small true address v = omega arith
@@ -188,14 +188,14 @@ module _ (mode : Mode) (named : Accumulator) (short : Bool) (operand next : ℕ)
     where
       by : (p : OperandPlace) → Fine (modifies_by p named short d.address carry v r)
       by OperandPlace.Memory = (flags _ h.level, stores_small short d.address (low (bits short) v))
-      by OperandPlace.Instruction = (loads-in _ (flags _ h.level) short v named, tt)
-      by OperandPlace.Register = (loads-in _ (flags _ h.level) short v named, tt)
+      by OperandPlace.Instruction = (loads_in _ (flags _ h.level) short v named, tt)
+      by OperandPlace.Register = (loads_in _ (flags _ h.level) short v named, tt)
 
   pub effect_fine : (operation : Operation) → Fine (effect_of mode named short operand next d r operation)
   unfolding effect_of
   effect_fine Unassigned = (h, tt)
-  effect_fine ADC = (loads-in _ (flags _ h.level) short _ named, tt)
-  effect_fine AND = (loads-in r h short _ named, tt)
+  effect_fine ADC = (loads_in _ (flags _ h.level) short _ named, tt)
+  effect_fine AND = (loads_in r h short _ named, tt)
   effect_fine ASL = modified _ _
   effect_fine BBC = (h, tt)
   effect_fine BBS = (h, tt)
@@ -219,26 +219,26 @@ module _ (mode : Mode) (named : Accumulator) (short : Bool) (operand next : ℕ)
   effect_fine CPX = (flags _ h.level, tt)
   effect_fine CPY = (flags _ h.level, tt)
   effect_fine DEC = modified _ _
-  effect_fine DEX = (loads-x r h short _, tt)
-  effect_fine DEY = (loads-y r h short _, tt)
+  effect_fine DEX = (loads_x_lem r h short _, tt)
+  effect_fine DEY = (loads_y_lem r h short _, tt)
   effect_fine DIV = (h, tt)
-  effect_fine EOR = (loads-in r h short _ named, tt)
+  effect_fine EOR = (loads_in r h short _ named, tt)
   effect_fine INC = modified _ _
-  effect_fine INX = (loads-x r h short _, tt)
-  effect_fine INY = (loads-y r h short _, tt)
+  effect_fine INX = (loads_x_lem r h short _, tt)
+  effect_fine INY = (loads_y_lem r h short _, tt)
   effect_fine JMP = (h, tt)
   effect_fine JSR = (h, tt)
-  effect_fine LDA = (loads-in r h short _ named, tt)
+  effect_fine LDA = (loads_in r h short _ named, tt)
   effect_fine LDM = stored_to _
   effect_fine LDT = (in_dt r h _ (omega arith), tt)
-  effect_fine LDX = (loads-x r h short _, tt)
-  effect_fine LDY = (loads-y r h short _, tt)
+  effect_fine LDX = (loads_x_lem r h short _, tt)
+  effect_fine LDY = (loads_y_lem r h short _, tt)
   effect_fine LSR = modified _ _
   effect_fine MPY = (h, tt)
   effect_fine MVN = (h, tt)
   effect_fine MVP = (h, tt)
   effect_fine NOP = (h, tt)
-  effect_fine ORA = (loads-in r h short _ named, tt)
+  effect_fine ORA = (loads_in r h short _ named, tt)
   effect_fine PEA = pushed _
   effect_fine PEI = pushed _
   effect_fine PER = pushed _
@@ -250,22 +250,22 @@ module _ (mode : Mode) (named : Accumulator) (short : Bool) (operand next : ℕ)
   effect_fine PHT = pushed _
   effect_fine PHX = pushed _
   effect_fine PHY = pushed _
-  effect_fine PLA = (loads-a _ off short _, tt)
-  effect_fine PLB = (loads-b _ off short _, tt)
+  effect_fine PLA = (loads_a_lem _ off short _, tt)
+  effect_fine PLB = (loads_b_lem _ off short _, tt)
   effect_fine PLD = (in_dpr _ off _ small, tt)
   effect_fine PLP = (h, tt)
   effect_fine PLT = (in_status _ (in_dt _ off _ (omega arith)) _ h.level, tt)
-  effect_fine PLX = (loads-x _ off short _, tt)
-  effect_fine PLY = (loads-y _ off short _, tt)
+  effect_fine PLX = (loads_x_lem _ off short _, tt)
+  effect_fine PLY = (loads_y_lem _ off short _, tt)
   effect_fine PSH = (h, tt)
   effect_fine PUL = (h, tt)
-  effect_fine RLA = (in-a r h short _, tt)
+  effect_fine RLA = (in_a r h short _, tt)
   effect_fine ROL = modified _ _
   effect_fine ROR = modified _ _
   effect_fine RTI = (h, tt)
   effect_fine RTL = (h, tt)
   effect_fine RTS = (h, tt)
-  effect_fine SBC = (loads-in _ (flags _ h.level) short _ named, tt)
+  effect_fine SBC = (loads_in _ (flags _ h.level) short _ named, tt)
   effect_fine SEB = stored_to _
   effect_fine SEC = (flags _ h.level, tt)
   effect_fine SEI = (flags _ h.level, tt)
@@ -278,22 +278,22 @@ module _ (mode : Mode) (named : Accumulator) (short : Bool) (operand next : ℕ)
   effect_fine TAD = (in_dpr r h _ h.a, tt)
   effect_fine TAS = (in_s r h _ h.a, tt)
   effect_fine TAX = (into_x r h short _, tt)
-  effect_fine TAY = (into-y r h short _, tt)
+  effect_fine TAY = (into_y_lem r h short _, tt)
   effect_fine TBD = (in_dpr r h _ h.b, tt)
   effect_fine TBS = (in_s r h _ h.b, tt)
   effect_fine TBX = (into_x r h short _, tt)
-  effect_fine TBY = (into-y r h short _, tt)
-  effect_fine TDA = (loads-a r h short _, tt)
-  effect_fine TDB = (loads-b r h short _, tt)
-  effect_fine TSA = (loads-a r h short _, tt)
-  effect_fine TSB = (loads-b r h short _, tt)
+  effect_fine TBY = (into_y_lem r h short _, tt)
+  effect_fine TDA = (loads_a_lem r h short _, tt)
+  effect_fine TDB = (loads_b_lem r h short _, tt)
+  effect_fine TSA = (loads_a_lem r h short _, tt)
+  effect_fine TSB = (loads_b_lem r h short _, tt)
   effect_fine TSX = (into_x r h short _, tt)
-  effect_fine TXA = (loads-a r h short _, tt)
-  effect_fine TXB = (loads-b r h short _, tt)
+  effect_fine TXA = (loads_a_lem r h short _, tt)
+  effect_fine TXB = (loads_b_lem r h short _, tt)
   effect_fine TXS = (in_s r h _ h.x, tt)
-  effect_fine TXY = (into-y r h short _, tt)
-  effect_fine TYA = (loads-a r h short _, tt)
-  effect_fine TYB = (loads-b r h short _, tt)
+  effect_fine TXY = (into_y_lem r h short _, tt)
+  effect_fine TYA = (loads_a_lem r h short _, tt)
+  effect_fine TYB = (loads_b_lem r h short _, tt)
   effect_fine TYX = (into_x r h short _, tt)
   effect_fine WIT = (h, tt)
-  effect_fine XAB = (loads-a _ (in_b r h short r.a) short _, tt)
+  effect_fine XAB = (loads_a_lem _ (in_b r h short r.a) short _, tt)

@@ -22,19 +22,19 @@ module _ (ram image : List ℕ) (base address : ℕ) where
     abbrev choice : A
     choice = pick (ltb address (length ram)) a (pick (leb base address && ltb (address - base) (length image)) b c)
 
-    in-ram : address < length ram → choice ≡ a
-    in-ram h = rw (lt-ltb address (length ram) h) refl
+    ram_bytes : address < length ram → choice ≡ a
+    ram_bytes h = rw (lt-ltb address (length ram) h) refl
 
-    under-image : length ram ≤ address → address < base → choice ≡ c
-    under-image h below = rw (le-ltb address (length ram) h, lt-leb base address below) refl
+    under_image : length ram ≤ address → address < base → choice ≡ c
+    under_image h below = rw (le-ltb address (length ram) h, lt-leb base address below) refl
 
     in_image : length ram ≤ address → base ≤ address → address - base < length image → choice ≡ b
     in_image h above inside =
         rw (le-ltb address (length ram) h, le-leb base address above, lt-ltb (address - base) (length image) inside)
         refl
 
-    past-image : length ram ≤ address → base ≤ address → length image ≤ address - base → choice ≡ c
-    past-image h above past =
+    past_image : length ram ≤ address → base ≤ address → length image ≤ address - base → choice ≡ c
+    past_image h above past =
         rw (le-ltb address (length ram) h, le-leb base address above, le-ltb (address - base) (length image) past) refl
 
   abbrev m : Memory
@@ -42,11 +42,11 @@ module _ (ram image : List ℕ) (base address : ℕ) where
 
   pub byte_in_ram : address < length ram → byte_at m address ≡ ByteRead.Byte (get_or ram address 0)
   unfolding byte_at
-  byte_in_ram = in-ram _ _ _
+  byte_in_ram = ram_bytes _ _ _
 
   pub byte_under_image : length ram ≤ address → address < base → byte_at m address ≡ ByteRead.Unmapped
   unfolding byte_at
-  byte_under_image = under-image _ _ _
+  byte_under_image = under_image _ _ _
 
   pub byte_in_image : length ram ≤ address → base ≤ address → address - base < length image
       → byte_at m address ≡ ByteRead.Byte (get_or image (address - base) 0)
@@ -56,15 +56,15 @@ module _ (ram image : List ℕ) (base address : ℕ) where
   pub byte_past_image : length ram ≤ address → base ≤ address → length image ≤ address - base
       → byte_at m address ≡ ByteRead.Unmapped
   unfolding byte_at
-  byte_past_image = past-image _ _ _
+  byte_past_image = past_image _ _ _
 
   pub served_in_ram : address < length ram → served_at m address ≡ Served.All
   unfolding served_at
-  served_in_ram = in-ram _ _ _
+  served_in_ram = ram_bytes _ _ _
 
   pub served_under_image : length ram ≤ address → address < base → served_at m address ≡ Served.Unserved Stop.Unmapped
   unfolding served_at
-  served_under_image = under-image _ _ _
+  served_under_image = under_image _ _ _
 
   pub served_in_image : length ram ≤ address → base ≤ address → address - base < length image
       → served_at m address ≡ Served.Unserved Stop.ImageStore
@@ -74,7 +74,7 @@ module _ (ram image : List ℕ) (base address : ℕ) where
   pub served_past_image : length ram ≤ address → base ≤ address → length image ≤ address - base
       → served_at m address ≡ Served.Unserved Stop.Unmapped
   unfolding served_at
-  served_past_image = past-image _ _ _
+  served_past_image = past_image _ _ _
 
 -- what one outcome makes of the next action
 abbrev pub on_done : {A B : Type 0} → Outcome A → (A → Outcome B) → Outcome B

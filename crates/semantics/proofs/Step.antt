@@ -48,8 +48,8 @@ module _ (m : Memory) where
   none_outside a (suc n) h = rw h refl
 
   module _ (whole : m.base + length m.image ≤ address_limit) (small : length m.image < address_limit) where
-    pub is-inside : (o : ℕ) → o < length m.image → is_in_image m (m.base + o) ≡ true
-    is-inside o h =
+    pub is_inside_lem : (o : ℕ) → o < length m.image → is_in_image m (m.base + o) ≡ true
+    is_inside_lem o h =
         rw (le-leb m.base (m.base + o) (omega arith))
         (lt-ltb (m.base + o - m.base) (length m.image) (omega arith))
 
@@ -73,7 +73,7 @@ module _ (m : Memory) where
     unfolding bytes_from
     bytes_inside zero o h enough = absurd (omega arith)
     bytes_inside (suc n) o h enough =
-        rw (is-inside o h, drop-cons m.image o 0 h)
+        rw (is_inside_lem o h, drop-cons m.image o 0 h)
         (ap₂ (λ b bs. b ∷ bs) (ap (λ k. get_or m.image k 0) back)
         (rest (eq-or-lt_of_le h) (λ further. bytes_inside n (suc o) further (omega arith))))
       where
@@ -95,8 +95,8 @@ module _ (m : Memory) where
         rest (inr more) further = rw (mod-eq_of_lt (within more), on) (further more)
 
     -- from an address at the base or above, inside the image or not
-    pub bytes-from : (a : ℕ) → m.base ≤ a → bytes_from m a (length m.image) ≡ drop (a - m.base) m.image
-    bytes-from a h = by (ltb (a - m.base) (length m.image)) refl
+    pub bytes_from_lem : (a : ℕ) → m.base ≤ a → bytes_from m a (length m.image) ≡ drop (a - m.base) m.image
+    bytes_from_lem a h = by (ltb (a - m.base) (length m.image)) refl
       where
         again : m.base + (a - m.base) ≡ a
         again = omega arith
@@ -121,7 +121,7 @@ module _ (ram image : List ℕ) (base : ℕ) (c : Core) (place : ℕ) (there : p
       → (d : Decoded) (m x : ℕ) → m ≡ bit c.registers.status.m → x ≡ bit c.registers.status.x
       → d ≡ decode (drop (place - base) image) m x → d ≡ fetched (memory ram image base) c
   fetched_from whole small h d m x is_m is_x e =
-      rw (e, is_m, is_x, ← there, bytes-from (memory ram image base) whole small place h) refl
+      rw (e, is_m, is_x, ← there, bytes_from_lem (memory ram image base) whole small place h) refl
 
 -- ---- the order of stops, as laws of the definition
 
@@ -199,38 +199,38 @@ opens_below limit c i m opened = by
         evaluate m (data_of (access c i) i.entry.mode i.entry.accumulator c.registers (short c i)
         i.operand)
 
-    works-so : (b : Bool) (o : Outcome Data) (goes : Bool → ℕ)
+    works_so : (b : Bool) (o : Outcome Data) (goes : Bool → ℕ)
         → PlanOpens limit (pick b (stops Stop.Decimal) (on_read o (works c i goes))) c.depth
-    works-so true o goes = tt
-    works-so false unmapped goes = tt
-    works-so false (done d) goes = tt
+    works_so true o goes = tt
+    works_so false unmapped goes = tt
+    works_so false (done d) goes = tt
 
-    calls-so : (kind : Kind) (b : Bool) → ltb c.depth limit ≡ b → (d : Change)
+    calls_so : (kind : Kind) (b : Bool) → ltb c.depth limit ≡ b → (d : Change)
         → d.calls ≡ CallChange.Open (next c i) (kind_number kind)
         → PlanOpens limit (pick b (changes d) (stops Stop.Deep)) c.depth
-    calls-so kind true e d same = rw same (ltb-true c.depth limit e)
-    calls-so kind false e d same = tt
+    calls_so kind true e d same = rw same (ltb-true c.depth limit e)
+    calls_so kind false e d same = tt
 
-    returns-so : (b : Bool) (after : Registers) (address : ℕ)
+    returns_so : (b : Bool) (after : Registers) (address : ℕ)
         → PlanOpens limit (pick b (changes (change after address CallChange.Close [])) (stops Stop.Astray)) c.depth
-    returns-so true after address = tt
-    returns-so false after address = tt
+    returns_so true after address = tt
+    returns_so false after address = tt
 
-    pulls-so : (kind : Kind) (o : Outcome ℕ) → PlanOpens limit (on_read o (returns_to c i opened kind)) c.depth
-    pulls-so kind unmapped = tt
-    pulls-so kind (done address) =
-        returns-so (is_return c i opened kind address)
+    pulls_so : (kind : Kind) (o : Outcome ℕ) → PlanOpens limit (on_read o (returns_to c i opened kind)) c.depth
+    pulls_so kind unmapped = tt
+    pulls_so kind (done address) =
+        returns_so (is_return c i opened kind address)
         (with_s (pulled_at c.registers (return_bytes kind)) c.registers) address
 
     by : (flow : Flow) → PlanOpens limit (plan_by_within c i limit m opened flow) c.depth
-    by Flow.Next = works-so decimal asked (λ taken. next c i)
-    by Flow.Branch = works-so decimal asked (λ taken. pick taken (target c i) (next c i))
+    by Flow.Next = works_so decimal asked (λ taken. next c i)
+    by Flow.Branch = works_so decimal asked (λ taken. pick taken (target c i) (next c i))
     by Flow.Jump = tt
     by (Flow.Call kind) =
-        calls-so kind (ltb c.depth limit) refl
+        calls_so kind (ltb c.depth limit) refl
         (change (with_s (pushed_at c.registers (return_bytes kind)) c.registers) (target c i)
         (CallChange.Open (next c i) (kind_number kind)) (pushes_return c i kind)) refl
-    by (Flow.Return kind) = pulls-so kind (evaluate m (pulls_return c i kind))
+    by (Flow.Return kind) = pulls_so kind (evaluate m (pulls_return c i kind))
     by Flow.Halt = tt
 
 depth_after_lem : (limit : ℕ) (change : CallChange) (depth : ℕ) → Opens limit change depth → depth ≤ limit
@@ -244,21 +244,21 @@ pub depth_kept : {limit : ℕ} (m : Memory) (s : State) → s.core.depth ≤ lim
 unfolding step_within
 depth_kept {limit} m s h = by (fetched m s.core)
   where
-    serves-so : (i : Instruction) (d : Change) (v : Served) → Opens limit d.calls s.core.depth
+    serves_so : (i : Instruction) (d : Change) (v : Served) → Opens limit d.calls s.core.depth
         → (on_served v i d m s).state.core.depth ≤ limit
-    serves-so i d Served.All o = depth_after_lem limit d.calls s.core.depth o h
-    serves-so i d (Served.Unserved stop) o = h
+    serves_so i d Served.All o = depth_after_lem limit d.calls s.core.depth o h
+    serves_so i d (Served.Unserved stop) o = h
 
-    plans-so : (i : Instruction) (p : Plan) → PlanOpens limit p s.core.depth
+    plans_so : (i : Instruction) (p : Plan) → PlanOpens limit p s.core.depth
         → (finish p i m s).state.core.depth ≤ limit
-    plans-so i (stops stop) o = h
-    plans-so i (changes d) o = serves-so i d (served m d.stores) o
+    plans_so i (stops stop) o = h
+    plans_so i (changes d) o = serves_so i d (served m d.stores) o
 
     by : (d : Decoded) → (on_decoded_within limit d m s).state.core.depth ≤ limit
     by Decoded.CutOff = h
     by Decoded.NotCarried = h
     by (Decoded.Whole i) =
-        plans-so i (plan_within limit m s i) (opens_below limit s.core i m (last_opened s) i.entry.flow)
+        plans_so i (plan_within limit m s i) (opens_below limit s.core i m (last_opened s) i.entry.flow)
 
 -- a stop leaves state and RAM as given
 pub stop_leaves : (m : Memory) (s : State) (stop : Stop)
@@ -278,18 +278,18 @@ module _ (m : Memory) (s : State) where
   unfolding step_within
   stopped_leaves = by (fetched m s.core)
     where
-      served-so : (i : Instruction) (d : Change) (v : Served) → is_completed (on_served v i d m s).answer ≡ false
+      served_so : (i : Instruction) (d : Change) (v : Served) → is_completed (on_served v i d m s).answer ≡ false
           → ((on_served v i d m s).state ≡ s) × ((on_served v i d m s).ram ≡ m.ram)
-      served-so i d Served.All e = absurd (completed_stops (sym (changes_complete d.calls) ∙ e))
-      served-so i d (Served.Unserved stop) e = (refl, refl)
+      served_so i d Served.All e = absurd (completed_stops (sym (changes_complete d.calls) ∙ e))
+      served_so i d (Served.Unserved stop) e = (refl, refl)
 
-      planned-so : (i : Instruction) (p : Plan) → is_completed (finish p i m s).answer ≡ false
+      planned_so : (i : Instruction) (p : Plan) → is_completed (finish p i m s).answer ≡ false
           → ((finish p i m s).state ≡ s) × ((finish p i m s).ram ≡ m.ram)
-      planned-so i (stops stop) e = (refl, refl)
-      planned-so i (changes d) e = served-so i d (served m d.stores) e
+      planned_so i (stops stop) e = (refl, refl)
+      planned_so i (changes d) e = served_so i d (served m d.stores) e
 
       by : (d : Decoded) → is_completed (on_decoded d m s).answer ≡ false
           → ((on_decoded d m s).state ≡ s) × ((on_decoded d m s).ram ≡ m.ram)
       by Decoded.CutOff e = (refl, refl)
       by Decoded.NotCarried e = (refl, refl)
-      by (Decoded.Whole i) e = planned-so i (plan m s i) e
+      by (Decoded.Whole i) e = planned_so i (plan m s i) e

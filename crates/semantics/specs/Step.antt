@@ -1,5 +1,5 @@
 -- One step: 01, 'A step tests: code bytes 20, 21, operand bytes 20, 22, 27, reads 23, then 24 or 25, then stores 23 or
--- 26. .. A stop undoes its whole step.' A step is defined within any limit of open calls (`..Within limit`); at the end
+-- 26. .. A stop undoes its whole step.' A step is defined within any limit of open calls (`.._within limit`); at the end
 -- stands the machine's own, within `call_limit`.
 -- Assumes nothing.
 use Rattle.std.specs.Prelude.{Bool, false, ◌&&◌, true, List, [], ◌∷◌, ℕ, zero, suc, ◌+◌, ◌-◌, ◌*◌, ◌/◌, ◌%◌, eqb, ltb}

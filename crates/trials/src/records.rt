@@ -31,36 +31,6 @@ pub(crate) enum Kind {
     Build,
 }
 
-impl Kind {
-    // All kinds, in the order in which they are tried.
-    pub(crate) const ALL: [Kind; 9] = [
-        Kind::Check,
-        Kind::Step,
-        Kind::Run,
-        Kind::Read,
-        Kind::Write,
-        Kind::Print,
-        Kind::Explain,
-        Kind::Locate,
-        Kind::Build,
-    ];
-
-    // What the names of its files begin with.
-    pub(crate) fn word(self) -> &'static str {
-        match self {
-            Kind::Check => "check",
-            Kind::Step => "step",
-            Kind::Run => "run",
-            Kind::Read => "read",
-            Kind::Write => "write",
-            Kind::Print => "print",
-            Kind::Explain => "explain",
-            Kind::Locate => "locate",
-            Kind::Build => "build",
-        }
-    }
-}
-
 // What writes on a page.
 #[derive(Clone, Copy)]
 enum Writer {

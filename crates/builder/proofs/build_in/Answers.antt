@@ -5,7 +5,7 @@ use lib.ListN.{length}
 use borrow.Author.Tests.{not-false}
 use Rattle.lists.specs.Routines.{routine_marks, routines_fit, Plain}
 use Rattle.acceptance.proofs.Image.{RightLength}
-use Rattle.builder.proofs.Answering.{right, ends_low, not-fit, not-admitted, admitted, table_plain, copied}
+use Rattle.builder.proofs.Answering.{right, ends_low, not_fit, not_admitted, admitted, table_plain, copied}
 use mathlib.Core.Path.{ap}
 use mathlib.Core.Bool.{not}
 use Rattle.builder.proofs.build_in.Goals as goal
@@ -24,7 +24,7 @@ returns-then-not-read_routines c =
     rw c.requires.0 at c.read_routines.ensures.fit in
     let args = c.args in
     let said =
-    not-fit args.image.now args.base args.reset args.routines.now args.marks.now c.requires.2
+    not_fit args.image.now args.base args.reset args.routines.now args.marks.now c.requires.2
     (sym fit ∙ c.if-not-read_routines.true) in
     record { answer = said.0; marks = said.1 }
 
@@ -55,7 +55,7 @@ returns-then-not-work_out c =
     rw c.requires.0 at c.read_routines.ensures.marks in
     let args = c.args in
     let said =
-    not-admitted args.image.now args.base args.reset args.routines.now args.marks.now
+    not_admitted args.image.now args.base args.reset args.routines.now args.marks.now
     c.requires.2
     (sym fit ∙ c.if-not-read_routines.false)
     c.read_routines.new.table c.work_out.new.made listed

@@ -48,5 +48,5 @@ returns c =
       accepted_then args.image.now args.base args.reset args.routines.now
           c.close_up.new.marks c.packed_verdict.result c.packed_verdict.ensures
           c.if-packed_verdict-ne0.false
-          closed-up.as-listed c.all_listed.result c.all_listed.ensures,
+          closed-up.as_listed c.all_listed.result c.all_listed.ensures,
     )

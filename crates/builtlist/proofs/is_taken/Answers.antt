@@ -1,5 +1,5 @@
 -- Each test in turn.
-use Rattle.builtlist.proofs.Words.{long_routines, long_image, no-base, by-reset}
+use Rattle.builtlist.proofs.Words.{long_routines, long_image, no_base, by_reset}
 use mathlib.Core.Path.{ap}
 use mathlib.Core.Bool.{not}
 use Rattle.builtlist.proofs.is_taken.Goals as goal
@@ -18,11 +18,11 @@ returns-then-image-gt-IMAGE_LIMIT c =
 pub returns-then-not-is_address : goal.returns-then-not-is_address
 returns-then-not-is_address c =
     let args = c.args in
-    no-base args.image.now args.base.now args.reset.now args.text.now c.if-text-gt-LIST_LIMIT.false
+    no_base args.image.now args.base.now args.reset.now args.text.now c.if-text-gt-LIST_LIMIT.false
     c.if-image-gt-IMAGE_LIMIT.false _ c.is_address.ensures (ap not c.if-not-is_address.true)
 
 pub returns : goal.returns
 returns c =
     let args = c.args in
-    by-reset args.image.now args.base.now args.reset.now args.text.now c.if-text-gt-LIST_LIMIT.false
+    by_reset args.image.now args.base.now args.reset.now args.text.now c.if-text-gt-LIST_LIMIT.false
     c.if-image-gt-IMAGE_LIMIT.false _ _ c.is_address.ensures (ap not c.if-not-is_address.false) c.is_address-2.ensures

@@ -1,5 +1,5 @@
 -- The writer has room, and refuses nothing.
-use Rattle.builtlist.proofs.Lists.{none_refused, page-written}
+use Rattle.builtlist.proofs.Lists.{none_refused, page_written_lem}
 use mathlib.Core.Path.{◌∙◌}
 use Rattle.builtlist.proofs.put_accepted.Goals as goal
 
@@ -12,6 +12,6 @@ returns-in_default c =
 pub returns : goal.returns
 returns c =
     let args = c.args in
-    let done = page-written args.marks.now args.base args.reset c.requires.0 args.page.now
+    let done = page_written_lem args.marks.now args.base args.reset c.requires.0 args.page.now
     c.requires.1 _ (rw c.write_list-written.ensures.answer at c.in-Written.is) in
     (done.0, c.write_list-written.ensures.page ∙ done.1)

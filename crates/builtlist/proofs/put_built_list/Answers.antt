@@ -1,5 +1,5 @@
 -- What is not taken is L; else the list is written for as many marks as the image has bytes.
-use Rattle.builtlist.proofs.Words.{not_taken, taken-list, taken-few}
+use Rattle.builtlist.proofs.Words.{not_taken, taken_list, taken_few}
 use Rattle.builtlist.specs.BuiltList as spec
 use Rattle.answer.proofs.PutLaws.{put_inside, front_part}
 use native.Mathlib.Omega.{arith}
@@ -24,19 +24,19 @@ returns-then-not-is_taken c =
 pub slice_bounds-marks-end : goal.slice_bounds-marks-end
 slice_bounds-marks-end c =
     let args = c.args in
-    taken-few args.image.now args.base.now args.reset.now args.text.now _
+    taken_few args.image.now args.base.now args.reset.now args.text.now _
     c.is_taken.ensures (ap not c.if-not-is_taken.false)
 
 pub slice_bounds-put_list-end : goal.slice_bounds-put_list-end
 slice_bounds-put_list-end c =
     let args = c.args in
-    sym (length-take-le (length args.image.now) _ (taken-few args.image.now args.base.now args.reset.now
+    sym (length-take-le (length args.image.now) _ (taken_few args.image.now args.base.now args.reset.now
     args.text.now _ c.is_taken.ensures (ap not c.if-not-is_taken.false)))
 
 pub put_list-requires : goal.put_list-requires
 put_list-requires c =
     let args = c.args in (
-      length-take-le (length args.image.now) _ (taken-few args.image.now args.base.now args.reset.now
+      length-take-le (length args.image.now) _ (taken_few args.image.now args.base.now args.reset.now
           args.text.now _ c.is_taken.ensures (ap not c.if-not-is_taken.false)),
       c.requires,
     )
@@ -44,7 +44,7 @@ put_list-requires c =
 pub returns : goal.returns
 returns c =
     let args = c.args in
-    let same = taken-list args.image.now args.base.now args.reset.now args.text.now _
+    let same = taken_list args.image.now args.base.now args.reset.now args.text.now _
     c.is_taken.ensures (ap not c.if-not-is_taken.false) in
     let put =
     rw (c.number.ensures.0, c.number-2.ensures.0, same) at c.put_list.ensures in record {

@@ -1,11 +1,11 @@
 -- What was worked out is accepted, and its list is the one of the definition; else the line is.
-use Rattle.builtlist.proofs.Lists.{refused_list, delivered-accepted, delivered-list}
+use Rattle.builtlist.proofs.Lists.{refused_list, delivered_accepted, delivered_list}
 use Rattle.builtlist.proofs.put_list.Goals as goal
 
 pub put_accepted-requires : goal.put_accepted-requires
 put_accepted-requires c =
     let args = c.args in
-    let accepted = delivered-accepted args.image.now args.base args.reset args.text.now args.marks.now
+    let accepted = delivered_accepted args.image.now args.base args.reset args.text.now args.marks.now
     c.requires.0 (rw (← c.build_marks.ensures.answer) c.in-Passed.is) in
     ((args.image.now, rw c.build_marks.ensures.marks accepted), c.requires.1)
 
@@ -19,6 +19,6 @@ returns-in-Failed c =
 pub returns-in-Passed : goal.returns-in-Passed
 returns-in-Passed c =
     let args = c.args in
-    let same = delivered-list args.image.now args.base args.reset args.text.now args.marks.now
+    let same = delivered_list args.image.now args.base args.reset args.text.now args.marks.now
     c.requires.0 (rw (← c.build_marks.ensures.answer) c.in-Passed.is) in
     rw (← same, ← c.build_marks.ensures.marks) c.put_accepted.ensures

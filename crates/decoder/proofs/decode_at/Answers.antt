@@ -1,28 +1,28 @@
 -- In each arm the layout is known, and it decides what is decoded.
-use Rattle.decoder.proofs.Layouts.{fits-at, decoded-fits, decoded-uncarried, decoded-short}
+use Rattle.decoder.proofs.Layouts.{fits_at, decoded_fits, decoded_uncarried, decoded_short}
 use Rattle.decoder.proofs.decode_at.Goals as goal
 
 pub instruction_at-requires : goal.instruction_at-requires
 instruction_at-requires c =
     let args = c.args in
-    fits-at args.image.now args.at args.m args.x c.layout_at.result c.layout_at.ensures _
+    fits_at args.image.now args.at args.m args.x c.layout_at.result c.layout_at.ensures _
     c.in-Fits.is
 
 pub returns-in-Fits : goal.returns-in-Fits
 returns-in-Fits c =
     let args = c.args in
-    decoded-fits args.image.now args.at args.m args.x c.layout_at.result
+    decoded_fits args.image.now args.at args.m args.x c.layout_at.result
     c.layout_at.ensures _ c.instruction_at.result c.in-Fits.is
     c.instruction_at.ensures
 
 pub returns-in-Uncarried : goal.returns-in-Uncarried
 returns-in-Uncarried c =
     let args = c.args in
-    decoded-uncarried args.image.now args.at args.m args.x c.layout_at.result
+    decoded_uncarried args.image.now args.at args.m args.x c.layout_at.result
     c.layout_at.ensures c.in-Uncarried.is
 
 pub returns-in-Short : goal.returns-in-Short
 returns-in-Short c =
     let args = c.args in
-    decoded-short args.image.now args.at args.m args.x c.layout_at.result
+    decoded_short args.image.now args.at args.m args.x c.layout_at.result
     c.layout_at.ensures c.in-Short.is

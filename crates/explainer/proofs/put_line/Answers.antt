@@ -2,13 +2,13 @@
 use native.Mathlib.Omega.{arith}
 use Rattle.reports.specs.Explanation as spec
 use Rattle.explainer.proofs.AddedLaws.{added_then, added_within}
-use Rattle.explainer.proofs.Answers.{accepted-line, refused-line, explainable}
+use Rattle.explainer.proofs.Answers.{accepted_line, refused_line_lem, explainable}
 use Rattle.explainer.proofs.put_line.Goals as goal
 
 pub returns-then-number-eq0 : goal.returns-then-number-eq0
 returns-then-number-eq0 c =
     let args = c.args in
-    rw (accepted-line args.image.now args.marks.now args.base args.reset args.answer c.requires.0
+    rw (accepted_line args.image.now args.marks.now args.base args.reset args.answer c.requires.0
     c.if-number-eq0.true) (added_within spec.line_limit (omega arith) c.put_text.ensures)
 
 pub put_heading-end-requires : goal.put_heading-end-requires
@@ -35,6 +35,6 @@ pub returns : goal.returns
 unfolding spec.refused_line
 returns c =
     let args = c.args in
-    rw (refused-line args.image.now args.marks.now args.base args.reset args.answer c.requires.0
+    rw (refused_line_lem args.image.now args.marks.now args.base args.reset args.answer c.requires.0
     c.if-number-eq0.false) (added_then c.put_heading-end.ensures
     (added_then c.put_detail-end.ensures c.put_text-2.ensures))

@@ -1,5 +1,5 @@
 use native.Mathlib.Omega.{arith}
-use Rattle.fields.proofs.Writing.{every_left, field_room, field-less, no_field_left}
+use Rattle.fields.proofs.Writing.{every_left, field_room, field_less, no_field_left}
 use Rattle.fields.proofs.put_fields.Goals as goal
 
 pub loop-i-init : goal.loop-i-init
@@ -24,7 +24,7 @@ overflow_add-at c =
 pub loop-i-preserved : goal.loop-i-preserved
 loop-i-preserved c =
     let loop = c.loop-i in
-    field-less c.args.bytes.now c.args.from c.args.size c.args.values.now
+    field_less c.args.bytes.now c.args.from c.args.size c.args.values.now
     loop.bytes loop.at loop.i c.requires c.loop-i-test.true loop.invariant
     c.put_field.new.bytes c.put_field.ensures
 

@@ -1,6 +1,6 @@
 -- A refusal leaves the places; nothing is written before the last test, and then the pass writes them.
 use native.Mathlib.Omega.{arith}
-use Rattle.locator.proofs.Answers.{as_many, in_space, refused-then, fit, room, places_found}
+use Rattle.locator.proofs.Answers.{as_many, in_space, refused_then, fit, room, places_found}
 use Rattle.locator.proofs.locate.Goals as goal
 
 pub test_addresses-tested-requires : goal.test_addresses-tested-requires
@@ -15,7 +15,7 @@ test_addresses-tested-requires c =
 pub returns-in-Failed : goal.returns-in-Failed
 returns-in-Failed c reset accepted =
     let args = c.args in
-    refused-then args.image.now args.marks.now args.base reset args.addresses.now args.places.now
+    refused_then args.image.now args.marks.now args.base reset args.addresses.now args.places.now
     accepted c.test_addresses-tested.result c.test_addresses-tested.ensures _ c.in-Failed.is
 
 pub pass_marks-requires : goal.pass_marks-requires

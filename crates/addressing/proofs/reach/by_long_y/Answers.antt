@@ -5,7 +5,7 @@ use Rattle.memory.specs.Reads.{IsLong}
 use native.Mathlib.Omega.{arith}
 use Prim.Native.Nat.{◌+◌}
 use Rattle.cpu.specs.File.{registers_of}
-use Rattle.addressing.proofs.Pointers.{long-found, long-missing}
+use Rattle.addressing.proofs.Pointers.{long_found, long_missing}
 use Rattle.addressing.proofs.reach.by_long_y.Goals as goal
 
 pub overflow_add-result : goal.overflow_add-result
@@ -16,10 +16,10 @@ overflow_add-result c =
 pub returns-in-Long : goal.returns-in-Long
 returns-in-Long c =
     let r = registers_of c.args.registers.now in
-    rw c.index_y.ensures.0 (long-found _ _ (λ p. p + index_y r) _ c.long_from-read.ensures.0 _
+    rw c.index_y.ensures.0 (long_found _ _ (λ p. p + index_y r) _ c.long_from-read.ensures.0 _
     c.in-Long.is)
 
 pub returns-in-Unmapped : goal.returns-in-Unmapped
 returns-in-Unmapped c =
     let r = registers_of c.args.registers.now in
-    long-missing _ _ (λ p. p + index_y r) _ c.long_from-read.ensures.0 c.in-Unmapped.is
+    long_missing _ _ (λ p. p + index_y r) _ c.long_from-read.ensures.0 c.in-Unmapped.is

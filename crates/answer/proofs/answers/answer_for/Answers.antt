@@ -1,5 +1,5 @@
 -- Each length over its limit is L; else the list is read into as many marks as the image has bytes.
-use Rattle.answer.proofs.AnswerLaws.{long_list, long_image, both-short}
+use Rattle.answer.proofs.AnswerLaws.{long_list, long_image, both_short}
 use lib.Seq.{length-take-le}
 use lib.ListN.{length}
 use mathlib.Core.Path.{sym}
@@ -24,5 +24,5 @@ list_answer-requires c =
 
 pub returns : goal.returns
 returns c =
-    both-short c.args.image.now c.args.text.now c.if-text-gt-LIST_LIMIT.false _
+    both_short c.args.image.now c.args.text.now c.if-text-gt-LIST_LIMIT.false _
     c.list_answer.ensures c.if-image-gt-IMAGE_LIMIT.false

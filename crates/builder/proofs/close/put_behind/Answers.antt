@@ -2,7 +2,7 @@
 use mathlib.Core.Path.{◌≡◌, sym, ap, ◌∙◌}
 use lib.ListN.{drop}
 use Rattle.decoder.specs.Layout.{decoded_of}
-use Rattle.decoder.proofs.Layouts.{fits-at}
+use Rattle.decoder.proofs.Layouts.{fits_at}
 use Rattle.acceptance.specs.Rules.{instruction_at}
 use Rattle.builder.specs.Order.{put_owed}
 use Rattle.builder.proofs.Putting.{kept_same}
@@ -13,7 +13,7 @@ pub put_owed-requires : goal.put_owed-requires
 put_owed-requires c =
     let args = c.args in (
       c.requires.1,
-      fits-at args.image.now args.at c.mark_m.result c.mark_x.result c.layout_at.result
+      fits_at args.image.now args.at c.mark_m.result c.mark_x.result c.layout_at.result
           c.layout_at.ensures c.in-Fits.layout c.in-Fits.is,
       c.requires.2,
       c.requires.3,

@@ -6,7 +6,7 @@ use Rattle.types.specs.declared.code.Instruction.{Instruction}
 use Rattle.decoder.specs.Layout.{instruction_of}
 use Rattle.acceptance.proofs.Widths.{after_start, routine_start, on_return_start}
 use Rattle.builder.proofs.Putting.{kept_same, kept_through}
-use Rattle.builder.proofs.Owing.{put_next, put-branch, put-jump, put-call, put_return, put_halt}
+use Rattle.builder.proofs.Owing.{put_next, put_branch, put_jump, put_call, put_return, put_halt}
 use Rattle.builder.proofs.close.put_owed.Goals as goal
 
 pub put-requires : goal.put-requires
@@ -57,7 +57,7 @@ returns-in-Branch c =
     let instruction : Instruction =
     instruction_of (drop c.args.at c.args.image.now) c.args.layout in
     let args = c.args in (
-      put-branch args.marks.now args.base args.at instruction c.byte_at-mark.result
+      put_branch args.marks.now args.base args.at instruction c.byte_at-mark.result
           c.next_address-next.result c.byte_at-mark.ensures c.next_address-next.ensures c.put-in-Branch.new.marks
           c.target_of_layout-to.result c.target_of_layout-to.ensures c.mark_after_layout-after-in-Branch.result
           c.put-more.new.marks
@@ -75,7 +75,7 @@ returns-in-Jump c =
     let instruction : Instruction =
     instruction_of (drop c.args.at c.args.image.now) c.args.layout in
     let args = c.args in (
-      put-jump args.marks.now args.base args.at instruction c.byte_at-mark.result
+      put_jump args.marks.now args.base args.at instruction c.byte_at-mark.result
           c.next_address-next.result c.byte_at-mark.ensures c.next_address-next.ensures c.put-in-Jump.new.marks
           c.target_of_layout-to-in-Jump.result c.target_of_layout-to-in-Jump.ensures
           c.mark_after_layout-after-in-Jump.result
@@ -90,7 +90,7 @@ returns-in-Call c =
     let instruction : Instruction =
     instruction_of (drop c.args.at c.args.image.now) c.args.layout in
     let args = c.args in (
-      put-call args.marks.now args.base args.at instruction c.byte_at-mark.result
+      put_call args.marks.now args.base args.at instruction c.byte_at-mark.result
           c.next_address-next.result c.byte_at-mark.ensures c.next_address-next.ensures c.put-in-Call.new.marks
           c.target_of_layout-to-in-Call.result c.target_of_layout-to-in-Call.ensures c.in-Call.kind
           c.mark_in-there.result

@@ -4,7 +4,7 @@ use native.Mathlib.Omega.{arith}
 use lib.ListN.{length, get_or}
 use Rattle.acceptance.proofs.Verdict.{start_inside}
 use Rattle.builder.proofs.Putting.{queue_room}
-use Rattle.builder.proofs.Worklist.{worked-on, worked_all}
+use Rattle.builder.proofs.Worklist.{worked_on, worked_all}
 use Rattle.builder.proofs.close.work.Goals as goal
 
 pub loop-done-init : goal.loop-done-init
@@ -69,7 +69,7 @@ loop-done-preserved c =
       c.put_behind-count.ensures.1,
       c.marks-1.given ∙ loop.invariant.1,
       c.order-1.given ∙ loop.invariant.2,
-      λ reset routines w. worked-on args.image.now args.base reset routines loop.marks loop.order
+      λ reset routines w. worked_on args.image.now args.base reset routines loop.marks loop.order
           c.put_behind-count.new.marks c.put_behind-count.new.order loop.count
           c.put_behind-count.result
           loop.done (loop.invariant.3 reset routines w) c.loop-done-test.true (loop.invariant.1 ∙ c.requires.2)

@@ -3,7 +3,7 @@ use mathlib.Core.Path.{◌≡◌, ap, ◌∙◌}
 use mathlib.Core.Bool.{true, not}
 use lib.ListN.{drop}
 use Rattle.decoder.specs.Layout.{decoded_of}
-use Rattle.decoder.proofs.Layouts.{fits-at}
+use Rattle.decoder.proofs.Layouts.{fits_at}
 use Rattle.instructions.specs.Decode.{decode}
 use Rattle.acceptance.specs.Image.{is_start, mark_m, mark_x}
 use Rattle.lists.specs.Routines.{target_listed}
@@ -17,7 +17,7 @@ returns-then-not-is_start c =
 pub target_listed-requires : goal.target_listed-requires
 target_listed-requires c =
     let args = c.args in (
-      fits-at args.image.now args.at c.mark_m.result c.mark_x.result c.layout_at.result
+      fits_at args.image.now args.at c.mark_m.result c.mark_x.result c.layout_at.result
           c.layout_at.ensures c.in-Fits.layout c.in-Fits.is,
       c.requires.1,
       c.requires.2,

@@ -1,7 +1,7 @@
 -- What is decoded at the start is the layout's, and decides what is said.
 use native.Mathlib.Omega.{arith}
 use lib.ListN.{drop}
-use Rattle.decoder.proofs.Layouts.{fits-at}
+use Rattle.decoder.proofs.Layouts.{fits_at}
 use Rattle.text.proofs.Pages.{part_whole}
 use Rattle.reports.specs.Explanation as spec
 use Rattle.explainer.proofs.AddedLaws.{added_within}
@@ -29,7 +29,7 @@ put_cut_off-requires c =
 
 pub put_instruction-requires : goal.put_instruction-requires
 put_instruction-requires c = (
-  fits-at c.args.image.now c.args.at c.mark_m.result c.mark_x.result
+  fits_at c.args.image.now c.args.at c.mark_m.result c.mark_x.result
       c.layout_at.result c.layout_at.ensures _ c.in-Fits.is,
   c.requires.0,
   c.requires.1,

@@ -1,5 +1,5 @@
 -- The three tests in their order.
-use Rattle.locator.proofs.Order.{too_many, unordered, fit-by}
+use Rattle.locator.proofs.Order.{too_many, unordered, fit_by}
 use mathlib.Core.Path.{ap}
 use mathlib.Core.Bool.{not}
 use Rattle.locator.proofs.addresses.addresses_fit.Goals as goal
@@ -18,6 +18,6 @@ returns-then-not-is_ascending c =
 pub returns : goal.returns
 returns c =
     let args = c.args in
-    fit-by args.addresses.now args.base args.size c.is_ascending.result
+    fit_by args.addresses.now args.base args.size c.is_ascending.result
     c.is_ascending.ensures c.if-addresses-gt-ADDRESS_COUNT.false c.all_inside.result
     c.all_inside.ensures (ap not c.if-not-is_ascending.false)

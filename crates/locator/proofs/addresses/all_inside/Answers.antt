@@ -1,5 +1,5 @@
 use mathlib.Core.Path.{refl}
-use Rattle.locator.proofs.Order.{below_base, past_end, one_inside, each-inside}
+use Rattle.locator.proofs.Order.{below_base, past_end, one_inside, each_inside}
 use Rattle.locator.proofs.addresses.all_inside.Goals as goal
 
 pub loop-k-init : goal.loop-k-init
@@ -29,5 +29,5 @@ loop-k-preserved c =
 pub returns : goal.returns
 returns c =
     let args = c.args in
-    each-inside args.addresses.now args.base args.size c.loop-k.k c.loop-k.invariant
+    each_inside args.addresses.now args.base args.size c.loop-k.k c.loop-k.invariant
     c.loop-k-test.false

@@ -1,6 +1,6 @@
 use Rattle.std.proofs.Common.{arith, get_or, inl, refl}
 use Rattle.locator.specs.Passing.{last_of}
-use Rattle.locator.proofs.Passes.{is_marked, begins, mark-left, goes_on, ends}
+use Rattle.locator.proofs.Passes.{is_marked, begins, mark_left, goes_on, ends}
 use Rattle.locator.proofs.pass.pass_marks.Goals as goal
 
 pub loop-state-init : goal.loop-state-init
@@ -17,7 +17,7 @@ pub bounds-marks-i : goal.bounds-marks-i
 bounds-marks-i c =
     let args = c.args in
     let loop = c.loop-state in
-    mark-left args.image.now args.marks.now args.base args.addresses.now args.places.now
+    mark_left args.image.now args.marks.now args.base args.addresses.now args.places.now
     loop.places loop.state.served (last_of loop.state) loop.i loop.invariant.0 c.loop-state-test.true
 
 -- and when it has been read
@@ -27,7 +27,7 @@ serve-state-requires c =
     let loop = c.loop-state in
     let pre = c.requires in
     let below =
-    mark-left args.image.now args.marks.now args.base args.addresses.now args.places.now
+    mark_left args.image.now args.marks.now args.base args.addresses.now args.places.now
     loop.places loop.state.served (last_of loop.state) loop.i loop.invariant.0 c.loop-state-test.true in
     let so =
     is_marked args.image.now loop.state loop.i (get_or args.marks.now loop.i 0)
@@ -47,7 +47,7 @@ overflow_add-i c =
     let args = c.args in
     let loop = c.loop-state in
     let below =
-    mark-left args.image.now args.marks.now args.base args.addresses.now args.places.now
+    mark_left args.image.now args.marks.now args.base args.addresses.now args.places.now
     loop.places loop.state.served (last_of loop.state) loop.i loop.invariant.0 c.loop-state-test.true in
     omega (arith, below, c.requires.0, c.requires.1)
 
@@ -56,7 +56,7 @@ loop-state-smaller c =
     let args = c.args in
     let loop = c.loop-state in
     let below =
-    mark-left args.image.now args.marks.now args.base args.addresses.now args.places.now
+    mark_left args.image.now args.marks.now args.base args.addresses.now args.places.now
     loop.places loop.state.served (last_of loop.state) loop.i loop.invariant.0 c.loop-state-test.true in
     omega (arith, below)
 

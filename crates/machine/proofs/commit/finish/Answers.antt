@@ -5,7 +5,7 @@ use Rattle.cpu.specs.CodeEffects.{as_effect}
 use Rattle.memory.specs.Listed.{listed}
 use Rattle.types.specs.declared.machine.CallChange.{CallChange}
 use Rattle.semantics.specs.Memory.{memory}
-use Rattle.machine.proofs.Finishing.{stops-at-stores, completes}
+use Rattle.machine.proofs.Finishing.{stops_at_stores, completes}
 use Rattle.machine.proofs.commit.finish.Goals as goal
 
 pub returns-in-Unserved : goal.returns-in-Unserved
@@ -15,7 +15,7 @@ returns-in-Unserved c =
     let after = (as_effect a.effect (registers_of a.registers.now)).registers in
     let why = rw c.served_all-served.ensures at c.in-Unserved.is in (
       (λ calls.
-          stops-at-stores a.i m a.place a.depth a.registers.now calls after a.to
+          stops_at_stores a.i m a.place a.depth a.registers.now calls after a.to
           CallChange.Keep (listed a.effect.stores) _ c.stopped.result c.stopped.ensures why),
       c.requires.0,
     )

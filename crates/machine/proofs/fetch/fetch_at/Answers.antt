@@ -2,7 +2,7 @@
 use mathlib.Core.Path.{ap}
 use Prim.Native.Nat.{ℕ, ◌-◌}
 use native.Mathlib.Omega.{arith}
-use Rattle.decoder.proofs.Layouts.{fits-at, decoded-fits, decoded-uncarried, decoded-short}
+use Rattle.decoder.proofs.Layouts.{fits_at, decoded_fits, decoded_uncarried, decoded_short}
 use Rattle.types.specs.declared.code.Decoded.{Decoded}
 use Rattle.semantics.proofs.Step.{fetched_under}
 use Rattle.machine.specs.declared.fetch.Fetched.{Fetched}
@@ -23,7 +23,7 @@ operand_at-requires c =
     let m = c.bit_at-m.result in
     let x = c.bit_at-x.result in
     let layout = c.layout_at in
-    fits-at a.image.now (a.place - a.base) m x layout.result layout.ensures _ c.in-Fits.is
+    fits_at a.image.now (a.place - a.base) m x layout.result layout.ensures _ c.in-Fits.is
 
 pub returns-in-Fits : goal.returns-in-Fits
 returns-in-Fits c =
@@ -36,10 +36,10 @@ returns-in-Fits c =
     let read = c.operand_at in
     let with-operand : ℕ → Fetched = λ n. record { number = f.number; length = f.length; operand = n } in
     let i = instruction (with-operand read.result) in
-    let fits = fits-at a.image.now at m.result x.result found.result found.ensures f c.in-Fits.is in (
+    let fits = fits_at a.image.now at m.result x.result found.result found.ensures f c.in-Fits.is in (
       fetched_at a.image.now a.base a.place a.status c.requires.1 c.requires.2
           (omega (arith, c.if-place-base.false)) m.result x.result m.ensures.0 x.ensures.0 (Decoded.Whole i)
-          (decoded-fits a.image.now at m.result x.result found.result found.ensures f i c.in-Fits.is
+          (decoded_fits a.image.now at m.result x.result found.result found.ensures f i c.in-Fits.is
           (ap (λ n. instruction (with-operand n)) read.ensures.0)),
       (fits.2, read.ensures.1),
     )
@@ -52,7 +52,7 @@ returns-in-Uncarried c =
     let layout = c.layout_at in (
       fetched_at a.image.now a.base a.place a.status c.requires.1 c.requires.2
           (omega (arith, c.if-place-base.false)) m.result x.result m.ensures.0 x.ensures.0 Decoded.NotCarried
-          (decoded-uncarried a.image.now (a.place - a.base) m.result x.result layout.result
+          (decoded_uncarried a.image.now (a.place - a.base) m.result x.result layout.result
           layout.ensures c.in-Uncarried.is),
       tt,
     )
@@ -65,7 +65,7 @@ returns-in-Short c =
     let layout = c.layout_at in (
       fetched_at a.image.now a.base a.place a.status c.requires.1 c.requires.2
           (omega (arith, c.if-place-base.false)) m.result x.result m.ensures.0 x.ensures.0 Decoded.CutOff
-          (decoded-short a.image.now (a.place - a.base) m.result x.result layout.result
+          (decoded_short a.image.now (a.place - a.base) m.result x.result layout.result
           layout.ensures c.in-Short.is),
       tt,
     )

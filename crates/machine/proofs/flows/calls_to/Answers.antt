@@ -5,24 +5,16 @@ use native.Mathlib.Omega.{arith}
 use lib.ListN.{get_or}
 use Rattle.types.specs.Addresses.{bank_size}
 use Rattle.semantics.specs.Memory.{memory}
-use Rattle.machine.proofs.Calling.{placed, puts_s, stops-deep, stops-pushing, calls-so}
+use Rattle.machine.proofs.Calling.{placed, puts_s, stops_pushing, calls_so}
 use Rattle.machine.proofs.flows.calls_to.Goals as goal
-
-pub returns-then-depth-ge-CALL_LIMIT : goal.returns-then-depth-ge-CALL_LIMIT
-returns-then-depth-ge-CALL_LIMIT c = (
-  stops-deep c.args.i (memory c.args.ram.now c.args.image.now c.args.base)
-      c.args.place c.args.depth c.args.registers.now c.args.calls.now
-      c.args.kind c.stopped.result c.stopped.ensures c.if-depth-ge-CALL_LIMIT.true,
-  c.requires.2,
-)
 
 pub returns-in-Unserved : goal.returns-in-Unserved
 returns-in-Unserved c = (
-  stops-pushing c.args.i (memory c.args.ram.now c.args.image.now c.args.base)
+  stops_pushing c.args.i (memory c.args.ram.now c.args.image.now c.args.base)
       c.args.place c.args.depth c.args.registers.now c.args.calls.now
       c.args.kind c.next_address-next.result (get_or c.args.registers.now 4 0)
       c.pushes_return-stores.result c.served_all-served.result c.requires.0
-      (omega (arith, c.if-depth-ge-CALL_LIMIT.false)) c.next_address-next.ensures refl
+      (omega arith) c.next_address-next.ensures refl
       c.pushes_return-stores.ensures
       c.served_all-served.ensures _ c.stopped-in-Unserved.result c.stopped-in-Unserved.ensures
       c.in-Unserved.is,
@@ -38,11 +30,11 @@ put-requires c = (
 
 pub returns : goal.returns
 returns c = (
-  calls-so c.args.i (memory c.args.ram.now c.args.image.now c.args.base)
+  calls_so c.args.i (memory c.args.ram.now c.args.image.now c.args.base)
       c.args.place c.args.depth c.args.registers.now c.args.calls.now
       c.args.kind c.next_address-next.result (get_or c.args.registers.now 4 0)
       c.pushes_return-stores.result c.served_all-served.result c.requires.0
-      (omega (arith, c.if-depth-ge-CALL_LIMIT.false)) c.next_address-next.ensures refl
+      (omega arith) c.next_address-next.ensures refl
       c.pushes_return-stores.ensures
       c.served_all-served.ensures c.target.result c.entry_of.result c.put.new.registers
       c.write.new.ram c.target.ensures c.in_default.is c.entry_of.ensures

@@ -3,13 +3,13 @@ use mathlib.Core.Path.{refl}
 use native.Mathlib.Omega.{arith}
 use Rattle.semantics.specs.Memory.{memory}
 use Rattle.machine.specs.StepResults.{goes_on_by}
-use Rattle.machine.proofs.Operating.{stops-decimal, stops-unmapped, works-on}
+use Rattle.machine.proofs.Operating.{stops_decimal, stops_unmapped, works_on}
 use Rattle.machine.proofs.flows.operates.Goals as goal
 
 pub returns-then-is_decimal : goal.returns-then-is_decimal
 returns-then-is_decimal c =
     let a = c.args in (
-      stops-decimal a.i (memory a.ram.now a.image.now a.base) a.place a.depth a.registers.now
+      stops_decimal a.i (memory a.ram.now a.image.now a.base) a.place a.depth a.registers.now
           (goes_on_by a.branches a.i a.place) c.task_at-task.result c.operand_use_of-access.result
           c.task_at-task.ensures c.operand_use_of-access.ensures c.is_decimal.result
           c.is_decimal.ensures c.if-is_decimal.true c.stopped.result c.stopped.ensures,
@@ -20,7 +20,7 @@ pub returns-in_default : goal.returns-in_default
 returns-in_default c =
     let a = c.args in
     let so =
-    stops-unmapped a.i (memory a.ram.now a.image.now a.base) a.place a.depth a.registers.now
+    stops_unmapped a.i (memory a.ram.now a.image.now a.base) a.place a.depth a.registers.now
     (goes_on_by a.branches a.i a.place) c.task_at-task.result c.operand_use_of-access.result
     c.task_at-task.ensures c.operand_use_of-access.ensures c.is_decimal.result
     c.is_decimal.ensures c.if-is_decimal.false c.width_of.result
@@ -51,7 +51,7 @@ pub returns : goal.returns
 returns c =
     let a = c.args in
     let so =
-    works-on a.i (memory a.ram.now a.image.now a.base) a.place a.depth a.registers.now
+    works_on a.i (memory a.ram.now a.image.now a.base) a.place a.depth a.registers.now
     (goes_on_by a.branches a.i a.place) c.task_at-task.result c.operand_use_of-access.result
     c.task_at-task.ensures c.operand_use_of-access.ensures c.is_decimal.result
     c.is_decimal.ensures c.if-is_decimal.false c.width_of.result

@@ -1,5 +1,5 @@
 -- Each flow has its own function, and a halt stops at once.
-use Rattle.machine.proofs.Stepping.{by-operation, by_jump, by_call, by-return, by-halt}
+use Rattle.machine.proofs.Stepping.{by_operation, by_jump, by_call, by_return, by_halt}
 use Rattle.semantics.specs.Memory.{memory}
 use mathlib.Core.Path.{refl}
 use Rattle.machine.proofs.step.perform.Goals as goal
@@ -9,7 +9,7 @@ returns-in-Next c =
     let args = c.args in
     let m = memory args.ram.now args.image.now args.base in
     let so =
-    by-operation args.i m args.place args.depth args.registers.now args.calls.now
+    by_operation args.i m args.place args.depth args.registers.now args.calls.now
     c.requires.1 c.flow_of-flow.result c.flow_of-flow.ensures _ c.in-Next.is
     c.is_branch.result c.is_branch.ensures
     (c.operates.ensures.0 args.calls.now) in
@@ -40,7 +40,7 @@ returns-in-Return c =
     let args = c.args in
     let m = memory args.ram.now args.image.now args.base in
     let so =
-    by-return args.i m args.place args.depth args.registers.now args.calls.now
+    by_return args.i m args.place args.depth args.registers.now args.calls.now
     c.requires.1 c.flow_of-flow.result c.flow_of-flow.ensures _ _ c.last_opened-opened.result
     c.in-Return.is c.last_opened-opened.ensures (c.returns.ensures.0 args.calls.now) in
     (so, c.returns.ensures.1)
@@ -50,7 +50,7 @@ returns-in-Halt c =
     let args = c.args in
     let m = memory args.ram.now args.image.now args.base in
     let so =
-    by-halt args.i m args.place args.depth args.registers.now args.calls.now
+    by_halt args.i m args.place args.depth args.registers.now args.calls.now
     c.requires.1 c.flow_of-flow.result c.flow_of-flow.ensures _ c.stopped.result
     c.in-Halt.is c.stopped.ensures refl in
     (so, c.requires.3)

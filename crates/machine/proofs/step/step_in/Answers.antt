@@ -1,5 +1,5 @@
 -- A whole instruction is performed; anything else that is fetched is a stop.
-use Rattle.machine.proofs.Stepping.{step-whole, step-uncarried, step-outside}
+use Rattle.machine.proofs.Stepping.{step_whole, step_uncarried, step_outside}
 use Rattle.machine.proofs.Finishing.{place_kept}
 use Rattle.machine.specs.StepResults.{core_at}
 use Rattle.semantics.specs.Memory.{memory}
@@ -24,7 +24,7 @@ returns-in-Whole c =
     c.fetch_at-fetched.ensures.0 args.ram.now (core_at (args.place % address_limit) args.depth args.registers.now)
     (sym (place_kept (args.place % address_limit) args.depth args.registers.now inside)) refl in
     let so =
-    step-whole m args.place args.depth args.registers.now args.calls.now
+    step_whole m args.place args.depth args.registers.now args.calls.now
     c.fetch_at-fetched.result is-fetched _ _ c.in-Whole.is
     c.perform.ensures.0 in
     (so, c.perform.ensures.1)
@@ -38,7 +38,7 @@ returns-in-NotCarried c =
     c.fetch_at-fetched.ensures.0 args.ram.now (core_at (args.place % address_limit) args.depth args.registers.now)
     (sym (place_kept (args.place % address_limit) args.depth args.registers.now inside)) refl in
     let so =
-    step-uncarried m args.place args.depth args.registers.now args.calls.now
+    step_uncarried m args.place args.depth args.registers.now args.calls.now
     c.fetch_at-fetched.result is-fetched _ c.stopped.result c.in-NotCarried.is
     c.stopped.ensures refl in
     (so, c.requires.5)
@@ -52,7 +52,7 @@ returns-in-CutOff c =
     c.fetch_at-fetched.ensures.0 args.ram.now (core_at (args.place % address_limit) args.depth args.registers.now)
     (sym (place_kept (args.place % address_limit) args.depth args.registers.now inside)) refl in
     let so =
-    step-outside m args.place args.depth args.registers.now args.calls.now
+    step_outside m args.place args.depth args.registers.now args.calls.now
     c.fetch_at-fetched.result is-fetched _ c.stopped-in-CutOff.result c.in-CutOff.is
     c.stopped-in-CutOff.ensures refl in
     (so, c.requires.5)

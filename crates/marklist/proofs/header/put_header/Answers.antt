@@ -5,7 +5,7 @@ use Rattle.lists.specs.MarkList.{digits_by}
 use Rattle.lists.proofs.MarkList.{decimal_most}
 use Rattle.text.proofs.Pages.{front_length, front_inside, part_room}
 use Prim.Native.Nat.{◌+◌}
-use Rattle.marklist.proofs.HeaderLaws.{header_room, letter_put, base-put, length-put, reset-put, header-put}
+use Rattle.marklist.proofs.HeaderLaws.{header_room, letter_put, base_put, length_put, reset_put, header_put}
 use Rattle.marklist.proofs.header.put_header.Goals as goal
 
 pub overflow_add-reset_place : goal.overflow_add-reset_place
@@ -54,14 +54,14 @@ put_field-requires c =
 pub slice_bounds-put_field-count-2 : goal.slice_bounds-put_field-count-2
 slice_bounds-put_field-count-2 c =
     let args = c.args in
-    front_inside (base-put (digits_by args.old) args.h args.page.now c.digit_count-count.result
+    front_inside (base_put (digits_by args.old) args.h args.page.now c.digit_count-count.result
     c.digit_count-count.ensures c.requires c.put_field.new.page c.put_field.ensures)
 
 pub put_field-requires-2 : goal.put_field-requires-2
 put_field-requires-2 c =
     let args = c.args in
     let front =
-    base-put (digits_by args.old) args.h args.page.now c.digit_count-count.result
+    base_put (digits_by args.old) args.h args.page.now c.digit_count-count.result
     c.digit_count-count.ensures
     c.requires c.put_field.new.page c.put_field.ensures in (
       omega arith,
@@ -77,7 +77,7 @@ put_field-requires-2 c =
 pub slice_bounds-put_field-count-3 : goal.slice_bounds-put_field-count-3
 slice_bounds-put_field-count-3 c =
     let args = c.args in
-    front_inside (length-put (digits_by args.old) args.h args.page.now c.digit_count-count.result
+    front_inside (length_put (digits_by args.old) args.h args.page.now c.digit_count-count.result
     c.digit_count-count.ensures c.requires c.put_field.new.page c.put_field.ensures
     c.put_field-2.new.page c.put_field-2.ensures)
 
@@ -85,7 +85,7 @@ pub put_field-requires-3 : goal.put_field-requires-3
 put_field-requires-3 c =
     let args = c.args in
     let front =
-    length-put (digits_by args.old) args.h args.page.now c.digit_count-count.result
+    length_put (digits_by args.old) args.h args.page.now c.digit_count-count.result
     c.digit_count-count.ensures
     c.requires c.put_field.new.page c.put_field.ensures c.put_field-2.new.page
     c.put_field-2.ensures in
@@ -105,7 +105,7 @@ pub shape_of-page : goal.shape_of-page
 shape_of-page c =
     let got = rw c.digits_by.ensures at c.put_field-3.ensures in
     let args = c.args in
-    front_length (reset-put (digits_by args.old) args.h args.page.now c.digit_count-count.result
+    front_length (reset_put (digits_by args.old) args.h args.page.now c.digit_count-count.result
     c.digit_count-count.ensures c.requires c.put_field.new.page c.put_field.ensures
     c.put_field-2.new.page c.put_field-2.ensures c.put_field-3.new.page got)
 
@@ -113,7 +113,7 @@ pub returns : goal.returns
 returns c =
     let got = rw c.digits_by.ensures at c.put_field-3.ensures in
     let args = c.args in
-    header-put (digits_by args.old) args.h args.page.now c.digit_count-count.result
+    header_put (digits_by args.old) args.h args.page.now c.digit_count-count.result
     c.digit_count-count.ensures
     c.requires c.put_field.new.page c.put_field.ensures c.put_field-2.new.page
     c.put_field-2.ensures c.put_field-3.new.page got

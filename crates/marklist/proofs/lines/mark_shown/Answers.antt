@@ -13,7 +13,7 @@ use Rattle.lists.specs.MarkList.{digits_by, fields, fields_mark, mark_shown}
 use Rattle.text.proofs.DigitLaws.{length_digits}
 use Rattle.text.proofs.Text.{starts_long}
 use Rattle.text.proofs.Pages.{part_whole}
-use Rattle.marklist.proofs.LineLaws.{too_high, other_address, by-fields}
+use Rattle.marklist.proofs.LineLaws.{too_high, other_address, by_fields}
 use Rattle.marklist.proofs.lines.mark_shown.Goals as goal
 
 -- the address is in front
@@ -41,7 +41,7 @@ module _ (count address : ℕ) (text : List ℕ) (got : Bool) (e : got ≡ start
         let shown' = rw (part_whole count text) at shown in
         let tested' = rw (fields-so, part_whole count text) at tested in
         let inside : address < 16 ^ count = omega (arith, low, spanned ∙ ap (16 ^◌) (sym counted)) in
-        rw (← counted) (sym (by-fields count address text mark shown' inside begins b (rw (sym tested' ∙ e) e')))
+        rw (← counted) (sym (by_fields count address text mark shown' inside begins b (rw (sym tested' ∙ e) e')))
 
 pub returns-then-span_by-address : goal.returns-then-span_by-address
 returns-then-span_by-address c =

@@ -8,7 +8,7 @@ use Rattle.text.specs.Digits.{value}
 use Rattle.text.proofs.Pages.{part_whole}
 use Rattle.lists.specs.MarkList.{digits_by, mark_shown, line_size}
 use Rattle.lists.specs.Routines.{has_old_lines, routine_digits}
-use Rattle.marklist.proofs.RoutineLines.{Judged, none_judged, passed_address, no_line, line-judged, all_judged}
+use Rattle.marklist.proofs.RoutineLines.{Judged, none_judged, passed_address, no_line, line_judged, all_judged}
 use Rattle.marklist.proofs.RoutineLines.{number_fits}
 use Rattle.marklist.proofs.routines.is_routine_list.Goals as goal
 
@@ -39,7 +39,7 @@ module _ (text : List ℕ) (at next count address : ℕ) (old : Bool) (old-so : 
     -- and the line is one
     goes_on : at < length text → Judged text at next → next ≤ address → (size ≡ 0 → ⊥)
         → Judged text (at + size) (address + 1)
-    goes_on some so low other = line-judged text at next address some so address-so size size-so low other
+    goes_on some so low other = line_judged text at next address some so address-so size size-so low other
 
 pub returns-then-address-next : goal.returns-then-address-next
 returns-then-address-next c =

@@ -15,7 +15,7 @@ use Rattle.lists.proofs.MarkList.{lines_most}
 use Rattle.types.proofs.TestResults.{shown, ends}
 use Rattle.text.proofs.Pages.{part_room}
 use Rattle.marklist.proofs.HeaderLaws.{small_header}
-use Rattle.marklist.proofs.Writing.{refused, short_page, is-written, first_line, list-size, header-front}
+use Rattle.marklist.proofs.Writing.{refused, short_page, is_written, first_line, list_size, header_front}
 use Rattle.marklist.proofs.Writing.{list_put}
 use Rattle.marklist.proofs.writer.write_list.Goals as goal
 
@@ -64,7 +64,7 @@ pub returns-then-page-size : goal.returns-then-page-size
 returns-then-page-size c =
     let args = c.args in
     let size =
-    list-size args.marks.now args.base args.reset args.page.now c.header_size-first.result
+    list_size args.marks.now args.base args.reset args.page.now c.header_size-first.result
     c.lines_size.result c.header_size-first.ensures c.lines_size.ensures in
     let said = refused args.marks.now args.base args.reset args.page.now
     (short_page args.marks.now args.base args.reset args.page.now (sym c.in_default.is ∙ c.test_marks-tested.ensures)
@@ -76,7 +76,7 @@ put_lines-requires c =
     let room = c.if-page-size.false in
     let args = c.args in
     let front =
-    header-front args.marks.now args.base args.reset args.page.now c.header_size-first.result
+    header_front args.marks.now args.base args.reset args.page.now c.header_size-first.result
     c.lines_size.result c.header_size-first.ensures c.lines_size.ensures room
     c.put_header.ensures in (
       rw (← c.lines_size.ensures c.first_address.result) (part_room c.lines_size.result front room),
@@ -93,14 +93,14 @@ returns c =
     let room = c.if-page-size.false in
     let args = c.args in
     let size =
-    list-size args.marks.now args.base args.reset args.page.now c.header_size-first.result
+    list_size args.marks.now args.base args.reset args.page.now c.header_size-first.result
     c.lines_size.result c.header_size-first.ensures c.lines_size.ensures in
     let front =
-    header-front args.marks.now args.base args.reset args.page.now c.header_size-first.result
+    header_front args.marks.now args.base args.reset args.page.now c.header_size-first.result
     c.lines_size.result c.header_size-first.ensures c.lines_size.ensures room
     c.put_header.ensures in
     let answer =
-    is-written args.marks.now args.base args.reset args.page.now (sym c.in_default.is ∙ c.test_marks-tested.ensures)
+    is_written args.marks.now args.base args.reset args.page.now (sym c.in_default.is ∙ c.test_marks-tested.ensures)
     (c.header_size-first.result + c.lines_size.result) size room in
     let page =
     list_put args.marks.now args.base args.reset args.page.now c.header_size-first.result

@@ -2,7 +2,7 @@ use Rattle.reports.specs.PrintedPage.{cell_count, cell}
 use Rattle.reports.proofs.PrintedPage.{length_cell}
 use Rattle.text.proofs.Pages.{front_length, front_inside, part_room}
 use Rattle.printer.proofs.Pieces.{no_piece}
-use Rattle.printer.proofs.RowLaws.{cell-fits, next-cell, all_cells}
+use Rattle.printer.proofs.RowLaws.{cell_fits, next_cell, all_cells}
 use Rattle.printer.proofs.rows.put_cells.Goals as goal
 
 pub loop-k-init : goal.loop-k-init
@@ -17,13 +17,13 @@ pub put_bytes-requires : goal.put_bytes-requires
 put_bytes-requires c =
     let loop = c.loop-k in
     rw (c.cell.ensures, length_cell c.args.bytes.now loop.k)
-    (part_room 3 loop.invariant.front (cell-fits c.args.bytes.now c.args.page.now loop.page loop.k
+    (part_room 3 loop.invariant.front (cell_fits c.args.bytes.now c.args.page.now loop.page loop.k
     c.requires c.loop-k-test.true loop.invariant))
 
 pub loop-k-preserved : goal.loop-k-preserved
 loop-k-preserved c =
     let loop = c.loop-k in
-    next-cell c.args.bytes.now c.args.page.now loop.page loop.k c.requires
+    next_cell c.args.bytes.now c.args.page.now loop.page loop.k c.requires
     c.loop-k-test.true loop.invariant c.cell.result c.put_bytes.new.page c.cell.ensures
     c.put_bytes.ensures
 

@@ -1,8 +1,8 @@
 -- The layout decides the row; where nothing starts or no layout fits there is none.
 use Rattle.std.proofs.Common.{◌≡◌, ◌+◌, ◌-◌, arith, get_or, refl, true}
 use Rattle.acceptance.specs.Image.{is_start, mark_m, mark_x}
-use Rattle.decoder.proofs.Layouts.{fits-at}
-use Rattle.printer.proofs.RowLaws.{no_row, whole-size, whole-put, uncarried-row, short_row}
+use Rattle.decoder.proofs.Layouts.{fits_at}
+use Rattle.printer.proofs.RowLaws.{no_row, whole_size, whole_put, uncarried_row, short_row}
 use Rattle.printer.proofs.rows.put_row_at.Goals as goal
 
 pub returns-then-not-is_start : goal.returns-then-not-is_start
@@ -18,7 +18,7 @@ slice_bounds-put_row-end c =
     let args = c.args in
     let mark = get_or args.marks.now args.at 0 in
     let fits =
-    fits-at args.image.now args.at (mark_m mark) (mark_x mark) c.layout_at.result c.layout_at.ensures
+    fits_at args.image.now args.at (mark_m mark) (mark_x mark) c.layout_at.result c.layout_at.ensures
     c.in-Fits.layout c.in-Fits.is in
     omega (arith, fits)
 
@@ -28,7 +28,7 @@ put_row-requires c =
     let started : is_start (get_or args.marks.now args.at 0) ≡ true =
     rw (c.is_start.ensures, c.byte_at-mark.ensures) at c.if-not-is_start.false in
     let size =
-    whole-size args.image.now args.marks.now args.base args.at started c.layout_at.result c.layout_at.ensures
+    whole_size args.image.now args.marks.now args.base args.at started c.layout_at.result c.layout_at.ensures
     c.in-Fits.layout c.in-Fits.is in
     omega (arith, c.requires.2, size)
 
@@ -39,10 +39,10 @@ returns-in-Fits c =
     let started : is_start (get_or args.marks.now args.at 0) ≡ true =
     rw (c.is_start.ensures, c.byte_at-mark.ensures) at c.if-not-is_start.false in
     let size =
-    whole-size args.image.now args.marks.now args.base args.at started c.layout_at.result c.layout_at.ensures f
+    whole_size args.image.now args.marks.now args.base args.at started c.layout_at.result c.layout_at.ensures f
     c.in-Fits.is in (
       size,
-      whole-put args.image.now args.marks.now args.base args.at started c.layout_at.result c.layout_at.ensures f
+      whole_put args.image.now args.marks.now args.base args.at started c.layout_at.result c.layout_at.ensures f
           c.in-Fits.is c.byte_at-mark.result (args.at + f.length - args.at) c.put_row.new.page args.page.now
           c.byte_at-mark.ensures (omega arith) c.put_row.ensures,
     )
@@ -53,7 +53,7 @@ returns-in-Uncarried c =
     let started : is_start (get_or args.marks.now args.at 0) ≡ true =
     rw (c.is_start.ensures, c.byte_at-mark.ensures) at c.if-not-is_start.false in
     let none =
-    uncarried-row args.image.now args.marks.now args.base args.at started c.layout_at.result c.layout_at.ensures
+    uncarried_row args.image.now args.marks.now args.base args.at started c.layout_at.result c.layout_at.ensures
     c.in-Uncarried.is in
     (rw none refl, rw none refl)
 

@@ -2,7 +2,7 @@ use Rattle.std.proofs.Common.{◌≤◌, arith, length}
 use Rattle.prelude.specs.Concat.{concat_from}
 use Rattle.reports.specs.PrintedPage as spec
 use Rattle.text.proofs.Pages.{front_length, front_inside, part_room}
-use Rattle.printer.proofs.Pieces.{no_piece, piece-fits, next-piece, all_pieces}
+use Rattle.printer.proofs.Pieces.{no_piece, piece_fits, next_piece, all_pieces}
 use Rattle.printer.proofs.rows.put_rows.Goals as goal
 
 pub loop-i-init : goal.loop-i-init
@@ -24,7 +24,7 @@ put_row_at-at-requires c =
     let rows = spec.row_at args.image.now marks args.base in
     let room : length (concat_from rows 0 (length marks)) ≤ length args.page.now = c.requires.0 in
     let fits =
-    piece-fits rows (length marks) args.page.now loop.page loop.at loop.i room c.loop-i-test.true
+    piece_fits rows (length marks) args.page.now loop.page loop.at loop.i room c.loop-i-test.true
     loop.invariant in (
       c.pages-codes.ensures,
       omega (arith, c.requires.1, c.loop-i-test.true),
@@ -40,7 +40,7 @@ overflow_add-at c =
     let rows = spec.row_at args.image.now marks args.base in
     let room : length (concat_from rows 0 (length marks)) ≤ length args.page.now = c.requires.0 in
     let fits =
-    piece-fits rows (length marks) args.page.now loop.page loop.at loop.i room c.loop-i-test.true
+    piece_fits rows (length marks) args.page.now loop.page loop.at loop.i room c.loop-i-test.true
     loop.invariant in
     omega (arith, c.put_row_at-at.ensures.0, fits)
 
@@ -52,7 +52,7 @@ loop-i-preserved c =
     let marks = args.marks.now in
     let rows = spec.row_at args.image.now marks args.base in
     let room : length (concat_from rows 0 (length marks)) ≤ length args.page.now = c.requires.0 in
-    next-piece rows (length marks) args.page.now loop.page loop.at loop.i room c.loop-i-test.true loop.invariant
+    next_piece rows (length marks) args.page.now loop.page loop.at loop.i room c.loop-i-test.true loop.invariant
     c.put_row_at-at.result c.put_row_at-at.new.page c.put_row_at-at.ensures.0 c.put_row_at-at.ensures.1
 
 pub shape_of-page : goal.shape_of-page
