@@ -5,11 +5,11 @@
 -- A call is what it is given, its result and what it leaves, with its function's contract (Calls.antt): `holds` is
 -- what a buffer holds when it is given, `marks_left`, `page_left`, `left_state` and the like what it holds after the
 -- call. The numbers that the functions of m7700.h take out of a result are `check_numbers`, `read_numbers`,
--- `written_numbers` and, of a run, `numbers` (packing/specs/Packed.antt). Every other notion is document 01's, in the crates of definitions: of `acceptance`
--- `Accepts` (Rules), `verdict` (Verdict), what a number means, `Breaks` (Meaning), and what it is to answer by the
--- first ground that holds (Grounds); of `lists` `read_list`, `write_list` (MarkList) and their grounds (ListGrounds);
--- of `semantics` `step` (Step); of `execution` `ran_bytes` (RunBytes), the grounds of a run (RunGrounds), histories and
--- lists of runs (Run), `Safe` and `Begins` (Guarantee).
+-- `written_numbers` and, of a run, `numbers` (packing/specs/Packed.antt). Every other notion is document 01's, in the
+-- crates of definitions: of `acceptance` `Accepts` (Rules), `verdict` (Verdict), what a number means, `Breaks`
+-- (Meaning), and what it is to answer by the first ground that holds (Grounds); of `lists` `read_list`, `write_list`
+-- (MarkList) and their grounds (ListGrounds); of `semantics` `step` (Step); of `execution` `ran_bytes` (RunBytes), the
+-- grounds of a run (RunGrounds), histories and lists of runs (Run), `Safe` and `Begins` (Guarantee).
 -- Assumes nothing.
 use Rattle.std.specs.Prelude.{◌≡◌, ◌↔◌, ◌⊎◌, ℕ, ◌≤◌, ◌<◌, true, false, List, [], ◌∷◌, ◌++◌, length, take, drop}
 use Rattle.packing.specs.Packed.{verdict_numbers, check_numbers, list_read_numbers, read_numbers, list_written_numbers}
