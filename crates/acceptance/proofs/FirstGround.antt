@@ -1,6 +1,7 @@
 -- Tests in an order give the refusal of the first ground that holds, where each test fails exactly on its ground: one
 -- law for the tests of any call. A ground may be decided with the help of the tests before it, which have passed.
 -- Assumes nothing.
+use Rattle.std.specs.Prelude.{Ok, Err}
 use mathlib.Core.Path.{◌≡◌, refl, sym, ap, ◌∙◌}
 use mathlib.Core.Logic.{◌↔◌, ◌⊎◌, inl, inr}
 use mathlib.Core.Bool.{Bool, true, false, true≢false, not, ◌&&◌}
@@ -10,7 +11,7 @@ use native.Mathlib.Omega.{arith}
 use lib.Dec.{eqb}
 use borrow.Author.Tests.{eqb-true, eqb-false, not-true}
 use Rattle.types.specs.declared.refusals.Refusal.{Refusal}
-use Rattle.types.specs.declared.refusals.TestResult.{TestResult}
+use Rattle.types.specs.Answers.{TestResult}
 use Rattle.types.specs.Refusals.{refusal_number, Tests, first_refusal, answered}
 use Rattle.acceptance.specs.Grounds.{Grounds, FirstGround, NoGround, AnswersBy}
 use Rattle.types.proofs.TestResults.{failed_passed, same_why, passes, refusal_range, same_refusal}
@@ -43,7 +44,7 @@ Decided [] tests = Unit {0}
 
 -- ---- one test before others
 
-never_given : (why : Refusal) (tests : Tests) → not_given why tests ≡ true → first_refusal tests ≡ TestResult.Failed why
+never_given : (why : Refusal) (tests : Tests) → not_given why tests ≡ true → first_refusal tests ≡ Err why
     → ⊥
 unfolding first_refusal
 never_given why [] apart e = failed_passed (sym e)
@@ -63,25 +64,25 @@ module _ (Ground More : Type 0) (number why : Refusal) (rest : Tests) where
   First is = elim is [ true ↦ Ground | false ↦ (Ground → ⊥) × More ]
 
   one_first : (test is : Bool) → is_same number why ≡ is → not_given number rest ≡ true
-      → (test ≡ false) ↔ Ground → (test ≡ true → (first_refusal rest ≡ TestResult.Failed why) ↔ More)
-      → (first_refusal ((test, number) ∷ rest) ≡ TestResult.Failed why) ↔ First is
+      → (test ≡ false) ↔ Ground → (test ≡ true → (first_refusal rest ≡ Err why) ↔ More)
+      → (first_refusal ((test, number) ∷ rest) ≡ Err why) ↔ First is
   unfolding first_refusal
   one_first true true e apart decided more = (
-    λ f. absurd (never_given number rest apart (f ∙ ap TestResult.Failed (sym (same e)))),
+    λ f. absurd (never_given number rest apart (f ∙ ap Err (sym (same e)))),
     λ g. absurd (true≢false (decided.1 g)),
   )
   one_first true false e apart decided more = (
     λ f. (λ g. true≢false (decided.1 g), (more refl).0 f),
     λ first. (more refl).1 first.1,
   )
-  one_first false true e apart decided more = (λ f. decided.0 refl, λ g. ap TestResult.Failed (same e))
+  one_first false true e apart decided more = (λ f. decided.0 refl, λ g. ap Err (same e))
   one_first false false e apart decided more = (
     λ f. absurd (eqb-false (refusal_number number) (refusal_number why) e (ap refusal_number (same_why f))),
     λ first. absurd (first.0 (decided.0 refl)),
   )
 
-  one_none : (test : Bool) → (test ≡ false) ↔ Ground → (test ≡ true → (first_refusal rest ≡ TestResult.Passed) ↔ More)
-      → (first_refusal ((test, number) ∷ rest) ≡ TestResult.Passed) ↔ ((Ground → ⊥) × More)
+  one_none : (test : Bool) → (test ≡ false) ↔ Ground → (test ≡ true → (first_refusal rest ≡ Ok tt) ↔ More)
+      → (first_refusal ((test, number) ∷ rest) ≡ Ok tt) ↔ ((Ground → ⊥) × More)
   unfolding first_refusal
   one_none true decided more = (
     λ p. (λ g. true≢false (decided.1 g), (more refl).0 p),
@@ -93,7 +94,7 @@ module _ (Ground More : Type 0) (number why : Refusal) (rest : Tests) where
 
 module _ (why : Refusal) where
   pub first_exactly : (grounds : Grounds) (tests : Tests) → agrees grounds tests ≡ true → Decided grounds tests
-      → (first_refusal tests ≡ TestResult.Failed why) ↔ FirstGround grounds why
+      → (first_refusal tests ≡ Err why) ↔ FirstGround grounds why
   first_exactly [] [] a decided = (λ e. failed_passed (sym e ∙ sym passes), λ none. absurd none)
   first_exactly [] (test ∷ tests) a decided = absurd (true≢false (sym a))
   first_exactly (ground ∷ grounds) [] a decided = absurd (true≢false (sym a))
@@ -106,7 +107,7 @@ module _ (why : Refusal) where
       decided.0 (λ passed. first_exactly grounds tests outer.1 (decided.1 passed)))
 
 pub none_exactly : (grounds : Grounds) (tests : Tests) → agrees grounds tests ≡ true → Decided grounds tests
-    → (first_refusal tests ≡ TestResult.Passed) ↔ NoGround grounds
+    → (first_refusal tests ≡ Ok tt) ↔ NoGround grounds
 none_exactly [] [] a decided = (λ e. tt, λ none. sym passes)
 none_exactly [] (test ∷ tests) a decided = absurd (true≢false (sym a))
 none_exactly (ground ∷ grounds) [] a decided = absurd (true≢false (sym a))
@@ -141,16 +142,16 @@ module _ {A : Type 0} (refused : Refusal → A) (done : A) where
     where
       given : (so : TestResult)
           → (answered so refused done ≡ done) ⊎ ((why : Refusal) × (answered so refused done ≡ refused why))
-      given TestResult.Passed = inl refl
-      given (TestResult.Failed why) = inr (why, refl)
+      given (Ok _) = inl refl
+      given (Err why) = inr (why, refl)
 
-      failed : (so : TestResult) (why : Refusal) → answered so refused done ≡ refused why → so ≡ TestResult.Failed why
-      failed TestResult.Passed why e = absurd (apart.none why (sym e))
-      failed (TestResult.Failed other) why e = ap TestResult.Failed (apart.one other why e)
+      failed : (so : TestResult) (why : Refusal) → answered so refused done ≡ refused why → so ≡ Err why
+      failed (Ok _) why e = absurd (apart.none why (sym e))
+      failed (Err other) why e = ap Err (apart.one other why e)
 
-      passed : (so : TestResult) → answered so refused done ≡ done → so ≡ TestResult.Passed
-      passed TestResult.Passed e = refl
-      passed (TestResult.Failed why) e = absurd (apart.none why e)
+      passed : (so : TestResult) → answered so refused done ≡ done → so ≡ Ok tt
+      passed (Ok _) e = refl
+      passed (Err why) e = absurd (apart.none why e)
 
 -- the same of the number in an answer, 0 where nothing is refused
 pub numbers_by : {A : Type 0} {grounds : Grounds} {refused : Refusal → A} {done answer : A} (number : A → ℕ)

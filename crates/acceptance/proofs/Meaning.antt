@@ -1,6 +1,8 @@
 -- Each refusal means what its number says. The tests of the verdict are taken in their order: the first that fails
 -- gives the number, and those before it have passed.
 -- Assumes nothing.
+use Rattle.types.specs.declared.code.Undecoded.{Undecoded}
+use Rattle.std.specs.Prelude.{Ok, Err}
 use mathlib.Core.Path.{◌≡◌, refl, sym}
 use mathlib.Core.Logic.{inl, inr, ⊎_elim}
 use mathlib.Core.Bool.{Bool, true, false, ◌&&◌}
@@ -12,12 +14,10 @@ use borrow.Author.Tests.{eqb-false, not-true, not-false}
 use lib.Dec.{eqb}
 use lib.ListN.{length, get_or}
 use Rattle.types.specs.declared.code.Instruction.{Instruction}
-use Rattle.types.specs.declared.code.Decoded.{Decoded}
+use Rattle.types.specs.Answers.{Decoded, refused_at, TestResult, Verdict}
 use Rattle.types.specs.declared.refusals.Refusal.{Refusal}
-use Rattle.types.specs.declared.refusals.TestResult.{TestResult}
 use Rattle.types.specs.declared.rules.Requirement.{Requirement}
 use Rattle.types.specs.declared.rules.Requirements.{Requirements}
-use Rattle.types.specs.declared.rules.Verdict.{Verdict}
 use Rattle.prelude.specs.Choice.{pick}
 use Rattle.types.specs.Addresses.{bank_size, image_limit}
 use Rattle.acceptance.specs.Image.{is_start, is_formed, length_fits, mark_at}
@@ -30,7 +30,7 @@ use Rattle.acceptance.specs.Verdict.{decoded_result, start_result, broken_at, ba
 use Rattle.acceptance.specs.Verdict.{bad_mark, marks_tests, offset_of, verdict}
 use Rattle.prelude.proofs.First.{first_is}
 use Rattle.acceptance.proofs.Image.{right_length}
-use Rattle.types.proofs.TestResults.{AllHold, FirstFails, shown, failed_passed, same_why, not_failed}
+use Rattle.types.proofs.TestResults.{AllHold, FirstFails, shown, failed_passed, same_why, not_failed, same_refused}
 use Rattle.prelude.proofs.Choice.{both_true}
 use Rattle.acceptance.proofs.Verdict.{clear_all, formed_all, start_inside, start_rules}
 
@@ -95,7 +95,7 @@ not_clear marks at n h =
 -- ---- the refusal at a start
 
 module _ (image marks : List ℕ) (base at : ℕ) where
-  whole_breaks : (i : Instruction) (why : Refusal) → instruction_at image marks at ≡ Decoded.Whole i
+  whole_breaks : (i : Instruction) (why : Refusal) → instruction_at image marks at ≡ Ok i
       → FirstFails why (whole_tests marks base at i) → StartBreaks image marks base at why
   whole_breaks i why whole (inl (ec, w)) =
       let f = not_clear marks at i.length ec in
@@ -112,18 +112,18 @@ module _ (image marks : List ℕ) (base at : ℕ) where
   whole_breaks i why whole (inr (ec, inr (er, inr (es, inr (em, none))))) = absurd none
 
   -- a place that breaks a rule is a start
-  start_breaks : (why : Refusal) → start_result image marks base at ≡ TestResult.Failed why
+  start_breaks : (why : Refusal) → start_result image marks base at ≡ Err why
       → (start_at marks at ≡ true) × StartBreaks image marks base at why
   unfolding start_result decoded_result
   start_breaks why h = by (start_at marks at) (instruction_at image marks at) refl refl h
     where
       by : (b : Bool) (d : Decoded) → start_at marks at ≡ b → instruction_at image marks at ≡ d
-          → pick b (decoded_result marks base at d) TestResult.Passed ≡ TestResult.Failed why
+          → pick b (decoded_result marks base at d) (Ok tt) ≡ Err why
           → (start_at marks at ≡ true) × StartBreaks image marks base at why
       by false d s e r = absurd (failed_passed (sym r))
-      by true Decoded.NotCarried s e r = (s, rw (← same_why r) (StartBreaks.code e))
-      by true Decoded.CutOff s e r = (s, rw (← same_why r) (StartBreaks.cut_off e))
-      by true (Decoded.Whole i) s e r = (s, whole_breaks i why e (shown (whole_tests marks base at i) r))
+      by true (Err Undecoded.NotCarried) s e r = (s, rw (← same_why r) (StartBreaks.code e))
+      by true (Err Undecoded.CutOff) s e r = (s, rw (← same_why r) (StartBreaks.cut_off e))
+      by true (Ok i) s e r = (s, whole_breaks i why e (shown (whole_tests marks base at i) r))
 
 -- ---- the refusals
 
@@ -151,7 +151,7 @@ module _ (image marks : List ℕ) (base reset : ℕ) where
   tests_break why (inr (el, inr (eb, inr (ef, inr (er, none))))) = absurd none
 
   starts_break : AllHold (marks_tests (length image) marks base reset) → (why : Refusal)
-      → start_result image marks base (bad_start image marks base) ≡ TestResult.Failed why
+      → start_result image marks base (bad_start image marks base) ≡ Err why
       → Breaks image marks base reset why (bad_start image marks base)
   unfolding bad_start
   starts_break held why e =
@@ -163,12 +163,12 @@ module _ (image marks : List ℕ) (base reset : ℕ) where
       ((first_is (broken_at image marks base) 0 (length marks)).before k (omega arith) high)))
 
   same : (why why' : Refusal) (at at' : ℕ) → Breaks image marks base reset why at
-      → Verdict.Refused why at ≡ Verdict.Refused why' at'
+      → ◌≡◌ {A = Verdict} (refused_at why at) (refused_at why' at')
       → Breaks image marks base reset why' at'
-  same why why' at at' b e = let e₁ : why ≡ why' = cc in let e₂ : at ≡ at' = cc in rw (e₁, e₂) at b
+  same why why' at at' b e = rw ((same_refused e).0, (same_refused e).1) at b
 
   -- each refusal means what its number says
-  pub refused_means : (why : Refusal) (at : ℕ) → verdict image marks base reset ≡ Verdict.Refused why at
+  pub refused_means : (why : Refusal) (at : ℕ) → verdict image marks base reset ≡ refused_at why at
       → Breaks image marks base reset why at
   unfolding verdict starts_verdict
   refused_means why at =
@@ -179,13 +179,13 @@ module _ (image marks : List ℕ) (base reset : ℕ) where
 
       by : (so starts : TestResult) → first_refusal tests ≡ so
           → start_result image marks base (bad_start image marks base) ≡ starts
-          → answered so (λ w. Verdict.Refused w (offset_of marks w))
-          (answered starts (λ w. Verdict.Refused w (bad_start image marks base)) Verdict.Accepted)
-          ≡ Verdict.Refused why at
+          → answered {A = Verdict} so (λ w. refused_at w (offset_of marks w))
+          (answered starts (λ w. refused_at w (bad_start image marks base)) (Ok tt))
+          ≡ refused_at why at
           → Breaks image marks base reset why at
-      by (TestResult.Failed w) starts t s e = same w why _ at (tests_break w (shown tests t)) e
-      by TestResult.Passed (TestResult.Failed w) t s e = same w why _ at (starts_break (shown tests t) w s) e
-      by TestResult.Passed TestResult.Passed t s e = let z : ◌≡◌ {A = ℕ} 0 1 = cc in absurd (omega arith)
+      by (Err w) starts t s e = same w why _ at (tests_break w (shown tests t)) e
+      by (Ok _) (Err w) t s e = same w why _ at (starts_break (shown tests t) w s) e
+      by (Ok _) (Ok _) t s e = let z : ◌≡◌ {A = ℕ} 0 1 = cc in absurd (omega arith)
 
 -- ---- the range of an offset
 
@@ -203,14 +203,14 @@ offset_range image marks base reset at why (Breaks.wrong_start l b f r at' why' 
     omega (arith, few_marks image marks l)
 
 pub tests_small : (image marks : List ℕ) (base reset : ℕ) (why : Refusal)
-    → first_refusal (marks_tests (length image) marks base reset) ≡ TestResult.Failed why → offset_of marks why <
+    → first_refusal (marks_tests (length image) marks base reset) ≡ Err why → offset_of marks why <
     bank_size
 tests_small image marks base reset why e =
     offset_range image marks base reset _ why
     (tests_break image marks base reset why (shown (marks_tests (length image) marks base reset) e))
 
 pub refused_small : (image marks : List ℕ) (base reset at : ℕ) (why : Refusal)
-    → verdict image marks base reset ≡ Verdict.Refused why at
+    → verdict image marks base reset ≡ refused_at why at
     → at < bank_size
 refused_small image marks base reset at why h =
     offset_range image marks base reset at why (refused_means image marks base reset why at h)

@@ -2,6 +2,8 @@
 -- that it tests, and no test refuses exactly when all of them hold, in whatever order they stand: what the order means
 -- is said in Meaning.antt.
 -- Assumes nothing.
+use Rattle.types.specs.declared.code.Undecoded.{Undecoded}
+use Rattle.std.specs.Prelude.{Ok, Err}
 use mathlib.Core.Path.{◌≡◌, refl}
 use mathlib.Core.Logic.{◌↔◌}
 use mathlib.Core.Bool.{Bool, true, false}
@@ -13,12 +15,10 @@ use lib.Dec.{ltb}
 use lib.ListN.{length, get_or, get_or-eq_default}
 use Rattle.prelude.proofs.Choice.{both_true}
 use Rattle.types.specs.declared.code.Instruction.{Instruction}
-use Rattle.types.specs.declared.code.Decoded.{Decoded}
+use Rattle.types.specs.Answers.{Decoded, refused_at, TestResult, Verdict}
 use Rattle.types.specs.declared.refusals.Refusal.{Refusal}
-use Rattle.types.specs.declared.refusals.TestResult.{TestResult}
 use Rattle.types.specs.declared.rules.Requirement.{Requirement}
 use Rattle.types.specs.declared.rules.Requirements.{Requirements}
-use Rattle.types.specs.declared.rules.Verdict.{Verdict}
 use Rattle.prelude.specs.Choice.{pick}
 use Rattle.acceptance.specs.Image.{is_formed, mark_at}
 use Rattle.types.specs.Refusals.{first_refusal}
@@ -97,8 +97,8 @@ met_all marks base (Requirements.Two v w) m = (
 -- ---- the rules at one start
 
 module _ (image marks : List ℕ) (base at : ℕ) where
-  whole_rules : (i : Instruction) → first_refusal (whole_tests marks base at i) ≡ TestResult.Passed
-      → instruction_at image marks at ≡ Decoded.Whole i → StartRules image marks base at
+  whole_rules : (i : Instruction) → first_refusal (whole_tests marks base at i) ≡ Ok tt
+      → instruction_at image marks at ≡ Ok i → StartRules image marks base at
   whole_rules i h whole =
       let t = shown (whole_tests marks base at i) h in
       record {
@@ -110,31 +110,31 @@ module _ (image marks : List ℕ) (base at : ℕ) where
       }
 
   rules_whole : (r : StartRules image marks base at)
-      → first_refusal (whole_tests marks base at r.instruction) ≡ TestResult.Passed
+      → first_refusal (whole_tests marks base at r.instruction) ≡ Ok tt
   rules_whole r =
       let met = met_all marks base (owed_there marks base at r.instruction) r.successors in
       none_fails (whole_tests marks base at r.instruction)
       (all_clear marks at r.instruction.length r.no_overlap, (r.returns, (met.0, (met.1, tt))))
 
   -- a start that breaks no rule keeps them all
-  pub start_rules : start_at marks at ≡ true → start_result image marks base at ≡ TestResult.Passed
+  pub start_rules : start_at marks at ≡ true → start_result image marks base at ≡ Ok tt
       → StartRules image marks base at
   unfolding start_result decoded_result
   start_rules s h = by (instruction_at image marks at) refl (rw s at h)
     where
       by : (d : Decoded) → instruction_at image marks at ≡ d
-          → decoded_result marks base at d ≡ TestResult.Passed → StartRules image marks base at
-      by Decoded.NotCarried e p = absurd (failed_passed p)
-      by Decoded.CutOff e p = absurd (failed_passed p)
-      by (Decoded.Whole i) e p = whole_rules i p e
+          → decoded_result marks base at d ≡ Ok tt → StartRules image marks base at
+      by (Err Undecoded.NotCarried) e p = absurd (failed_passed p)
+      by (Err Undecoded.CutOff) e p = absurd (failed_passed p)
+      by (Ok i) e p = whole_rules i p e
 
   pub rules_start : (start_at marks at ≡ true → StartRules image marks base at)
-      → start_result image marks base at ≡ TestResult.Passed
+      → start_result image marks base at ≡ Ok tt
   unfolding start_result decoded_result
   rules_start rules = by (start_at marks at) refl
     where
       by : (b : Bool) → start_at marks at ≡ b
-          → pick b (decoded_result marks base at (instruction_at image marks at)) TestResult.Passed ≡ TestResult.Passed
+          → pick b (decoded_result marks base at (instruction_at image marks at)) (Ok tt) ≡ Ok tt
       by false e = refl
       by true e = let r = rules e in rw r.whole (rules_whole r)
 
@@ -146,7 +146,7 @@ unfolding bad_mark
 formed_all marks h at inside =
     not-false (is_formed (get_or marks at 0)) (none_found (unformed_at marks) (length marks) h at inside)
 
-refused_accepts : (why : Refusal) (at : ℕ) → Verdict.Refused why at ≡ Verdict.Accepted → ⊥
+refused_accepts : (why : Refusal) (at : ℕ) → ◌≡◌ {A = Verdict} (refused_at why at) (Ok tt) → ⊥
 refused_accepts why at e = let z : ◌≡◌ {A = ℕ} 0 1 = cc in absurd (omega arith)
 
 -- no start stands past the marks
@@ -161,7 +161,7 @@ start_inside marks at s = by (ltb at (length marks)) refl
 
 module _ (image marks : List ℕ) (base reset : ℕ) where
   -- accepted, and all rules hold
-  pub accepted_rules : verdict image marks base reset ≡ Verdict.Accepted → Accepts image marks base reset
+  pub accepted_rules : verdict image marks base reset ≡ Ok tt → Accepts image marks base reset
   unfolding verdict starts_verdict bad_start
   accepted_rules h =
       let tests = all_passed (first_refusal (marks_tests (length image) marks base reset)) _
@@ -179,7 +179,7 @@ module _ (image marks : List ℕ) (base reset : ℕ) where
       }
 
   -- all rules hold, and accepted
-  pub rules_accepted : Accepts image marks base reset → verdict image marks base reset ≡ Verdict.Accepted
+  pub rules_accepted : Accepts image marks base reset → verdict image marks base reset ≡ Ok tt
   unfolding verdict starts_verdict bad_mark
   rules_accepted a =
       let formed = found_none (unformed_at marks) (length marks) (λ k inside. rw (a.formed k inside) refl) in
@@ -190,7 +190,7 @@ module _ (image marks : List ℕ) (base reset : ℕ) where
       )
 
   -- demand 2: 'The check accepts an image with its marks exactly when all rules of document 01 are met'
-  pub accepts_exactly : (verdict image marks base reset ≡ Verdict.Accepted) ↔ Accepts image marks base reset
+  pub accepts_exactly : (verdict image marks base reset ≡ Ok tt) ↔ Accepts image marks base reset
   accepts_exactly = (accepted_rules, rules_accepted)
 
 -- ---- the search for a bad mark ends at the last mark at most
@@ -203,12 +203,12 @@ bad_mark_most marks = omega (arith, (first_is (unformed_at marks) 0 (length mark
 
 module _ (image marks : List ℕ) (base : ℕ) where
   pub stopped_at : (i : ℕ) (why : Refusal) → i ≡ bad_start image marks base
-      → start_result image marks base i ≡ TestResult.Failed why
-      → Verdict.Refused why i ≡ starts_verdict image marks base
+      → start_result image marks base i ≡ Err why
+      → refused_at why i ≡ starts_verdict image marks base
   unfolding starts_verdict
   stopped_at i why at e = rw (← at, e)
 
-  pub passed_over : length marks ≡ bad_start image marks base → Verdict.Accepted ≡ starts_verdict image marks base
+  pub passed_over : length marks ≡ bad_start image marks base → Ok tt ≡ starts_verdict image marks base
   unfolding starts_verdict
   passed_over at =
       rw (

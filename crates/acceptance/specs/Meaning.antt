@@ -2,9 +2,10 @@
 -- any, and at that place no rule that is tested before is broken. Nothing here speaks of an order of tests but through
 -- these facts.
 -- Assumes nothing.
-use Rattle.std.specs.Prelude.{◌≡◌, ◌⊎◌, ℕ, ◌+◌, ◌<◌, true, false, List, length, get_or}
+use Rattle.types.specs.declared.code.Undecoded.{Undecoded}
+use Rattle.std.specs.Prelude.{◌≡◌, ◌⊎◌, ℕ, ◌+◌, ◌<◌, true, false, List, length, get_or, Ok, Err}
 use Rattle.types.specs.declared.code.Instruction.{Instruction}
-use Rattle.types.specs.declared.code.Decoded.{Decoded}
+use Rattle.types.specs.Answers.{Decoded}
 use Rattle.types.specs.declared.refusals.Refusal.{Refusal}
 use Rattle.types.specs.declared.rules.Requirement.{Requirement}
 use Rattle.types.specs.declared.rules.Requirements.{Requirements}
@@ -29,17 +30,17 @@ module _ (image marks : List ℕ) (base at : ℕ) where
 
   -- the refusal at a start
   pub data StartBreaks : Refusal → Type 0 where
-    code : instruction_at image marks at ≡ Decoded.NotCarried → StartBreaks Refusal.Code
-    cut_off : instruction_at image marks at ≡ Decoded.CutOff → StartBreaks Refusal.CutOff
-    overlap : (i : Instruction) → instruction_at image marks at ≡ Decoded.Whole i
+    code : instruction_at image marks at ≡ Err Undecoded.NotCarried → StartBreaks Refusal.Code
+    cut_off : instruction_at image marks at ≡ Err Undecoded.CutOff → StartBreaks Refusal.CutOff
+    overlap : (i : Instruction) → instruction_at image marks at ≡ Ok i
         → (k : ℕ) → at < k → k < at + i.length → is_start (get_or marks k 0) ≡ true → StartBreaks Refusal.Overlap
-    return : (i : Instruction) → instruction_at image marks at ≡ Decoded.Whole i → Clear i
+    return : (i : Instruction) → instruction_at image marks at ≡ Ok i → Clear i
         → return_fits i.entry.flow (get_or marks at 0) ≡ false → StartBreaks Refusal.Return
-    flow : (i : Instruction) → instruction_at image marks at ≡ Decoded.Whole i → Clear i
+    flow : (i : Instruction) → instruction_at image marks at ≡ Ok i → Clear i
         → return_fits i.entry.flow (get_or marks at 0) ≡ true
         → (w : Requirement) → Among w (owed_there marks base at i) → is_start (mark_at marks base w.address) ≡ false
         → StartBreaks Refusal.Flow
-    widths : (i : Instruction) → instruction_at image marks at ≡ Decoded.Whole i → Clear i
+    widths : (i : Instruction) → instruction_at image marks at ≡ Ok i → Clear i
         → return_fits i.entry.flow (get_or marks at 0) ≡ true → AllStarts i
         → (w : Requirement) → Among w (owed_there marks base at i) → (mark_at marks base w.address ≡ w.mark → ⊥)
         → StartBreaks Refusal.Widths

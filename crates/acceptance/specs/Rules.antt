@@ -1,11 +1,11 @@
 -- 01, 'Rules of acceptance': what a start owes its successors, and the rules as one predicate.
 -- Assumes nothing.
-use Rattle.std.specs.Prelude.{◌≡◌, ℕ, ◌+◌, ◌<◌, Bool, true, false, ◌&&◌, List, eqb, length, get_or, drop}
+use Rattle.std.specs.Prelude.{◌≡◌, ℕ, ◌+◌, ◌<◌, Bool, true, false, ◌&&◌, List, eqb, length, get_or, drop, Ok}
 use Rattle.types.specs.declared.code.Kind.{Kind}
 use Rattle.types.specs.declared.code.Flow.{Flow}
 use Rattle.types.specs.declared.code.WidthEffect.{WidthEffect}
 use Rattle.types.specs.declared.code.Instruction.{Instruction}
-use Rattle.types.specs.declared.code.Decoded.{Decoded}
+use Rattle.types.specs.Answers.{Decoded}
 use Rattle.types.specs.declared.rules.Requirement.{Requirement}
 use Rattle.types.specs.declared.rules.Requirements.{Requirements}
 use Rattle.acceptance.specs.Image.{is_start, mark_m, mark_x, mark_kind, return_m, return_x, mark_of, is_formed}
@@ -83,7 +83,7 @@ AllMet marks base (Requirements.Two v w) = Met marks base v × Met marks base w
 -- the rule of RTS and RTL; its successors.
 pub record StartRules (image marks : List ℕ) (base at : ℕ) : Type 0 where
   pub instruction : Instruction
-  pub whole : instruction_at image marks at ≡ Decoded.Whole instruction
+  pub whole : instruction_at image marks at ≡ Ok instruction
   pub no_overlap : (k : ℕ) → at < k → k < at + instruction.length → is_start (get_or marks k 0) ≡ false
   pub returns : return_fits instruction.entry.flow (get_or marks at 0) ≡ true
   pub successors : AllMet marks base (owed_there marks base at instruction)

@@ -2,11 +2,11 @@
 -- them. What a start owes as a value (`owed_by`) is one way to say them; that it says these:
 -- proofs/SuccessorRules.antt.
 -- Assumes nothing.
-use Rattle.std.specs.Prelude.{◌≡◌, true, List, ℕ, ◌+◌, ◌<◌, length, get_or}
+use Rattle.std.specs.Prelude.{◌≡◌, true, List, ℕ, ◌+◌, ◌<◌, length, get_or, Ok}
 use Rattle.types.specs.declared.code.Kind.{Kind}
 use Rattle.types.specs.declared.code.Flow.{Flow}
 use Rattle.types.specs.declared.code.Instruction.{Instruction}
-use Rattle.types.specs.declared.code.Decoded.{Decoded}
+use Rattle.types.specs.Answers.{Decoded}
 use Rattle.acceptance.specs.Image.{is_start, mark_m, mark_x, mark_kind, return_m, return_x, mark_at}
 use Rattle.acceptance.specs.Rules.{instruction_at, Accepts}
 use Rattle.instructions.specs.Successors.{next_address, target_address, m_after, x_after, kind_number}
@@ -56,6 +56,6 @@ FlowRule Flow.Halt marks base i mark next target = Unit {0}
 abbrev pub SuccessorRules : Type 0
 SuccessorRules =
     (image marks : List ℕ) (base reset at : ℕ) (i : Instruction) → Accepts image marks base reset → at < length marks
-    → is_start (get_or marks at 0) ≡ true → instruction_at image marks at ≡ Decoded.Whole i
+    → is_start (get_or marks at 0) ≡ true → instruction_at image marks at ≡ Ok i
     → FlowRule i.entry.flow marks base i (get_or marks at 0) (next_address (base + at) i.length)
     (target_address i (base + at))

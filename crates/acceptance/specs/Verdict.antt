@@ -2,15 +2,14 @@
 -- lowest, for 5, 6, 7, 10, 8, 9. It also returns the offset of that start (of the lowest bad mark for 4; 0 for 1, 2,
 -- 3).'
 -- Assumes nothing.
-use Rattle.std.specs.Prelude.{◌≡◌, ℕ, ◌+◌, ◌-◌, Bool, true, not, ◌&&◌, List, [], ◌∷◌, ◌++◌, eqb, length, get_or}
+use Rattle.types.specs.declared.code.Undecoded.{Undecoded}
+use Rattle.std.specs.Prelude.{◌≡◌, ℕ, ◌+◌, ◌-◌, Bool, true, not, ◌&&◌, List, [], ◌∷◌, ◌++◌, eqb, length, get_or, Ok, Err}
 use Rattle.prelude.specs.First.{first_from}
 use Rattle.types.specs.declared.code.Instruction.{Instruction}
-use Rattle.types.specs.declared.code.Decoded.{Decoded}
+use Rattle.types.specs.Answers.{Decoded, refused_at, TestResult, Verdict}
 use Rattle.types.specs.declared.refusals.Refusal.{Refusal}
-use Rattle.types.specs.declared.refusals.TestResult.{TestResult}
 use Rattle.types.specs.declared.rules.Requirement.{Requirement}
 use Rattle.types.specs.declared.rules.Requirements.{Requirements}
-use Rattle.types.specs.declared.rules.Verdict.{Verdict}
 use Rattle.prelude.specs.Choice.{pick}
 use Rattle.acceptance.specs.Image.{is_start, is_formed, length_fits, base_fits, mark_at, reset_fits}
 use Rattle.types.specs.Refusals.{refusal_number, Tests, first_refusal, is_failed, answered}
@@ -52,14 +51,14 @@ whole_tests marks base at i =
 
 -- 5: 'code at a start is not carried'; 6: 'instruction, or the code behind a prefix, runs past the image'
 unfoldable pub decoded_result : List ℕ → ℕ → ℕ → Decoded → TestResult
-decoded_result marks base at Decoded.NotCarried = TestResult.Failed Refusal.Code
-decoded_result marks base at Decoded.CutOff = TestResult.Failed Refusal.CutOff
-decoded_result marks base at (Decoded.Whole i) = first_refusal (whole_tests marks base at i)
+decoded_result marks base at (Err Undecoded.NotCarried) = Err Refusal.Code
+decoded_result marks base at (Err Undecoded.CutOff) = Err Refusal.CutOff
+decoded_result marks base at (Ok i) = first_refusal (whole_tests marks base at i)
 
 -- the first rule that is broken at a place; where no instruction starts none is
 unfoldable pub start_result : List ℕ → List ℕ → ℕ → ℕ → TestResult
 start_result image marks base at =
-    pick (start_at marks at) (decoded_result marks base at (instruction_at image marks at)) TestResult.Passed
+    pick (start_at marks at) (decoded_result marks base at (instruction_at image marks at)) (Ok tt)
 
 -- a place that breaks a rule, and the lowest such, or the place past the marks
 abbrev pub broken_at : List ℕ → List ℕ → ℕ → ℕ → Bool
@@ -72,8 +71,8 @@ bad_start image marks base = first_from (broken_at image marks base) 0 (length m
 unfoldable pub starts_verdict : List ℕ → List ℕ → ℕ → Verdict
 starts_verdict image marks base =
     answered (start_result image marks base (bad_start image marks base))
-    (λ why. Verdict.Refused why (bad_start image marks base))
-    Verdict.Accepted
+    (λ why. refused_at why (bad_start image marks base))
+    (Ok tt)
 
 -- 4: 'a mark not of the form above', and the lowest such
 abbrev pub unformed_at : List ℕ → ℕ → Bool
@@ -103,9 +102,9 @@ offset_of marks why = pick (eqb (refusal_number why) 4) (bad_mark marks) 0
 unfoldable pub verdict : List ℕ → List ℕ → ℕ → ℕ → Verdict
 verdict image marks base reset =
     answered (first_refusal (marks_tests (length image) marks base reset))
-    (λ why. Verdict.Refused why (offset_of marks why))
+    (λ why. refused_at why (offset_of marks why))
     (starts_verdict image marks base)
 
 -- the check accepts an image, at some reset address
 abbrev pub IsAccepted : List ℕ → List ℕ → ℕ → Type 0
-IsAccepted image marks base = (reset : ℕ) × (verdict image marks base reset ≡ Verdict.Accepted)
+IsAccepted image marks base = (reset : ℕ) × (verdict image marks base reset ≡ Ok tt)

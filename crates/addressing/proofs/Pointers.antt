@@ -1,15 +1,12 @@
 -- Addresses that memory holds, by what the reads of their bytes gave.
 -- Assumes nothing.
+use Rattle.std.specs.Prelude.{Some, None, Option}
 use mathlib.Core.Path.{◌≡◌, refl, sym, ap, ◌∙◌}
 use mathlib.Core.Bool.{Bool, true, false}
 use mathlib.Core.Logic.{◌⊎◌, ⊎_elim}
 use Prim.Native.Nat.{ℕ, ◌≤◌, ◌<◌}
 use native.Mathlib.Omega.{arith}
-use Rattle.addressing.specs.declared.reach.AddressRead.{AddressRead}
-use Rattle.addressing.specs.declared.reach.DataRead.{DataRead}
 use Rattle.addressing.specs.Found.{address_read, data_read, alone_of, is_address, residence_by, reached_by, found_at}
-use Rattle.memory.specs.declared.reads.WordRead.{WordRead}
-use Rattle.memory.specs.declared.reads.LongRead.{LongRead}
 use Rattle.memory.specs.Reads.{word_read, long_read}
 use Rattle.memory.proofs.Views.{word_done, word_unmapped, long_done, long_unmapped}
 use Rattle.types.specs.declared.code.Accumulator.{Accumulator as Named}
@@ -34,76 +31,76 @@ pub indexed : (short wanted : Bool) (v x r : ℕ) → short ≡ wanted → v ≡
 indexed short wanted v x r e e' h = (rw (← e, ← e') h.0, omega (arith, most short))
 
 module _ (m : Memory) (at : ℕ) (f : ℕ → ℕ) where
-  module _ (w : WordRead) (e : w ≡ word_read (evaluate m (read_word at))) where
-    pub word_found : (v : ℕ) → w ≡ WordRead.Word v
-        → AddressRead.At (f v) ≡ address_read (evaluate m (read_word at >>= (λ p. ret (f p))))
+  module _ (w : Option ℕ) (e : w ≡ word_read (evaluate m (read_word at))) where
+    pub word_found : (v : ℕ) → w ≡ Some v
+        → Some (f v) ≡ address_read (evaluate m (read_word at >>= (λ p. ret (f p))))
     word_found v e' =
         ap address_read
         (sym (after_done m (read_word at) (λ p. ret (f p)) v (word_done (evaluate m (read_word at)) w v e e')))
 
-    pub word_missing : w ≡ WordRead.Unmapped
-        → AddressRead.Unmapped ≡ address_read (evaluate m (read_word at >>= (λ p. ret (f p))))
+    pub word_missing : w ≡ None
+        → None ≡ address_read (evaluate m (read_word at >>= (λ p. ret (f p))))
     word_missing e' =
         ap address_read
         (sym (after_unmapped m (read_word at) (λ p. ret (f p)) (word_unmapped (evaluate m (read_word at)) w e e')))
 
-  module _ (w : LongRead) (e : w ≡ long_read (evaluate m (read_long at))) where
-    pub long_found : (v : ℕ) → w ≡ LongRead.Long v
-        → AddressRead.At (f v) ≡ address_read (evaluate m (read_long at >>= (λ p. ret (f p))))
+  module _ (w : Option ℕ) (e : w ≡ long_read (evaluate m (read_long at))) where
+    pub long_found : (v : ℕ) → w ≡ Some v
+        → Some (f v) ≡ address_read (evaluate m (read_long at >>= (λ p. ret (f p))))
     long_found v e' =
         ap address_read
         (sym (after_done m (read_long at) (λ p. ret (f p)) v (long_done (evaluate m (read_long at)) w v e e')))
 
-    pub long_missing : w ≡ LongRead.Unmapped
-        → AddressRead.Unmapped ≡ address_read (evaluate m (read_long at >>= (λ p. ret (f p))))
+    pub long_missing : w ≡ None
+        → None ≡ address_read (evaluate m (read_long at >>= (λ p. ret (f p))))
     long_missing e' =
         ap address_read
         (sym (after_unmapped m (read_long at) (λ p. ret (f p)) (long_unmapped (evaluate m (read_long at)) w e e')))
 
-module _ (m : Memory) (at : ℕ) (w : LongRead) (e : w ≡ long_read (evaluate m (read_long at))) where
-  pub long_itself : (v : ℕ) → w ≡ LongRead.Long v → AddressRead.At v ≡ address_read (evaluate m (read_long at))
+module _ (m : Memory) (at : ℕ) (w : Option ℕ) (e : w ≡ long_read (evaluate m (read_long at))) where
+  pub long_itself : (v : ℕ) → w ≡ Some v → Some v ≡ address_read (evaluate m (read_long at))
   long_itself v e' = ap address_read (sym (long_done (evaluate m (read_long at)) w v e e'))
 
-  pub long_nowhere : w ≡ LongRead.Unmapped → AddressRead.Unmapped ≡ address_read (evaluate m (read_long at))
+  pub long_nowhere : w ≡ None → None ≡ address_read (evaluate m (read_long at))
   long_nowhere e' = ap address_read (sym (long_unmapped (evaluate m (read_long at)) w e e'))
 
-address_done : (o : Outcome ℕ) (a : AddressRead) (v : ℕ) → a ≡ address_read o → a ≡ AddressRead.At v → o ≡ done v
+address_done : (o : Outcome ℕ) (a : Option ℕ) (v : ℕ) → a ≡ address_read o → a ≡ Some v → o ≡ done v
 address_done (done u) a v e e' = cc
 address_done unmapped a v e e' = cc
 
-address_unmapped : (o : Outcome ℕ) (a : AddressRead) → a ≡ address_read o → a ≡ AddressRead.Unmapped → o ≡ unmapped
+address_unmapped : (o : Outcome ℕ) (a : Option ℕ) → a ≡ address_read o → a ≡ None → o ≡ unmapped
 address_unmapped (done u) a e e' = cc
 address_unmapped unmapped a e e' = cc
 
 -- data at an address that an action comes to
-module _ (m : Memory) (act : Act ℕ) (short : Bool) (a : AddressRead) (e : a ≡ address_read (evaluate m act)) where
+module _ (m : Memory) (act : Act ℕ) (short : Bool) (a : Option ℕ) (e : a ≡ address_read (evaluate m act)) where
   abbrev itself : ℕ → Act Data
   itself at = ret (data_at at 0)
 
   abbrev then : ℕ → Act Data
   then at = read_data short at >>= (λ v. ret (data_at at v))
 
-  alone_nowhere : a ≡ AddressRead.Unmapped → DataRead.Unmapped ≡ data_read (evaluate m (act >>= itself))
+  alone_nowhere : a ≡ None → None ≡ data_read (evaluate m (act >>= itself))
   alone_nowhere e' = ap data_read (sym (after_unmapped m act itself (address_unmapped (evaluate m act) a e e')))
 
-  alone_found : (at : ℕ) → a ≡ AddressRead.At at → DataRead.Found (data_at at 0) ≡ data_read
+  alone_found : (at : ℕ) → a ≡ Some at → Some (data_at at 0) ≡ data_read
       (evaluate m (act >>= itself))
   alone_found at e' = ap data_read (sym (after_done m act itself at (address_done (evaluate m act) a at e e')))
 
-  there_nowhere : a ≡ AddressRead.Unmapped → DataRead.Unmapped ≡ data_read (evaluate m (act >>= then))
+  there_nowhere : a ≡ None → None ≡ data_read (evaluate m (act >>= then))
   there_nowhere e' = ap data_read (sym (after_unmapped m act then (address_unmapped (evaluate m act) a e e')))
 
-  module _ (at : ℕ) (e' : a ≡ AddressRead.At at) (w : WordRead)
+  module _ (at : ℕ) (e' : a ≡ Some at) (w : Option ℕ)
       (read : w ≡ word_read (evaluate m (read_data short at))) where
     reached : evaluate m (act >>= then) ≡ evaluate m (then at)
     reached = after_done m act then at (address_done (evaluate m act) a at e e')
 
-    there_found : (v : ℕ) → w ≡ WordRead.Word v → DataRead.Found (data_at at v) ≡ data_read (evaluate m (act >>= then))
+    there_found : (v : ℕ) → w ≡ Some v → Some (data_at at v) ≡ data_read (evaluate m (act >>= then))
     there_found v e'' =
         ap data_read (sym (reached ∙ after_done m (read_data short at) (λ u. ret (data_at at u)) v
         (word_done (evaluate m (read_data short at)) w v read e'')))
 
-    there_missing : w ≡ WordRead.Unmapped → DataRead.Unmapped ≡ data_read (evaluate m (act >>= then))
+    there_missing : w ≡ None → None ≡ data_read (evaluate m (act >>= then))
     there_missing e'' =
         ap data_read (sym (reached ∙ after_unmapped m (read_data short at) (λ u. ret (data_at at u))
         (word_unmapped (evaluate m (read_data short at)) w read e'')))
@@ -113,26 +110,26 @@ module _ (m : Memory) (mode : Mode) (r : Registers) (short : Bool) (operand : �
   abbrev act : Act ℕ
   act = address_of mode r operand
 
-  module _ (a : AddressRead) (e : a ≡ address_read (evaluate m act)) where
-    pub data_nowhere : (alone : Bool) → a ≡ AddressRead.Unmapped
-        → DataRead.Unmapped ≡ data_read (evaluate m (reached_by alone mode r short operand))
+  module _ (a : Option ℕ) (e : a ≡ address_read (evaluate m act)) where
+    pub data_nowhere : (alone : Bool) → a ≡ None
+        → None ≡ data_read (evaluate m (reached_by alone mode r short operand))
     data_nowhere true e' = alone_nowhere m act short a e e'
     data_nowhere false e' = there_nowhere m act short a e e'
 
-    pub address_found : (alone : Bool) → alone ≡ true → (at : ℕ) → a ≡ AddressRead.At at
-        → DataRead.Found (data_at at 0) ≡ data_read (evaluate m (reached_by alone mode r short operand))
+    pub address_found : (alone : Bool) → alone ≡ true → (at : ℕ) → a ≡ Some at
+        → Some (data_at at 0) ≡ data_read (evaluate m (reached_by alone mode r short operand))
     address_found true t at e' = alone_found m act short a e at e'
     address_found false t at e' = cc
 
-    module _ (at : ℕ) (e' : a ≡ AddressRead.At at) (w : WordRead)
+    module _ (at : ℕ) (e' : a ≡ Some at) (w : Option ℕ)
         (read : w ≡ word_read (evaluate m (read_data short at))) where
-      pub data_found : (alone : Bool) → alone ≡ false → (v : ℕ) → w ≡ WordRead.Word v
-          → DataRead.Found (data_at at v) ≡ data_read (evaluate m (reached_by alone mode r short operand))
+      pub data_found : (alone : Bool) → alone ≡ false → (v : ℕ) → w ≡ Some v
+          → Some (data_at at v) ≡ data_read (evaluate m (reached_by alone mode r short operand))
       data_found true t v e'' = cc
       data_found false t v e'' = there_found m act short a e at e' w read v e''
 
-      pub data_missing : (alone : Bool) → alone ≡ false → w ≡ WordRead.Unmapped
-          → DataRead.Unmapped ≡ data_read (evaluate m (reached_by alone mode r short operand))
+      pub data_missing : (alone : Bool) → alone ≡ false → w ≡ None
+          → None ≡ data_read (evaluate m (reached_by alone mode r short operand))
       data_missing true t e'' = cc
       data_missing false t e'' = there_missing m act short a e at e' w read e''
 

@@ -1,9 +1,6 @@
 -- What an action comes to, as the code says it by value, and where the code looks for what is asked.
 -- Assumes nothing.
-use Rattle.std.specs.Prelude.{ℕ, Bool, true, false}
-use Rattle.addressing.specs.declared.reach.AddressRead.{AddressRead}
-use Rattle.addressing.specs.declared.reach.DataRead.{DataRead}
-use Rattle.memory.specs.declared.reads.WordRead.{WordRead}
+use Rattle.std.specs.Prelude.{ℕ, Bool, true, false, Some, None, Option}
 use Rattle.types.specs.declared.code.Mode.{Mode}
 use Rattle.types.specs.declared.code.Accumulator.{Accumulator as Named}
 use Rattle.types.specs.declared.machine.OperandUse.{OperandUse}
@@ -15,18 +12,18 @@ use Rattle.semantics.specs.Addressing.{bits, data_at, accumulator_of, address_of
 use Rattle.prelude.specs.Choice.{pick}
 use Rattle.semantics.specs.Memory.{Act, ret, ◌>>=◌, Outcome, done, unmapped}
 
-abbrev pub address_read : Outcome ℕ → AddressRead
-address_read (done v) = AddressRead.At v
-address_read unmapped = AddressRead.Unmapped
+abbrev pub address_read : Outcome ℕ → Option ℕ
+address_read (done v) = Some v
+address_read unmapped = None
 
-abbrev pub data_read : Outcome Data → DataRead
-data_read (done d) = DataRead.Found d
-data_read unmapped = DataRead.Unmapped
+abbrev pub data_read : Outcome Data → Option Data
+data_read (done d) = Some d
+data_read unmapped = None
 
 -- data alone
-abbrev pub alone_of : WordRead → DataRead
-alone_of (WordRead.Word v) = DataRead.Found (data_at 0 v)
-alone_of WordRead.Unmapped = DataRead.Unmapped
+abbrev pub alone_of : Option ℕ → Option Data
+alone_of (Some v) = Some (data_at 0 v)
+alone_of None = None
 
 -- whether the address alone is asked
 abbrev pub is_address : OperandUse → Bool

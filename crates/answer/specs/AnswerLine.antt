@@ -1,8 +1,7 @@
 -- 01, 'The mark list', its last paragraph: 'The program check reads an image file and a list file and prints one line'.
 -- Assumes nothing.
-use Rattle.std.specs.Prelude.{ℕ, ◌≤◌, ◌&&◌, ◌≡◌, List, [], ◌∷◌, ◌++◌, leb, length, drop}
-use Rattle.types.specs.declared.rules.Verdict.{Verdict}
-use Rattle.types.specs.declared.lists.ListRead.{ListRead}
+use Rattle.std.specs.Prelude.{ℕ, ◌≤◌, ◌&&◌, ◌≡◌, List, [], ◌∷◌, ◌++◌, leb, length, drop, Ok, Err}
+use Rattle.types.specs.Answers.{Verdict, ListRead}
 use Rattle.prelude.specs.Choice.{pick}
 use Rattle.text.specs.Digits.{digits}
 use Rattle.types.specs.Refusals.{refusal_number}
@@ -18,16 +17,16 @@ list_limit = 61_440
 
 -- 'A and the number of starts', or 'R, number, offset'
 unfoldable pub answer_by : Verdict → List ℕ → FileAnswer
-answer_by Verdict.Accepted marks = FileAnswer.Accepted (start_count marks)
-answer_by (Verdict.Refused why offset) marks = FileAnswer.Refused why offset
+answer_by (Ok _) marks = FileAnswer.Accepted (start_count marks)
+answer_by (Err r) marks = FileAnswer.Refused r.why r.offset
 
 unfoldable pub verdict_answer : List ℕ → List ℕ → ℕ → ℕ → FileAnswer
 verdict_answer image marks base reset = answer_by (verdict image marks base reset) marks
 
 -- a list that is refused has no offset ('0 where none is given'); else its marks, base and reset are the check's
 unfoldable pub answer_of : ListRead → List ℕ → List ℕ → FileAnswer
-answer_of (ListRead.NotRead why) image text = FileAnswer.Refused why 0
-answer_of (ListRead.Read h) image text = verdict_answer image (marks_of (address_digits text) h text) h.base h.reset
+answer_of (Err why) image text = FileAnswer.Refused why 0
+answer_of (Ok h) image text = verdict_answer image (marks_of (address_digits text) h text) h.base h.reset
 
 -- the list is read for as many marks as the image has bytes
 unfoldable pub list_answer : List ℕ → List ℕ → FileAnswer
@@ -57,7 +56,7 @@ unread_line = 0x4C ∷ line_end ∷ []
 unfoldable pub line_for : FileAnswer → List ℕ
 line_for FileAnswer.Unread = unread_line
 line_for (FileAnswer.Accepted count) = letter_field 0x41 count line_end
-line_for (FileAnswer.Refused why offset) = refused_line (refusal_number why) offset
+line_for (Err r) = refused_line (refusal_number r.why) r.offset
 
 -- the line for the bytes of an image file and of a list file
 unfoldable pub answer_line : List ℕ → List ℕ → List ℕ

@@ -1,6 +1,7 @@
 -- From what is found to the answer: whether the routines fit, whether the marks that were closed up are admitted, and
 -- what both say of the call.
 -- Assumes nothing.
+use Rattle.std.specs.Prelude.{Ok, Err}
 use mathlib.Core.Path.{◌≡◌, refl, sym, ap, subst, ◌∙◌}
 use mathlib.Core.Logic.{◌⊎◌, inl, inr}
 use mathlib.Core.Bool.{Bool, true, false, true≢false, ◌&&◌}
@@ -11,8 +12,7 @@ use borrow.Author.Tests.{eq-eqb, ne_eqb, ltb-true, ltb-false}
 use lib.Dec.{ltb, leb}
 use lib.ListN.{length, get_or, drop, drop_of_length-le, get_or-eq_default}
 use Rattle.types.specs.declared.refusals.Refusal.{Refusal}
-use Rattle.types.specs.declared.refusals.TestResult.{TestResult}
-use Rattle.types.specs.declared.rules.Verdict.{Verdict}
+use Rattle.types.specs.Answers.{TestResult, Verdict}
 use Rattle.types.specs.Addresses.{address_limit}
 use Rattle.types.specs.Refusals.{Tests, first_refusal}
 use Rattle.prelude.proofs.First.{Passed, passed_to, passed_all}
@@ -91,8 +91,8 @@ module _ (image : List ℕ) (base reset : ℕ) (routines marks : List ℕ) (resu
     where
       by : (v : Verdict) → verdict image marks base reset ≡ v
           → false ≡ (accepted_by v && stands_in routines marks && all_are_listed image marks base routines)
-      by Verdict.Accepted e = absurd (other (is-result ∙ ap packed_verdict e))
-      by (Verdict.Refused why at) e = refl
+      by (Ok _) e = absurd (other (is-result ∙ ap packed_verdict e))
+      by (Err r) e = refl
 
   pub accepted_then : result ≡ 0 → StandsIn routines marks → (listed : Bool)
       → listed ≡ all_are_listed image marks base routines → listed ≡ is_admitted image base reset routines marks
@@ -110,18 +110,18 @@ module _ (image : List ℕ) (base reset : ℕ) (text marks : List ℕ) where
   abbrev Answers : TestResult → List ℕ → Type 0
   Answers so after = (so ≡ built image base reset text marks) × (after ≡ marks_built image base reset text marks)
 
-  refused_so : (why : Refusal) → built image base reset text marks ≡ TestResult.Failed why
-      → Answers (TestResult.Failed why) marks
+  refused_so : (why : Refusal) → built image base reset text marks ≡ Err why
+      → Answers (Err why) marks
   refused_so why e = (sym e, sym (refused_keeps image base reset text marks why e))
 
-  pub form_fails : (so : TestResult) (why : Refusal) → so ≡ first_refusal form → so ≡ TestResult.Failed why
+  pub form_fails : (so : TestResult) (why : Refusal) → so ≡ first_refusal form → so ≡ Err why
       → Answers so marks
   unfolding built
   form_fails so why is-so failed =
       let e : so ≡ built image base reset text marks = ends form _ is-so failed in
       (e, sym (refused_keeps image base reset text marks why (sym e ∙ failed)))
 
-  module _ (passed : first_refusal form ≡ TestResult.Passed) where
+  module _ (passed : first_refusal form ≡ Ok tt) where
     held : AllHold form
     held = shown form passed
 
@@ -131,7 +131,7 @@ module _ (image : List ℕ) (base reset : ℕ) (text marks : List ℕ) where
     pub ends_low : base + length image ≤ address_limit
     ends_low = base_whole base (length image) (list_base (has_old_lines text) base (length image) held.1.1.0)
 
-    pub not_fit : routines_fit base (length image) text ≡ false → Answers (TestResult.Failed Refusal.Routines) marks
+    pub not_fit : routines_fit base (length image) text ≡ false → Answers (Err Refusal.Routines) marks
     not_fit fit =
         refused_so Refusal.Routines (routines_refuse image base reset text marks passed fit)
 
@@ -147,12 +147,12 @@ module _ (image : List ℕ) (base reset : ℕ) (text marks : List ℕ) where
           (subst (λ l. Closed image base reset l made) listed c)
 
       pub not_admitted : is_admitted image base reset routines made ≡ false
-          → Answers (TestResult.Failed Refusal.Routines) marks
+          → Answers (Err Refusal.Routines) marks
       not_admitted h =
           refused_so Refusal.Routines
           (worked_refused image base reset text marks made limits lacks_nothing (rw listed at h)).0
 
-      pub admitted : is_admitted image base reset routines made ≡ true → Answers TestResult.Passed made
+      pub admitted : is_admitted image base reset routines made ≡ true → Answers (Ok tt) made
       admitted h =
           let done = worked_delivered image base reset text marks made limits lacks_nothing (rw listed at h) in
           (sym done.0, sym done.1)

@@ -1,5 +1,7 @@
 -- What is put behind a start is what the start requires: by the flow of its instruction, and by what is read there.
 -- Assumes nothing.
+use Rattle.types.specs.declared.code.Undecoded.{Undecoded}
+use Rattle.std.specs.Prelude.{Ok, Err}
 use mathlib.Core.Path.{◌≡◌, ap, ◌∙◌}
 use mathlib.Core.List.{List}
 use Prim.Native.Nat.{ℕ, ◌+◌}
@@ -69,15 +71,15 @@ read_by image at mark m x here is_m is_x is-layout =
 
 module _ (image marks : List ℕ) (base at : ℕ) (here : LayoutRead)
     (there : instruction_at image marks at ≡ decoded_of (drop at image) here) where
-  pub behind_fits : (f : Layout) → here ≡ LayoutRead.Fits f
+  pub behind_fits : (f : Layout) → here ≡ Ok f
       → owed_behind image marks base at ≡ owed_there marks base at (instruction_of (drop at image) f)
   unfolding owed_of
   behind_fits f e = ap (owed_of marks base at) (there ∙ ap (decoded_of (drop at image)) e)
 
-  pub behind_uncarried : here ≡ LayoutRead.Uncarried → marks ≡ put_owed marks base (owed_behind image marks base at)
+  pub behind_uncarried : here ≡ Err Undecoded.NotCarried → marks ≡ put_owed marks base (owed_behind image marks base at)
   unfolding owed_of put_owed
   behind_uncarried e = rw (there, e)
 
-  pub behind_short : here ≡ LayoutRead.Short → marks ≡ put_owed marks base (owed_behind image marks base at)
+  pub behind_short : here ≡ Err Undecoded.CutOff → marks ≡ put_owed marks base (owed_behind image marks base at)
   unfolding owed_of put_owed
   behind_short e = rw (there, e)

@@ -2,6 +2,8 @@
 -- marking requires behind a start that has been gone through has a start then. So where the whole order has been gone
 -- through, nothing is lacking.
 -- Assumes nothing.
+use Rattle.types.specs.declared.code.Undecoded.{Undecoded}
+use Rattle.std.specs.Prelude.{Ok, Err}
 use mathlib.Core.Path.{◌≡◌, refl, sym, ap, subst, ◌∙◌}
 use mathlib.Core.Bool.{Bool, true, false, true≢false}
 use mathlib.Core.List.{List}
@@ -11,7 +13,7 @@ use borrow.Author.Tests.{eqb-true, eqb-false, leb-true, lt-ltb, le-leb, not-fals
 use lib.Dec.{eqb, leb}
 use lib.ListN.{length, get_or, length-set}
 use lib.Seq.{get_or-set_same, get_or-set_other}
-use Rattle.types.specs.declared.code.Decoded.{Decoded}
+use Rattle.types.specs.Answers.{Decoded}
 use Rattle.types.specs.declared.rules.Requirements.{Requirements}
 use Rattle.prelude.specs.Choice.{pick}
 use Rattle.prelude.proofs.Choice.{both_true}
@@ -183,9 +185,9 @@ module _ (image : List ℕ) (base reset : ℕ) (routines : List ℕ) where
     where
       by : (d : Decoded) → instruction_at image marks at ≡ d
           → (owed_of marks base at d ≡ owed_of others base at d) × AllMet others base (owed_of marks base at d)
-      by Decoded.NotCarried e = (refl, tt)
-      by Decoded.CutOff e = (refl, tt)
-      by (Decoded.Whole i) e = owed_met image base reset routines marks others v stands at s i listed e
+      by (Err Undecoded.NotCarried) e = (refl, tt)
+      by (Err Undecoded.CutOff) e = (refl, tt)
+      by (Ok i) e = owed_met image base reset routines marks others v stands at s i listed e
 
   -- the start at the reset address
   abbrev with_reset : List ℕ

@@ -1,16 +1,15 @@
 -- Marks that the check accepts are written, none of their lists being longer than the longest; which marks are lent
 -- makes no difference to those delivered.
 -- Assumes nothing.
+use Rattle.std.specs.Prelude.{Ok, Err}
 use mathlib.Core.Path.{◌≡◌, ap, sym, ◌∙◌}
 use mathlib.Core.List.{List, ◌++◌}
 use Prim.Native.Nat.{ℕ, ◌+◌, ◌≤◌}
 use native.Mathlib.Omega.{arith}
 use borrow.Author.Tests.{le-leb}
 use lib.ListN.{length, drop}
-use Rattle.types.specs.declared.lists.ListWritten.{ListWritten}
+use Rattle.types.specs.Answers.{ListWritten, refused_at, TestResult, Verdict}
 use Rattle.types.specs.declared.refusals.Refusal.{Refusal}
-use Rattle.types.specs.declared.refusals.TestResult.{TestResult}
-use Rattle.types.specs.declared.rules.Verdict.{Verdict}
 use Rattle.types.specs.Refusals.{first_refusal}
 use Rattle.acceptance.specs.Verdict.{marks_tests, offset_of, verdict}
 use Rattle.lists.specs.MarkList.{new_digits, list_text, write_tests, write_list, page_by, page_written}
@@ -26,12 +25,12 @@ use Rattle.builtlist.specs.BuiltList.{list_by, list_of, Accepted, longest_list}
 
 -- ---- marks that are written
 
-accepted_tests : (image marks : List ℕ) (base reset : ℕ) → verdict image marks base reset ≡ Verdict.Accepted
+accepted_tests : (image marks : List ℕ) (base reset : ℕ) → verdict image marks base reset ≡ Ok tt
     → AllHold (marks_tests (length marks) marks base reset)
 unfolding verdict
 accepted_tests image marks base reset e =
     let tests = marks_tests (length image) marks base reset in
-    let all = all_passed (first_refusal tests) (λ why. Verdict.Refused why (offset_of marks why))
+    let all = all_passed (first_refusal tests) (λ why. refused_at why (offset_of marks why))
     (λ why r. let z : ◌≡◌ {A = ℕ} 0 1 = cc in absurd (omega arith)) e in
     let held = shown tests all.0 in
     let same = (right_length (length image) (length marks) held.0).same in
@@ -42,7 +41,7 @@ module _ (marks : List ℕ) (base reset : ℕ) (accepted : Accepted marks base r
   text = list_text new_digits marks base reset
 
   pub written_whole : (page : List ℕ) → length text ≤ length page
-      → write_list marks base reset page ≡ ListWritten.Written (length text)
+      → write_list marks base reset page ≡ Ok (length text)
   unfolding write_list
   written_whole page room =
       let held = accepted_tests accepted.0 marks base reset accepted.1 in
@@ -54,19 +53,19 @@ module _ (marks : List ℕ) (base reset : ℕ) (accepted : Accepted marks base r
 
   -- what the writer answers where there is room, and the page then
   module _ (page : List ℕ) (room : longest_list ≤ length page) where
-    pub none_refused : (why : Refusal) → write_list marks base reset page ≡ ListWritten.NotWritten why → ⊥
+    pub none_refused : (why : Refusal) → write_list marks base reset page ≡ Err why → ⊥
     none_refused why e = absurd (omega (arith, ap size (sym e ∙ written_whole page (omega (arith, list_most, room)))))
       where
         size : ListWritten → ℕ
-        size (ListWritten.NotWritten why) = 0
-        size (ListWritten.Written n) = n + 1
+        size (Err why) = 0
+        size (Ok n) = n + 1
 
-    pub page_written_lem : (n : ℕ) → write_list marks base reset page ≡ ListWritten.Written n
+    pub page_written_lem : (n : ℕ) → write_list marks base reset page ≡ Ok n
         → (n ≡ length text) × (page_written marks base reset page ≡ text ++ drop n page)
     unfolding page_written page_by
     page_written_lem n e =
         let whole = written_whole page (omega (arith, list_most, room)) in
-        let same : ListWritten.Written n ≡ ListWritten.Written (length text) = sym e ∙ whole in
+        let same : ◌≡◌ {A = ListWritten} (Ok n) (Ok (length text)) = sym e ∙ whole in
         (cc, rw e)
 
 -- ---- marks that are lent
@@ -76,19 +75,19 @@ module _ (image : List ℕ) (base reset : ℕ) (text marks : List ℕ) (alike : 
   unfolding built
   same_answer = rw alike
 
-  pub same_marks : built image base reset text marks ≡ TestResult.Passed
+  pub same_marks : built image base reset text marks ≡ Ok tt
       → marks_built image base reset text marks ≡ marks_built image base reset text image
   same_marks e =
       least_only image base reset _ _ _ (delivers_least image base reset text marks e)
       (delivers_least image base reset text image (sym same_answer ∙ e))
 
-  pub refused_list : (why : Refusal) → built image base reset text marks ≡ TestResult.Failed why
+  pub refused_list : (why : Refusal) → built image base reset text marks ≡ Err why
       → line_for (FileAnswer.Refused why 0) ≡ list_of image base reset text
   unfolding list_of list_by
   refused_list why e = rw (← same_answer, e)
 
-  module _ (e : built image base reset text marks ≡ TestResult.Passed) where
-    pub delivered_accepted : verdict image (marks_built image base reset text marks) base reset ≡ Verdict.Accepted
+  module _ (e : built image base reset text marks ≡ Ok tt) where
+    pub delivered_accepted : verdict image (marks_built image base reset text marks) base reset ≡ Ok tt
     delivered_accepted = (delivers_least image base reset text marks e).admitted.passes
 
     pub delivered_list : list_text new_digits (marks_built image base reset text marks) base reset

@@ -1,5 +1,6 @@
 -- A list that is written is read by the program check as the marks delivered, which the check accepts.
 -- Assumes nothing.
+use Rattle.std.specs.Prelude.{Ok}
 use mathlib.Core.Path.{◌≡◌, refl, sym}
 use mathlib.Core.List.{List}
 use native.Mathlib.Omega.{arith}
@@ -7,8 +8,7 @@ use Prim.Native.Nat.{ℕ, ◌≤◌}
 use lib.ListN.{length, drop}
 use lib.Seq.{take_at}
 use Rattle.types.specs.declared.lists.Header.{Header}
-use Rattle.types.specs.declared.lists.ListRead.{ListRead}
-use Rattle.types.specs.declared.rules.Verdict.{Verdict}
+use Rattle.types.specs.Answers.{ListRead, Verdict}
 use Rattle.acceptance.specs.Image.{start_count}
 use Rattle.acceptance.specs.Verdict.{verdict}
 use Rattle.lists.specs.MarkList.{new_digits, list_text, read_list, marks_read, page_by, page_written}
@@ -23,7 +23,7 @@ use Rattle.builtlist.specs.BuiltList.{address_shown, built_list, WrittenAccepted
 use Rattle.builtlist.proofs.Lists.{written_whole, delivered_accepted, delivered_list}
 
 -- the list of marks that the check accepts is read as these marks, and accepted
-list_accepted : (image marks : List ℕ) (base reset : ℕ) → verdict image marks base reset ≡ Verdict.Accepted
+list_accepted : (image marks : List ℕ) (base reset : ℕ) → verdict image marks base reset ≡ Ok tt
     → length (list_text new_digits marks base reset) ≤ list_limit
     → answer_for image (list_text new_digits marks base reset) ≡ FileAnswer.Accepted (start_count marks)
 unfolding verdict_answer answer_by page_written page_by
@@ -34,7 +34,7 @@ list_accepted image marks base reset e short =
     let read = written_then_read marks base reset (length text) text image written (sym fits.same) in
     let same = take_at text (drop (length text) text) (length text) refl in
     let h : Header = record { base = base; length = length marks; reset = reset } in
-    let header : read_list text image ≡ ListRead.Read h = rw (written, same) at read.0 in
+    let header : read_list text image ≡ Ok h = rw (written, same) at read.0 in
     let as_read : marks_read text image ≡ marks = rw (written, same) at read.1 in
     let answer : FileAnswer.Accepted (start_count marks) ≡ list_answer image text =
     rw (as_read, e) at (list_taken image text image refl h header) in

@@ -1,9 +1,8 @@
 -- 02, R-6, of files: what the program marks writes for the bytes of an image file and of a routine file, and for two
 -- words, the base and the reset address.
 -- Assumes nothing.
-use Rattle.std.specs.Prelude.{◌≡◌, ℕ, ◌+◌, ◌*◌, ◌≤◌, Bool, true, ◌&&◌, List, eqb, leb, length}
-use Rattle.types.specs.declared.refusals.TestResult.{TestResult}
-use Rattle.types.specs.declared.rules.Verdict.{Verdict}
+use Rattle.std.specs.Prelude.{◌≡◌, ℕ, ◌+◌, ◌*◌, ◌≤◌, Bool, true, ◌&&◌, List, eqb, leb, length, Ok, Err}
+use Rattle.types.specs.Answers.{TestResult, Verdict}
 use Rattle.prelude.specs.Choice.{pick}
 use Rattle.text.specs.Text.{starts_with}
 use Rattle.text.specs.Digits.{digits, value}
@@ -30,8 +29,8 @@ is_taken image base reset text =
 
 -- the mark list of the marks delivered, or the line of the program check for a number without an offset
 unfoldable pub list_by : TestResult → List ℕ → ℕ → ℕ → List ℕ
-list_by (TestResult.Failed why) marks base reset = line_for (FileAnswer.Refused why 0)
-list_by TestResult.Passed marks base reset = list_text new_digits marks base reset
+list_by (Err why) marks base reset = line_for (FileAnswer.Refused why 0)
+list_by (Ok _) marks base reset = list_text new_digits marks base reset
 
 -- the same for marks of the image's length. What they hold before makes no difference: here they hold the image's
 -- bytes.
@@ -47,7 +46,7 @@ built_list image base reset text =
 
 -- marks that the check accepts with some image
 abbrev pub Accepted : List ℕ → ℕ → ℕ → Type 0
-Accepted marks base reset = (image : List ℕ) × (verdict image marks base reset ≡ Verdict.Accepted)
+Accepted marks base reset = (image : List ℕ) × (verdict image marks base reset ≡ Ok tt)
 
 -- no list is longer: a first line of at most 22 bytes, and 17 for each start
 abbrev pub longest_list : ℕ
@@ -58,7 +57,7 @@ longest_list = 22 + 17 * image_limit
 abbrev pub WrittenAccepted : Type 0
 WrittenAccepted =
     (image base reset text : List ℕ) → is_taken image base reset text ≡ true
-    → built image (address_shown base) (address_shown reset) text image ≡ TestResult.Passed
+    → built image (address_shown base) (address_shown reset) text image ≡ Ok tt
     → length (built_list image base reset text) ≤ list_limit
     → answer_for image (built_list image base reset text)
     ≡ FileAnswer.Accepted (start_count (marks_built image (address_shown base) (address_shown reset) text image))

@@ -3,6 +3,8 @@
 -- by step, since its entries do not compute where the number of open calls is not known; case 10 is one computed step
 -- and the law of a step that changes nothing.
 -- Assumes nothing.
+use Rattle.types.specs.declared.machine.Completion.{Completion}
+use Rattle.std.specs.Prelude.{Ok, Err}
 use mathlib.Core.Path.{◌≡◌, refl, ap}
 use mathlib.Core.Bool.{Bool, true, false}
 use mathlib.Core.List.{List, [], ◌∷◌}
@@ -13,9 +15,8 @@ use lib.Dec.{eqb, ltb}
 use lib.ListN.{length, get_or, set}
 use lib.Seq.{get_or-set_same}
 use Rattle.types.specs.declared.machine.State.{State}
-use Rattle.types.specs.declared.machine.StepAnswer.{StepAnswer}
+use Rattle.types.specs.Answers.{StepAnswer, TestResult}
 use Rattle.types.specs.declared.machine.Stop.{Stop}
-use Rattle.types.specs.declared.refusals.TestResult.{TestResult}
 use Rattle.instructions.specs.CodePages.{plain, pages}
 use Rattle.instructions.specs.CodeMap.{entry_at}
 use Rattle.instructions.specs.Decode.{judged, decode_on, decode}
@@ -92,7 +93,7 @@ module _ (r : Row) where
 
   -- no run from a state and RAM is refused but for its steps
   abbrev Taken : State → List ℕ → Type 0
-  Taken s ram = (n : ℕ) → n ≤ step_limit → admission (on ram) s n ≡ TestResult.Passed
+  Taken s ram = (n : ℕ) → n ≤ step_limit → admission (on ram) s n ≡ Ok tt
 
   -- what is computed for a claim
   abbrev Computes : Claim → Type 0
@@ -102,7 +103,7 @@ module _ (r : Row) where
       Taken s ram × (asked ≤ step_limit) × RanTo s ram (executed (on ram) s asked) 0 asked calls after
   Computes (stops s ram stop steps calls after) =
       Taken s ram × ((k : ℕ) → RanTo s ram (executed (on ram) s (more steps (suc k))) stop steps calls after)
-  Computes (returns s ram) = Taken s ram × (step (on ram) s ≡ stepped StepAnswer.Completed s ram)
+  Computes (returns s ram) = Taken s ram × (step (on ram) s ≡ stepped (Ok Completion.Ordinary) s ram)
 
   ran_so : (s : State) (ram : List ℕ) (n end steps calls : ℕ) (after : List Named) → Taken s ram → n ≤ step_limit
       → RanTo s ram (executed (on ram) s n) end steps calls after → RanTo s ram (ran (on ram) s n) end steps calls after
@@ -234,17 +235,17 @@ module _ (v : Unspecified) where
       (rw (length_list_of call_limit v.entries) v.fewer_below))
 
   jsr : step (on (case6 v) (ram v 512)) (begun v 0xC000 0x01FF v.fewer)
-      ≡ stepped StepAnswer.Called (since 0xC004 0x01FD (v.fewer + 1)) pushed
+      ≡ stepped (Ok Completion.Call) (since 0xC004 0x01FD (v.fewer + 1)) pushed
   unfolding computed
   jsr = rw (room, same_m, same_x)
 
   rts : step (on (case6 v) pushed) (since 0xC004 0x01FD (v.fewer + 1))
-      ≡ stepped StepAnswer.Completed (since 0xC003 0x01FF (v.fewer + 1 - 1)) pushed
+      ≡ stepped (Ok Completion.Ordinary) (since 0xC003 0x01FF (v.fewer + 1 - 1)) pushed
   unfolding computed
   rts = rw (lt-ltb 0 (v.fewer + 1) (omega arith), last_opened_lem, same_m, same_x)
 
   stp : step (on (case6 v) pushed) (since 0xC003 0x01FF (v.fewer + 1 - 1))
-      ≡ stepped (StepAnswer.Stopped Stop.Halt) (since 0xC003 0x01FF (v.fewer + 1 - 1)) pushed
+      ≡ stepped (Err Stop.Halt) (since 0xC003 0x01FF (v.fewer + 1 - 1)) pushed
   unfolding computed
   stp = refl
 

@@ -2,6 +2,8 @@
 -- they were. Such a step is followed by itself: by induction a history of n such steps is its one event n times, and
 -- what such a list comes to, again by induction, is the start.
 -- Assumes nothing.
+use Rattle.types.specs.declared.machine.Completion.{Completion}
+use Rattle.std.specs.Prelude.{Ok, None}
 use mathlib.Core.Path.{◌≡◌, refl, ap, ◌∙◌}
 use mathlib.Core.Bool.{true, false}
 use mathlib.Core.List.{List, [], ◌∷◌}
@@ -9,10 +11,7 @@ use Prim.Native.Nat.{ℕ, zero, suc, ◌≤◌}
 use native.Mathlib.Omega.{arith}
 use lib.ListN.{replicate}
 use Rattle.types.specs.declared.machine.State.{State}
-use Rattle.types.specs.declared.machine.StepAnswer.{StepAnswer}
-use Rattle.types.specs.declared.refusals.TestResult.{TestResult}
-use Rattle.types.specs.declared.runs.End.{End}
-use Rattle.types.specs.declared.runs.RunAnswer.{RunAnswer}
+use Rattle.types.specs.Answers.{StepAnswer, ended_by, TestResult, End, RunAnswer}
 use Rattle.semantics.specs.Memory.{Memory}
 use Rattle.semantics.specs.Step.{Stepped, stepped, step}
 use Rattle.types.specs.Runs.{step_limit}
@@ -45,13 +44,13 @@ module _ (m : Memory) (s : State) (n : ℕ) (r : Stepped) (is : step m s ≡ r) 
 module _ (m : Memory) (s : State) where
   -- the event of such a step
   abbrev still : Event
-  still = known m s (stepped StepAnswer.Completed s m.ram)
+  still = known m s (stepped (Ok Completion.Ordinary) s m.ram)
 
   begins : (n : ℕ) → Every (λ e. (e.state ≡ s) × (e.ram ≡ m.ram)) (replicate n still)
   begins zero = tt
   begins (suc n) = ((refl, refl), begins n)
 
-  ends : (n : ℕ) → end_of (replicate n still) ≡ End.Done
+  ends : (n : ℕ) → end_of (replicate n still) ≡ None
   ends zero = refl
   ends (suc n) = ends n
 
@@ -71,20 +70,20 @@ module _ (m : Memory) (s : State) where
   ram_back zero = refl
   ram_back (suc n) = ram_back n
 
-  module _ (same : step m s ≡ stepped StepAnswer.Completed s m.ram) where
+  module _ (same : step m s ≡ stepped (Ok Completion.Ordinary) s m.ram) where
     repeated : (n : ℕ) → history m s n ≡ replicate n still
     unfolding history_within
     repeated zero = refl
     repeated (suc n) =
-        goes_by m s n (stepped StepAnswer.Completed s m.ram) same refl (replicate n still) (repeated n)
+        goes_by m s n (stepped (Ok Completion.Ordinary) s m.ram) same refl (replicate n still) (repeated n)
 
     -- a run that is not refused
-    run_back : (n : ℕ) → admission m s n ≡ TestResult.Passed
-        → ran m s n ≡ record { answer = RunAnswer.Ended End.Done n 0; state = s; ram = m.ram }
+    run_back : (n : ℕ) → admission m s n ≡ Ok tt
+        → ran m s n ≡ record { answer = ended_by None n 0; state = s; ram = m.ram }
     run_back n a =
         (admitted_ran m s n a).1 ∙ rw (repeated n, ends n, completes n, calls_none n, state_back n, ram_back n) refl
 
-    pub returning : ((n : ℕ) → n ≤ step_limit → admission m s n ≡ TestResult.Passed) → (n : ℕ) → Returns m s n
+    pub returning : ((n : ℕ) → n ≤ step_limit → admission m s n ≡ Ok tt) → (n : ℕ) → Returns m s n
     returning admitted n = record {
       begins = rw (repeated n) (begins n);
       end = rw (repeated n) (ends n);

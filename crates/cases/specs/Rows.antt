@@ -1,17 +1,13 @@
 -- What a row of the proved set says, and when it holds: an image with its marks, the check's verdict, the mark list,
 -- and runs of the machine on the image, all by 01's definitions.
 -- Assumes nothing.
-use Rattle.std.specs.Prelude.{◌≡◌, ℕ, zero, suc, ◌≤◌, ◌<◌, true, List, [], ◌∷◌, ◌++◌, length, get_or, drop}
+use Rattle.std.specs.Prelude.{◌≡◌, ℕ, zero, suc, ◌≤◌, ◌<◌, true, List, [], ◌∷◌, ◌++◌, length, get_or, drop, Ok, Err, None}
 use Prim.Native.Char.{code}
 use Prim.Native.String.{String, len, char_at}
-use Rattle.types.specs.declared.lists.ListRead.{ListRead}
-use Rattle.types.specs.declared.lists.ListWritten.{ListWritten}
-use Rattle.types.specs.declared.rules.Verdict.{Verdict}
+use Rattle.types.specs.Answers.{ListRead, ended_by, ListWritten, Verdict, End, RunAnswer}
 use Rattle.types.specs.declared.machine.Registers.{Registers}
 use Rattle.types.specs.declared.machine.Core.{Core}
 use Rattle.types.specs.declared.machine.State.{State}
-use Rattle.types.specs.declared.runs.End.{End}
-use Rattle.types.specs.declared.runs.RunAnswer.{RunAnswer}
 use Rattle.types.specs.Refusals.{refusal_number}
 use Rattle.acceptance.specs.Verdict.{verdict}
 use Rattle.lists.specs.MarkList.{read_list, marks_read, write_list, page_written}
@@ -96,20 +92,20 @@ pub record Row : Type 0 where
 
 -- a verdict with its number
 abbrev pub judged_as : Verdict → Judged
-judged_as Verdict.Accepted = accepted
-judged_as (Verdict.Refused why offset) = refused (refusal_number why) offset
+judged_as (Ok _) = accepted
+judged_as (Err r) = refused (refusal_number r.why) r.offset
 
 -- a text is read as the marks, base and reset
 abbrev pub IsRead : Row → List ℕ → Type 0
 IsRead r text =
     (lent : List ℕ) → length lent ≡ length r.marks
-    → (read_list text lent ≡ ListRead.Read (record { base = r.base; length = length r.marks; reset = r.reset }))
+    → (read_list text lent ≡ Ok (record { base = r.base; length = length r.marks; reset = r.reset }))
     × (marks_read text lent ≡ r.marks)
 
 -- the list is written for the marks, into every page that has room, and read
 pub record Listed (r : Row) (text : List ℕ) : Type 0 where
   pub written : (page : List ℕ) → length text ≤ length page
-      → (write_list r.marks r.base r.reset page ≡ ListWritten.Written (length text))
+      → (write_list r.marks r.base r.reset page ≡ Ok (length text))
       × (page_written r.marks r.base r.reset page ≡ text ++ drop (length text) page)
   pub read : IsRead r text
 
@@ -121,8 +117,8 @@ Shows s ram t left unchanged = (t ≡ s) × (left ≡ ram)
 
 -- the numbers of an answer; a refused run has none of them
 abbrev pub Answers : RunAnswer → ℕ → ℕ → ℕ → Type 0
-Answers (RunAnswer.NotRun why) end steps calls = ⊥
-Answers (RunAnswer.Ended e k c) end steps calls = (end_number e ≡ end) × (k ≡ steps) × (c ≡ calls)
+Answers (Err why) end steps calls = ⊥
+Answers (Ok e) end steps calls = (end_number e.end ≡ end) × (e.steps ≡ steps) × (e.calls ≡ calls)
 
 abbrev pub RanTo : State → List ℕ → Ran → ℕ → ℕ → ℕ → List Named → Type 0
 RanTo s ram r end steps calls after =
@@ -132,12 +128,12 @@ RanTo s ram r end steps calls after =
 -- which stops or calls, state and RAM are as given; a run of n steps, where that is not too many, answers so.
 pub record Returns (m : Memory) (s : State) (n : ℕ) : Type 0 where
   pub begins : Every (λ e. (e.state ≡ s) × (e.ram ≡ m.ram)) (history m s n)
-  pub end : end_of (history m s n) ≡ End.Done
+  pub end : end_of (history m s n) ≡ None
   pub completed : completed_steps (history m s n) ≡ n
   pub calls : calls_among (history m s n) ≡ 0
   pub state : state_left s (history m s n) ≡ s
   pub ram : ram_left m.ram (history m s n) ≡ m.ram
-  pub run : n ≤ step_limit → ran m s n ≡ record { answer = RunAnswer.Ended End.Done n 0; state = s; ram = m.ram }
+  pub run : n ≤ step_limit → ran m s n ≡ record { answer = ended_by None n 0; state = s; ram = m.ram }
 
 abbrev pub Claimed : Row → Claim → Type 0
 Claimed r (listed text) = Listed r text

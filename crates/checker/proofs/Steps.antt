@@ -1,10 +1,11 @@
 -- A place that breaks no rule lets the search go on behind its instruction: no start stands on the later bytes, and a
 -- place without a start breaks no rule. A step has 1 to 6 bytes.
 -- Assumes nothing.
+use Rattle.types.specs.declared.code.Undecoded.{Undecoded}
+use Rattle.std.specs.Prelude.{Ok, Err}
 use Rattle.std.proofs.Common.{◌≡◌, ℕ, ◌+◌, ◌<◌, ◌≤◌, Bool, true, false, ltb, List, get_or, drop, refl, arith, ltb-false}
 use Rattle.std.proofs.Common.{ltb-true}
-use Rattle.types.specs.declared.code.Decoded.{Decoded}
-use Rattle.types.specs.declared.refusals.TestResult.{TestResult}
+use Rattle.types.specs.Answers.{Decoded, TestResult}
 use Rattle.prelude.specs.Choice.{pick}
 use Rattle.acceptance.specs.Image.{mark_m, mark_x}
 use Rattle.acceptance.specs.Rules.{instruction_at, StartRules}
@@ -24,13 +25,13 @@ module _ (image marks : List ℕ) (at : ℕ) where
   bytes_few = by decoded_here refl
     where
       by : (d : Decoded) → decoded_here ≡ d → (1 ≤ length_of d) × (length_of d ≤ 6)
-      by (Decoded.Whole i) e =
+      by (Ok i) e =
           let d = decodes (drop at image) (mark_m (get_or marks at 0)) (mark_x (get_or marks at 0)) i e in (
             d.at_least,
             d.at_most,
           )
-      by Decoded.NotCarried e = (omega arith, omega arith)
-      by Decoded.CutOff e = (omega arith, omega arith)
+      by (Err Undecoded.NotCarried) e = (omega arith, omega arith)
+      by (Err Undecoded.CutOff) e = (omega arith, omega arith)
 
   pub step_bytes : (1 ≤ bytes_at image marks at) × (bytes_at image marks at ≤ 6)
   unfolding bytes_at
@@ -44,14 +45,14 @@ module _ (image marks : List ℕ) (base at : ℕ) where
   abbrev broken : ℕ → Bool
   broken = broken_at image marks base
 
-  not_broken : start_result image marks base at ≡ TestResult.Passed → broken at ≡ false
+  not_broken : start_result image marks base at ≡ Ok tt → broken at ≡ false
   not_broken h = rw h refl
 
   at_no_start : (k : ℕ) → start_at marks k ≡ false → broken k ≡ false
   unfolding start_result
   at_no_start k h = rw h refl
 
-  over : StartRules image marks base at → start_result image marks base at ≡ TestResult.Passed → Passed broken 0 at
+  over : StartRules image marks base at → start_result image marks base at ≡ Ok tt → Passed broken 0 at
       → Passed broken 0 (at + length_of (decoded_here image marks at))
   over r h p = rw r.whole (omega arith, λ k low high. by k high (ltb k at) (ltb at k) refl refl)
     where
@@ -62,7 +63,7 @@ module _ (image marks : List ℕ) (base at : ℕ) where
           let here : k ≡ at = omega (arith, ltb-false k at below, ltb-false at k above) in
           rw here (not_broken h)
 
-  pub stepped : start_result image marks base at ≡ TestResult.Passed
+  pub stepped : start_result image marks base at ≡ Ok tt
       → Passed broken 0 at → Passed broken 0 (at + bytes_at image marks at)
   unfolding bytes_at
   stepped h p = by (start_at marks at) refl
@@ -86,6 +87,6 @@ module _ (image marks : List ℕ) (base at : ℕ) (s : StartResult) (e : s ≡ s
   few_bytes = rw e (step_bytes image marks at)
 
   -- the search goes on behind a step that breaks no rule
-  pub goes_on : s.result ≡ TestResult.Passed → Passed (broken_at image marks base) 0 at
+  pub goes_on : s.result ≡ Ok tt → Passed (broken_at image marks base) 0 at
       → Passed (broken_at image marks base) 0 (at + s.bytes)
   goes_on none p = rw e (stepped image marks base at (step_result_lem none) p)

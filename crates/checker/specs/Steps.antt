@@ -1,8 +1,9 @@
 -- The check's way over the places of an image: from a place that breaks no rule it goes on behind the instruction that
 -- is read there, since no start stands on its later bytes.
 -- Assumes nothing.
-use Rattle.std.specs.Prelude.{ℕ, List}
-use Rattle.types.specs.declared.code.Decoded.{Decoded}
+use Rattle.types.specs.declared.code.Undecoded.{Undecoded}
+use Rattle.std.specs.Prelude.{ℕ, List, Ok, Err}
+use Rattle.types.specs.Answers.{Decoded}
 use Rattle.prelude.specs.Choice.{pick}
 use Rattle.acceptance.specs.Rules.{instruction_at}
 use Rattle.acceptance.specs.Verdict.{start_at, decoded_result, start_result}
@@ -10,9 +11,9 @@ use Rattle.checker.specs.declared.start.StartResult.{StartResult}
 
 -- how many bytes are stepped over
 abbrev pub length_of : Decoded → ℕ
-length_of (Decoded.Whole i) = i.length
-length_of Decoded.NotCarried = 1
-length_of Decoded.CutOff = 1
+length_of (Ok i) = i.length
+length_of (Err Undecoded.NotCarried) = 1
+length_of (Err Undecoded.CutOff) = 1
 
 unfoldable pub bytes_at : List ℕ → List ℕ → ℕ → ℕ
 bytes_at image marks at =

@@ -1108,21 +1108,21 @@ const BEHIND_89: [[u32; 16]; 16] = [
     NO_CODES,
 ];
 
-// The three pages: plain, behind 42, behind 89, each 16 rows of 16.
-pub type CodePages = [[[u32; 16]; 16]; 3];
+// The three pages: plain, behind 42, behind 89, each 16 rows of 16. A static, since a constant is copied at each use.
+static PAGES: [[[u32; 16]; 16]; 3] = [PLAIN, BEHIND_42, BEHIND_89];
 
-// The pages, made once by whoever lends them on: a constant array is copied at each use.
-pub fn pages() -> CodePages
-    ensures { result ≡ packed_pages }
+// The pages that the definition fixes.
+fn pages() -> &'static [[[u32; 16]; 16]; 3]
+    ensures { result.now ≡ packed_pages }
 {
-    [PLAIN, BEHIND_42, BEHIND_89]
+    &PAGES
 }
 
 // The number of a code of a page: its row by the upper four bits, its column by the lower four. Asks for one of the
 // three pages, for there is no number on another.
-pub fn packed_at(codes: &CodePages, page: usize, code: u8) -> u32
+pub fn packed_at(page: usize, code: u8) -> u32
     requires { page < 3 }
-    ensures { result ≡ packed_at codes.now page code }
+    ensures { result ≡ packed_at packed_pages page code }
 {
-    codes[page][(code / 16) as usize][(code % 16) as usize]
+    pages()[page][(code / 16) as usize][(code % 16) as usize]
 }

@@ -1,6 +1,8 @@
 -- A layout decides what is decoded, and keeps the bounds of the code map's rule. Both go by the tests of the
 -- definition, which are the tests of the decoder; the number of a page keeps the entry of the definition.
 -- Assumes nothing.
+use Rattle.types.specs.declared.code.Undecoded.{Undecoded}
+use Rattle.std.specs.Prelude.{Ok, Err}
 use mathlib.Core.Path.{◌≡◌, refl, sym, ◌∙◌}
 use mathlib.Core.Bool.{Bool, true, false}
 use mathlib.Core.List.{List, [], ◌∷◌}
@@ -12,7 +14,7 @@ use lib.Dec.{eqb, ltb, leb}
 use lib.ListN.{length, get_or, drop, length-drop}
 use lib.Seq.{get_or-drop}
 use Rattle.types.specs.declared.code.Instruction.{Instruction}
-use Rattle.types.specs.declared.code.Decoded.{Decoded}
+use Rattle.types.specs.Answers.{Decoded}
 use Rattle.prelude.specs.Choice.{pick}
 use Rattle.instructions.specs.CodeMap.{prefix_bytes, length_at}
 use Rattle.instructions.specs.CodePages.{plain}
@@ -28,9 +30,9 @@ use Rattle.decoder.specs.Layout.{fitted, layout_on, layout_read, code_on, code_r
 use Rattle.decoder.specs.Layout.{decoded_of, Fitting, FittingIn}
 
 chosen : (bytes : List ℕ) (f : Layout) (a b c : Bool)
-    → pick a (pick b (pick c (Decoded.Whole (instruction_of bytes f)) Decoded.CutOff) Decoded.NotCarried) Decoded.CutOff
+    → pick a (pick b (pick c (Ok (instruction_of bytes f)) (Err Undecoded.CutOff)) (Err Undecoded.NotCarried)) (Err Undecoded.CutOff)
     ≡ decoded_of bytes
-    (pick a (pick b (pick c (LayoutRead.Fits f) LayoutRead.Short) LayoutRead.Uncarried) LayoutRead.Short)
+    (pick a (pick b (pick c (Ok f) (Err Undecoded.CutOff)) (Err Undecoded.NotCarried)) (Err Undecoded.CutOff))
 chosen bytes f true true true = refl
 chosen bytes f true true false = refl
 chosen bytes f true false c = refl
@@ -62,7 +64,7 @@ module _ (page : ℕ) (bytes : List ℕ) (m x : ℕ) where
     where
       by : (a b c : Bool) → (unpacked at_code).carried ≡ b → leb long (length bytes) ≡ c
           → FittingIn (length bytes)
-          (pick a (pick b (pick c (LayoutRead.Fits the_frame) LayoutRead.Short) LayoutRead.Uncarried) LayoutRead.Short)
+          (pick a (pick b (pick c (Ok the_frame) (Err Undecoded.CutOff)) (Err Undecoded.NotCarried)) (Err Undecoded.CutOff))
       by true true true carried inside =
           let same = unpacked_at page (get_or bytes prefix 0) in
           let rule = carried_length page (get_or bytes prefix 0) m x (rw same at carried) in
@@ -81,7 +83,7 @@ pub fitting : (bytes : List ℕ) (m x : ℕ) → FittingIn (length bytes) (layou
 unfolding layout_read
 fitting bytes m x = fitting_on (page_of (get_or bytes 0 0)) bytes m x
 
-layout_nothing : (bytes : List ℕ) (m x : ℕ) → length bytes ≡ 0 → LayoutRead.Short ≡ layout_read bytes m x
+layout_nothing : (bytes : List ℕ) (m x : ℕ) → length bytes ≡ 0 → Err Undecoded.CutOff ≡ layout_read bytes m x
 unfolding layout_read layout_on
 layout_nothing [] m x h = refl
 layout_nothing (b ∷ bs) m x h = absurd (omega arith)
@@ -93,24 +95,24 @@ module _ (image : List ℕ) (at m x : ℕ) (layout-here : LayoutRead)
     pub fits_in : FittingIn (length image - at) layout-here
     fits_in = rw (is-layout, ← length-drop at image) (fitting (drop at image) m x)
 
-    pub fits_at : (f : Layout) → layout-here ≡ LayoutRead.Fits f → Fitting (length image - at) f
+    pub fits_at : (f : Layout) → layout-here ≡ Ok f → Fitting (length image - at) f
     fits_at f e = rw e at fits_in
 
-    pub decoded_fits : (f : Layout) (i : Instruction) → layout-here ≡ LayoutRead.Fits f
+    pub decoded_fits : (f : Layout) (i : Instruction) → layout-here ≡ Ok f
         → i ≡ instruction_of (drop at image) f
-        → Decoded.Whole i ≡ decode (drop at image) m x
+        → Ok i ≡ decode (drop at image) m x
     decoded_fits f i e same = rw (decoded_layout (drop at image) m x, ← is-layout, e, same)
 
-    pub decoded_uncarried : layout-here ≡ LayoutRead.Uncarried → Decoded.NotCarried ≡ decode (drop at image) m x
+    pub decoded_uncarried : layout-here ≡ Err Undecoded.NotCarried → Err Undecoded.NotCarried ≡ decode (drop at image) m x
     decoded_uncarried e = rw (decoded_layout (drop at image) m x, ← is-layout, e)
 
-    pub decoded_short : layout-here ≡ LayoutRead.Short → Decoded.CutOff ≡ decode (drop at image) m x
+    pub decoded_short : layout-here ≡ Err Undecoded.CutOff → Err Undecoded.CutOff ≡ decode (drop at image) m x
     decoded_short e = rw (decoded_layout (drop at image) m x, ← is-layout, e)
 
 -- a layout goes by its code
 layout_by_lem : (left n prefix m x : ℕ) (a b : Bool)
-    → pick a (pick b (layout_by left (CodeRead.Code n prefix) m x) LayoutRead.Uncarried) LayoutRead.Short
-    ≡ layout_by left (pick a (pick b (CodeRead.Code n prefix) CodeRead.Uncarried) CodeRead.Short) m x
+    → pick a (pick b (layout_by left (CodeRead.Code n prefix) m x) (Err Undecoded.NotCarried)) (Err Undecoded.CutOff)
+    ≡ layout_by left (pick a (pick b (CodeRead.Code n prefix) (Err Undecoded.NotCarried)) (Err Undecoded.CutOff)) m x
 layout_by_lem left n prefix m x true true = refl
 layout_by_lem left n prefix m x true false = refl
 layout_by_lem left n prefix m x false b = refl
@@ -141,7 +143,7 @@ one_prefix page h = rw (ne_eqb page 0 h)
 
 -- The definition's cases, a law each, for the code that walks them.
 module _ (image : List ℕ) (at : ℕ) where
-  pub layout_past : (m x : ℕ) → length image ≤ at → LayoutRead.Short ≡ layout_read (drop at image) m x
+  pub layout_past : (m x : ℕ) → length image ≤ at → Err Undecoded.CutOff ≡ layout_read (drop at image) m x
   layout_past m x h = layout_nothing (drop at image) m x (rw length-drop (omega arith))
 
   pub layout_at_lem : (looked : CodeRead) (m x : ℕ) (here : LayoutRead) → looked ≡ code_read (drop at image)
@@ -159,16 +161,16 @@ module _ (image : List ℕ) (at : ℕ) where
       rw same e
 
   module _ (page prefix : ℕ) (at-prefix : prefix ≡ prefix_bytes page) (at-page : page_of first ≡ page) where
-    pub coded_short : length image - at ≤ prefix → CodeRead.Short ≡ code_read (drop at image)
+    pub coded_short : length image - at ≤ prefix → Err Undecoded.CutOff ≡ code_read (drop at image)
     unfolding code_on
     coded_short few =
-        coded_on page CodeRead.Short at-page (rw (length-drop, ← at-prefix, le-ltb prefix (length image - at) few) refl)
+        coded_on page (Err Undecoded.CutOff) at-page (rw (length-drop, ← at-prefix, le-ltb prefix (length image - at) few) refl)
 
     module _ (n : ℕ) (some : prefix < length image - at)
         (at_code : n ≡ packed_at packed_pages page (get_or image (at + prefix) 0))
       where
         by_carried : (b : Bool) → (unpacked n).carried ≡ b
-            → pick b (CodeRead.Code n prefix) CodeRead.Uncarried ≡ code_on page (drop at image)
+            → pick b (CodeRead.Code n prefix) (Err Undecoded.NotCarried) ≡ code_on page (drop at image)
         unfolding code_on
         by_carried b e =
             rw (length-drop, ← at-prefix, lt-ltb prefix (length image - at) some, get_or-drop, ← at_code, e) refl
@@ -176,8 +178,8 @@ module _ (image : List ℕ) (at : ℕ) where
         pub coded_carried : (unpacked n).carried ≡ true → CodeRead.Code n prefix ≡ code_read (drop at image)
         coded_carried e = coded_on page (CodeRead.Code n prefix) at-page (by_carried true e)
 
-        pub coded_uncarried : (unpacked n).carried ≡ false → CodeRead.Uncarried ≡ code_read (drop at image)
-        coded_uncarried e = coded_on page CodeRead.Uncarried at-page (by_carried false e)
+        pub coded_uncarried : (unpacked n).carried ≡ false → Err Undecoded.NotCarried ≡ code_read (drop at image)
+        coded_uncarried e = coded_on page (Err Undecoded.NotCarried) at-page (by_carried false e)
 
   pub coded_plain : (n : ℕ) → at < length image → n ≡ packed_at packed_pages 0 first → (unpacked n).carried ≡ true
       → CodeRead.Code n 0 ≡ code_read (drop at image)
@@ -185,6 +187,6 @@ module _ (image : List ℕ) (at : ℕ) where
       coded_carried 0 0 refl (plain_page first (rw (← at_code) e)) n (omega arith) (rw add-zero at_code) e
 
   pub coded_nothing : (page : ℕ) → page ≡ page_of first → page ≡ 0 → at < length image
-      → (unpacked (packed_at packed_pages 0 first)).carried ≡ false → CodeRead.Uncarried ≡ code_read (drop at image)
+      → (unpacked (packed_at packed_pages 0 first)).carried ≡ false → Err Undecoded.NotCarried ≡ code_read (drop at image)
   coded_nothing page is-page zero inside e =
       coded_uncarried 0 0 refl (sym is-page ∙ zero) (packed_at packed_pages 0 first) (omega arith) (rw add-zero refl) e

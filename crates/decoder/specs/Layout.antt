@@ -1,9 +1,10 @@
 -- The layout of an instruction: what its code and the widths decide, before its operand is read. The check asks for the
 -- operand of a few instructions only.
 -- Assumes nothing.
-use Rattle.std.specs.Prelude.{ℕ, ◌≤◌, ◌<◌, List, ltb, leb, length, get_or}
+use Rattle.types.specs.declared.code.Undecoded.{Undecoded}
+use Rattle.std.specs.Prelude.{ℕ, ◌≤◌, ◌<◌, List, ltb, leb, length, get_or, Ok, Err}
 use Rattle.types.specs.declared.code.Instruction.{Instruction}
-use Rattle.types.specs.declared.code.Decoded.{Decoded}
+use Rattle.types.specs.Answers.{Decoded}
 use Rattle.prelude.specs.Choice.{pick}
 use Rattle.instructions.specs.CodeMap.{prefix_bytes, length_at}
 use Rattle.instructions.specs.Decode.{page_of, operand_of}
@@ -16,8 +17,8 @@ use Rattle.decoder.specs.declared.CodeRead.{CodeRead}
 unfoldable pub fitted : ℕ → ℕ → ℕ → ℕ → LayoutRead
 fitted left prefix n long =
     pick (unpacked n).carried
-    (pick (leb long left) (LayoutRead.Fits (record { number = n; prefix = prefix; length = long })) LayoutRead.Short)
-    LayoutRead.Uncarried
+    (pick (leb long left) (Ok (record { number = n; prefix = prefix; length = long })) (Err Undecoded.CutOff))
+    (Err Undecoded.NotCarried)
 
 -- what the bytes begin with, its code behind the prefix bytes of a page
 unfoldable pub layout_on : ℕ → List ℕ → ℕ → ℕ → LayoutRead
@@ -25,7 +26,7 @@ layout_on page bytes m x =
     pick (ltb (prefix_bytes page) (length bytes))
     (fitted (length bytes) (prefix_bytes page) (packed_at packed_pages page (get_or bytes (prefix_bytes page) 0))
     (length_at (unpacked (packed_at packed_pages page (get_or bytes (prefix_bytes page) 0))) m x))
-    LayoutRead.Short
+    (Err Undecoded.CutOff)
 
 -- what the bytes begin with, at the widths m and x
 unfoldable pub layout_read : List ℕ → ℕ → ℕ → LayoutRead
@@ -37,8 +38,8 @@ code_on page bytes =
     pick (ltb (prefix_bytes page) (length bytes))
     (pick (unpacked (packed_at packed_pages page (get_or bytes (prefix_bytes page) 0))).carried
     (CodeRead.Code (packed_at packed_pages page (get_or bytes (prefix_bytes page) 0)) (prefix_bytes page))
-    CodeRead.Uncarried)
-    CodeRead.Short
+    (Err Undecoded.NotCarried))
+    (Err Undecoded.CutOff)
 
 unfoldable pub code_read : List ℕ → CodeRead
 code_read bytes = code_on (page_of (get_or bytes 0 0)) bytes
@@ -47,9 +48,9 @@ code_read bytes = code_on (page_of (get_or bytes 0 0)) bytes
 abbrev pub layout_by : ℕ → CodeRead → ℕ → ℕ → LayoutRead
 layout_by left (CodeRead.Code n prefix) m x =
     pick (leb (length_at (unpacked n) m x) left)
-    (LayoutRead.Fits (record { number = n; prefix = prefix; length = length_at (unpacked n) m x })) LayoutRead.Short
-layout_by left CodeRead.Uncarried m x = LayoutRead.Uncarried
-layout_by left CodeRead.Short m x = LayoutRead.Short
+    (Ok (record { number = n; prefix = prefix; length = length_at (unpacked n) m x })) (Err Undecoded.CutOff)
+layout_by left (Err Undecoded.NotCarried) m x = Err Undecoded.NotCarried
+layout_by left (Err Undecoded.CutOff) m x = Err Undecoded.CutOff
 
 -- the instruction of a layout
 abbrev pub instruction_of : List ℕ → Layout → Instruction
@@ -60,15 +61,15 @@ instruction_of bytes f = record {
 }
 
 abbrev pub decoded_of : List ℕ → LayoutRead → Decoded
-decoded_of bytes (LayoutRead.Fits f) = Decoded.Whole (instruction_of bytes f)
-decoded_of bytes LayoutRead.Uncarried = Decoded.NotCarried
-decoded_of bytes LayoutRead.Short = Decoded.CutOff
+decoded_of bytes (Ok f) = Ok (instruction_of bytes f)
+decoded_of bytes (Err Undecoded.NotCarried) = Err Undecoded.NotCarried
+decoded_of bytes (Err Undecoded.CutOff) = Err Undecoded.CutOff
 
 -- the bounds that every layout keeps among so many bytes
 abbrev pub Fitting : ℕ → Layout → Type 0
 Fitting left f = (f.prefix ≤ 1) × (f.prefix < f.length) × (f.length ≤ 6) × (f.length ≤ left)
 
 abbrev pub FittingIn : ℕ → LayoutRead → Type 0
-FittingIn left (LayoutRead.Fits f) = Fitting left f
-FittingIn left LayoutRead.Uncarried = Unit {0}
-FittingIn left LayoutRead.Short = Unit {0}
+FittingIn left (Ok f) = Fitting left f
+FittingIn left (Err Undecoded.NotCarried) = Unit {0}
+FittingIn left (Err Undecoded.CutOff) = Unit {0}

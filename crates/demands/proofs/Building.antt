@@ -1,6 +1,7 @@
 -- R-6's claims: the number in a result is that of the answer, of which the theorems of `lists` speak; the marks left
 -- are those delivered.
 -- Assumes nothing.
+use Rattle.std.specs.Prelude.{Ok, Err}
 use mathlib.Core.Path.{◌≡◌, refl, sym, ap, ◌∙◌}
 use mathlib.Core.Logic.{◌↔◌}
 use mathlib.Core.List.{List}
@@ -8,8 +9,7 @@ use Prim.Native.Nat.{ℕ, ◌<◌}
 use native.Mathlib.Omega.{arith}
 use Rattle.packing.specs.Packed.{packed_verdict, packed_built, built_number}
 use Rattle.types.specs.declared.refusals.Refusal.{Refusal}
-use Rattle.types.specs.declared.refusals.TestResult.{TestResult}
-use Rattle.types.specs.declared.rules.Verdict.{Verdict}
+use Rattle.types.specs.Answers.{TestResult, Verdict}
 use Rattle.types.specs.Refusals.{refusal_number}
 use Rattle.acceptance.specs.Grounds.{AnswersBy}
 use Rattle.lists.specs.ListGrounds.{build_grounds}
@@ -23,13 +23,13 @@ use Rattle.demands.specs.Requests.{routines_of, AdmittedBy, ChecksBuilt, BuildsM
 use Rattle.demands.proofs.Calls.{verdict_of, built_of, build_number}
 
 -- an answer by its number
-none_refused : (a : TestResult) → packed_built a ≡ 0 → a ≡ TestResult.Passed
-none_refused TestResult.Passed e = refl
-none_refused (TestResult.Failed why) e = absurd (omega (arith, e, (refusal_range why).0))
+none_refused : (a : TestResult) → packed_built a ≡ 0 → a ≡ Ok tt
+none_refused (Ok _) e = refl
+none_refused (Err why) e = absurd (omega (arith, e, (refusal_range why).0))
 
-one_refused : (a : TestResult) (why : Refusal) → packed_built a ≡ refusal_number why → a ≡ TestResult.Failed why
-one_refused TestResult.Passed why e = absurd (omega (arith, e, (refusal_range why).0))
-one_refused (TestResult.Failed other) why e = ap TestResult.Failed (same_refusal other why e)
+one_refused : (a : TestResult) (why : Refusal) → packed_built a ≡ refusal_number why → a ≡ Err why
+one_refused (Ok _) why e = absurd (omega (arith, e, (refusal_range why).0))
+one_refused (Err other) why e = ap Err (same_refusal other why e)
 
 module _ (c : BuildCall) where
   abbrev image : List ℕ
@@ -58,9 +58,9 @@ module _ (c : BuildCall) where
   refused some = by (built_of c) refl (build_number c)
     where
       by : (a : TestResult) → built_of c ≡ a → built_number c.result ≡ packed_built a → c.marks_left ≡ marks
-      by (TestResult.Failed why) e told =
+      by (Err why) e told =
           c.kept.1 ∙ refused_keeps image c.base c.reset routines marks why e
-      by TestResult.Passed e told = absurd (omega (arith, some, told))
+      by (Ok _) e told = absurd (omega (arith, some, told))
 
   delivered : built_number c.result ≡ 0 → Least image c.base c.reset (routines_of c) c.marks_left
   delivered zero =
@@ -69,7 +69,7 @@ module _ (c : BuildCall) where
 
 checked : (c : BuildCall) (d : CheckCall) → built_number c.result ≡ 0 → ChecksBuilt c d → d.result ≡ 0
 checked c d zero same =
-    let accepted : verdict_of d ≡ Verdict.Accepted =
+    let accepted : verdict_of d ≡ Ok tt =
     rw (same.0, same.1, same.2, same.3) (delivered c zero).admitted.passes in
     d.kept ∙ ap packed_verdict accepted
 

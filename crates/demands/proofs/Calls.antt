@@ -10,12 +10,7 @@ use Rattle.loader.proofs.Answers.{read_fits}
 use Rattle.loader.proofs.Counts.{run_fits}
 use Rattle.packing.proofs.Unpacked.{verdict_unpacked, read_unpacked, written_unpacked, printed_unpacked}
 use Rattle.packing.proofs.Unpacked.{located_unpacked, built_unpacked, run_unpacked}
-use Rattle.types.specs.declared.rules.Verdict.{Verdict}
-use Rattle.types.specs.declared.lists.ListRead.{ListRead}
-use Rattle.types.specs.declared.lists.ListWritten.{ListWritten}
-use Rattle.types.specs.declared.pages.Printed.{Printed}
-use Rattle.types.specs.declared.probes.Located.{Located}
-use Rattle.types.specs.declared.refusals.TestResult.{TestResult}
+use Rattle.types.specs.Answers.{Verdict, ListRead, ListWritten, Printed, Located, TestResult}
 use Rattle.acceptance.specs.Verdict.{verdict}
 use Rattle.lists.specs.MarkList.{read_list, write_list}
 use Rattle.reports.specs.PrintedPage.{printed}

@@ -3,6 +3,7 @@
 -- the grounds of refusal, the round trips, and the guarantee of a list of runs. For the last, the state that a call's
 -- bytes say is the one that the run before left, by induction over the list.
 -- Assumes nothing.
+use Rattle.std.specs.Prelude.{Ok, Err}
 use mathlib.Core.Path.{◌≡◌, refl, sym, ap, ◌∙◌}
 use mathlib.Core.Logic.{◌⊎◌, inl, inr}
 use mathlib.Core.Bool.{false}
@@ -22,12 +23,8 @@ use Rattle.loader.proofs.m7700_step.Met as StepMet
 use Rattle.packing.specs.Packed.{packed_verdict, verdict_numbers, check_numbers, list_read_numbers, read_numbers}
 use Rattle.packing.specs.Packed.{list_written_numbers, written_numbers, answer_numbers}
 use Rattle.packing.proofs.Unpacked.{accepted_zero}
-use Rattle.types.specs.declared.rules.Verdict.{Verdict}
+use Rattle.types.specs.Answers.{Verdict, ended_by, ListRead, ListWritten, TestResult, RunAnswer}
 use Rattle.types.specs.declared.lists.Header.{Header}
-use Rattle.types.specs.declared.lists.ListRead.{ListRead}
-use Rattle.types.specs.declared.lists.ListWritten.{ListWritten}
-use Rattle.types.specs.declared.refusals.TestResult.{TestResult}
-use Rattle.types.specs.declared.runs.RunAnswer.{RunAnswer}
 use Rattle.types.specs.Refusals.{refusal_number}
 use Rattle.acceptance.specs.Grounds.{AnswersBy}
 use Rattle.execution.specs.RunGrounds.{WrongBytes, run_grounds}
@@ -73,8 +70,8 @@ read_refused c some = by (read_of c) c.kept.1 (numbers_of_read c)
         → read_numbers c.result ≡ list_read_numbers a
         → (c.marks_left ≡ holds c.marks)
         × ((read_numbers c.result).base ≡ 0) × ((read_numbers c.result).reset ≡ 0)
-    by (ListRead.NotRead why) left told = (left, ap (λ n. n.base) told, ap (λ n. n.reset) told)
-    by (ListRead.Read h) left told = absurd (omega (arith, ap (λ n. n.number) told))
+    by (Err why) left told = (left, ap (λ n. n.base) told, ap (λ n. n.reset) told)
+    by (Ok h) left told = absurd (omega (arith, ap (λ n. n.number) told))
 
 write_refused : (c : WriteCall) → 0 < (written_numbers c.result).number
     → (c.page_left ≡ holds c.page) × ((written_numbers c.result).length ≡ 0)
@@ -84,8 +81,8 @@ write_refused c some = by (written_of c) c.kept.1 (numbers_of_write c)
     by : (a : ListWritten) → c.page_left ≡ page_by a (holds c.marks) c.base c.reset (holds c.page)
         → written_numbers c.result ≡ list_written_numbers a
         → (c.page_left ≡ holds c.page) × ((written_numbers c.result).length ≡ 0)
-    by (ListWritten.NotWritten why) left told = (left, ap (λ n. n.length) told)
-    by (ListWritten.Written n) left told = absurd (omega (arith, ap (λ n. n.number) told))
+    by (Err why) left told = (left, ap (λ n. n.length) told)
+    by (Ok n) left told = absurd (omega (arith, ap (λ n. n.number) told))
 
 module _ (c : RunCall) where
   untouched : ((ran_of c).state ≡ holds c.state) × ((ran_of c).ram ≡ holds c.ram) → Untouched c
@@ -97,31 +94,31 @@ module _ (c : RunCall) where
     where
       by : (a : RunAnswer) → (ran_of c).answer ≡ a → numbers c ≡ answer_numbers a
           → Untouched c × ((numbers c).end ≡ 0) × ((numbers c).steps ≡ 0) × ((numbers c).calls ≡ 0)
-      by (RunAnswer.NotRun why) e told = (
+      by (Err why) e told = (
         untouched (refused_leaves (memory_of c) (holds c.state) c.steps why e),
         ap (λ n. n.end) told,
         ap (λ n. n.steps) told,
         ap (λ n. n.calls) told,
       )
-      by (RunAnswer.Ended end steps calls) e told = absurd (omega (arith, ap (λ n. n.refusal) told))
+      by (Ok e) e told = absurd (omega (arith, ap (λ n. n.refusal) told))
 
   step_stopped : Every Undone (history_of c)
   unfolding admitted_history_within
   step_stopped = by (admission (memory_of c) (state_given c) c.steps)
     where
       by : (a : TestResult) → Every Undone (admitted_history a (memory_of c) (state_given c) c.steps)
-      by TestResult.Passed = stops_leave c.steps (memory_of c) (state_given c)
-      by (TestResult.Failed why) = tt
+      by (Ok _) = stops_leave c.steps (memory_of c) (state_given c)
+      by (Err why) = tt
 
   run_stopped : (numbers c).steps ≡ 0 → Untouched c
   run_stopped none = by (ran_of c).answer refl (numbers_of_run c)
     where
       by : (a : RunAnswer) → (ran_of c).answer ≡ a → numbers c ≡ answer_numbers a → Untouched c
-      by (RunAnswer.NotRun why) e told = untouched (refused_leaves (memory_of c) (holds c.state) c.steps why e)
-      by (RunAnswer.Ended end steps calls) e told =
-          let zero : steps ≡ 0 = sym (ap (λ n. n.steps) told) ∙ none in
-          untouched (none_leaves (memory_of c) (holds c.state) c.steps c.state.bytes end calls
-          (e ∙ ap (λ n. RunAnswer.Ended end n calls) zero))
+      by (Err why) e told = untouched (refused_leaves (memory_of c) (holds c.state) c.steps why e)
+      by (Ok e) e told =
+          let zero : e.steps ≡ 0 = sym (ap (λ n. n.steps) told) ∙ none in
+          untouched (none_leaves (memory_of c) (holds c.state) c.steps c.state.bytes e.end e.calls
+          (e ∙ ap (λ n. ended_by e.end n e.calls) zero))
 
 pub demand_1 : Demand1
 demand_1 = record {
@@ -174,20 +171,20 @@ demand_1 = record {
 
 -- ---- 2
 
-zero_accepted : (c : CheckCall) → c.result ≡ 0 → verdict_of c ≡ Verdict.Accepted
+zero_accepted : (c : CheckCall) → c.result ≡ 0 → verdict_of c ≡ Ok tt
 zero_accepted c zero = accepted_zero (verdict_of c) (sym c.kept ∙ zero)
 
 refuses : (c : CheckCall) → 0 < c.result → RefusedCheck c
 refuses c some = by (verdict_of c) refl (numbers_of_check c)
   where
     by : (v : Verdict) → verdict_of c ≡ v → check_numbers c.result ≡ verdict_numbers v → RefusedCheck c
-    by Verdict.Accepted e told = absurd (omega (arith, some, ap (λ n. n.number) told, ap (λ n. n.offset) told))
-    by (Verdict.Refused why at) e told = record {
-      why = why;
+    by (Ok _) e told = absurd (omega (arith, some, ap (λ n. n.number) told, ap (λ n. n.offset) told))
+    by (Err r) e told = record {
+      why = r.why;
       number = ap (λ n. n.number) told;
       breaks =
           rw (ap (λ n. n.offset) told)
-          (refused_means (holds c.image) (holds c.marks) c.base c.reset why at e);
+          (refused_means (holds c.image) (holds c.marks) c.base c.reset r.why r.offset e);
     }
 
 module _ (c : RunCall) (zero : (numbers c).refusal ≡ 0) where
@@ -198,9 +195,9 @@ module _ (c : RunCall) (zero : (numbers c).refusal ≡ 0) where
   when_taken {P} shows = by (ran_of c).answer refl (numbers_of_run c)
     where
       by : (a : RunAnswer) → (ran_of c).answer ≡ a → numbers c ≡ answer_numbers a → P
-      by (RunAnswer.NotRun why) e told = absurd (omega (arith, zero, ap (λ n. n.refusal) told, (refusal_range why).0))
-      by (RunAnswer.Ended end steps calls) e told =
-          let t = taken (memory_of c) (holds c.state) c.steps end steps calls e in
+      by (Err why) e told = absurd (omega (arith, zero, ap (λ n. n.refusal) told, (refusal_range why).0))
+      by (Ok e) e told =
+          let t = taken (memory_of c) (holds c.state) c.steps e.end e.steps e.calls e in
           shows t.history_is t.ran_is
 
   by_history : ByHistory c
@@ -256,14 +253,14 @@ read_written r w zero six marks base reset room = by (read_of r) refl (numbers_o
     by : (a : ListRead) → read_of r ≡ a → read_numbers r.result ≡ list_read_numbers a
         → (written_numbers w.result ≡ record { number = 0; length = length (holds r.text) })
         × (w.page_left ≡ holds r.text ++ drop (length (holds r.text)) (holds w.page))
-    by (ListRead.NotRead why) e told = absurd (omega (arith, ap (λ n. n.number) told, (refusal_range why).0))
-    by (ListRead.Read h) e told =
+    by (Err why) e told = absurd (omega (arith, ap (λ n. n.number) told, (refusal_range why).0))
+    by (Ok h) e told =
         let same = six_again (holds r.text) (holds r.marks) (holds w.page) h e six room in
         let marks' : holds w.marks ≡ marks_read (holds r.text) (holds r.marks) = marks ∙ r.kept.1 in
         let base' : w.base ≡ h.base = base ∙ ap (λ n. n.base) told in
         let reset' : w.reset ≡ h.reset = reset ∙ ap (λ n. n.reset) told in
         let text = holds r.text in
-        let written : written_of w ≡ ListWritten.Written (length text) = rw (marks', base', reset') same.0 in
+        let written : written_of w ≡ Ok (length text) = rw (marks', base', reset') same.0 in
         let page : page_written (holds w.marks) w.base w.reset (holds w.page)
         ≡ text ++ drop (length text) (holds w.page) = rw (marks', base', reset') same.1 in
         (numbers_of_write w ∙ ap list_written_numbers written, w.kept.1 ∙ page)
@@ -278,14 +275,14 @@ written_read w r zero text long = by (written_of w) refl (numbers_of_write w)
     by : (a : ListWritten) → written_of w ≡ a → written_numbers w.result ≡ list_written_numbers a
         → (read_numbers r.result ≡ record { number = 0; base = w.base; reset = w.reset })
         × (r.marks_left ≡ holds w.marks)
-    by (ListWritten.NotWritten why) e told = absurd (omega (arith, ap (λ n. n.number) told, (refusal_range why).0))
-    by (ListWritten.Written n) e told =
+    by (Err why) e told = absurd (omega (arith, ap (λ n. n.number) told, (refusal_range why).0))
+    by (Ok n) e told =
         let given = holds w.marks in
         let same = written_then_read given w.base w.reset n (holds w.page) (holds r.marks) e long in
         let text' : holds r.text ≡ take n (page_written given w.base w.reset (holds w.page)) =
         text ∙ ap (λ k. take k w.page_left) (ap (λ n. n.length) told) ∙ ap (take n) w.kept.1 in
         let h : Header = record { base = w.base; length = length given; reset = w.reset } in
-        let read : read_of r ≡ ListRead.Read h = rw text' same.0 in
+        let read : read_of r ≡ Ok h = rw text' same.0 in
         let marks : marks_read (holds r.text) (holds r.marks) ≡ given = rw text' same.1 in
         (numbers_of_read r ∙ ap list_read_numbers read, r.kept.1 ∙ marks)
 
@@ -347,7 +344,7 @@ told c whole (admitted a kept) =
     h : List Event
     h = history (memory_of c) (state_given c) c.steps
 
-    answer : numbers c ≡ answer_numbers (RunAnswer.Ended (end_of h) (completed_steps h) (calls_among h))
+    answer : numbers c ≡ answer_numbers (ended_by (end_of h) (completed_steps h) (calls_among h))
     answer = (left c whole).answer ∙ ap answer_numbers kept.answer
 
     by : EndsWell h c.steps

@@ -1,6 +1,7 @@
 -- What an explanation claims of calls: the numbers in a result are those of the answer, which goes by the room alone;
 -- the verdict is that of a check on the same image, whose number and offset stand for it.
 -- Assumes nothing.
+use Rattle.std.specs.Prelude.{Ok, Err}
 use mathlib.Core.Path.{◌≡◌, refl, sym, ap, ◌∙◌}
 use mathlib.Core.List.{List, ◌++◌}
 use Prim.Native.Nat.{ℕ, ◌+◌, ◌≤◌, ◌<◌}
@@ -10,8 +11,7 @@ use lib.ListN.{length, drop}
 use Rattle.packing.specs.Packed.{verdict_numbers, check_numbers, page_printed_numbers, printed_numbers}
 use Rattle.packing.proofs.Unpacked.{printed_unpacked, accepted_zero}
 use Rattle.types.specs.declared.refusals.Refusal.{Refusal}
-use Rattle.types.specs.declared.rules.Verdict.{Verdict}
-use Rattle.types.specs.declared.pages.Printed.{Printed}
+use Rattle.types.specs.Answers.{Verdict, refused_at, Printed}
 use Rattle.types.specs.Refusals.{refusal_number}
 use Rattle.reports.specs.PrintedPage.{page_after}
 use Rattle.acceptance.specs.Verdict.{verdict}
@@ -38,11 +38,11 @@ module _ (c : ExplainCall) where
   unfolding page_explained
   left a e = c.kept.1.0 ∙ ap (λ a. page_after a (line_of c) page) e
 
-  whole : length (line_of c) ≤ length page → answer ≡ Printed.Rows (length (line_of c))
+  whole : length (line_of c) ≤ length page → answer ≡ Ok (length (line_of c))
   unfolding explained
   whole room = rw (le-leb (length (line_of c)) (length page) room)
 
-  none : length page < length (line_of c) → answer ≡ Printed.NotPrinted Refusal.Page 0
+  none : length page < length (line_of c) → answer ≡ refused_at Refusal.Page 0
   unfolding explained
   none few = rw (lt-leb (length (line_of c)) (length page) few)
 
@@ -72,31 +72,31 @@ module _ (c : ExplainCall) (d : CheckCall) (same : ChecksExplained c d) where
 
   accepted : d.result ≡ 0 → line_of c ≡ ascii "accepted\n"
   unfolding explanation line_by
-  accepted zero = rw (its_verdict Verdict.Accepted (accepted_zero (verdict_of d) (sym d.kept ∙ zero)))
+  accepted zero = rw (its_verdict (Ok tt) (accepted_zero (verdict_of d) (sym d.kept ∙ zero)))
 
   -- a check that refuses, by its number and offset
   when_refused : {P : Type 0} → 0 < d.result
       → ((why : Refusal) → refusal_number why ≡ number_of d
-      → verdict image marks c.base c.reset ≡ Verdict.Refused why (offset_of d) → P) → P
+      → verdict image marks c.base c.reset ≡ refused_at why (offset_of d) → P) → P
   when_refused {P} some then = by (verdict_of d) refl (numbers_of_check d)
     where
       by : (v : Verdict) → verdict_of d ≡ v → check_numbers d.result ≡ verdict_numbers v → P
-      by Verdict.Accepted e n = absurd (omega (arith, some, ap (λ n. n.number) n, ap (λ n. n.offset) n))
-      by (Verdict.Refused why at) e n =
-          then why (sym (ap (λ n. n.number) n))
-          (its_verdict (Verdict.Refused why at) e ∙ ap (Verdict.Refused why) (sym (ap (λ n. n.offset) n)))
+      by (Ok _) e n = absurd (omega (arith, some, ap (λ n. n.number) n, ap (λ n. n.offset) n))
+      by (Err r) e n =
+          then r.why (sym (ap (λ n. n.number) n))
+          (its_verdict (refused_at r.why r.offset) e ∙ ap (refused_at r.why) (sym (ap (λ n. n.offset) n)))
 
   some_result : 0 < number_of d → 0 < d.result
   some_result some = omega arith
 
   -- a check that refuses by one number
   by_number : (why : Refusal) → number_of d ≡ refusal_number why → 0 < refusal_number why
-      → verdict image marks c.base c.reset ≡ Verdict.Refused why (offset_of d)
+      → verdict image marks c.base c.reset ≡ refused_at why (offset_of d)
   by_number why e some = when_refused (some_result (rw e some)) (λ why' n h.
-      h ∙ ap (λ w. Verdict.Refused w (offset_of d)) (same_refusal why' why (n ∙ e)))
+      h ∙ ap (λ w. refused_at w (offset_of d)) (same_refusal why' why (n ∙ e)))
 
   shown : (why : Refusal) → refusal_number why ≡ number_of d
-      → verdict image marks c.base c.reset ≡ Verdict.Refused why (offset_of d)
+      → verdict image marks c.base c.reset ≡ refused_at why (offset_of d)
       → ShowsVerdict image marks c.base c.reset why (offset_of d)
   shown why n h = shows_verdicts image marks c.base c.reset why (offset_of d) h
 

@@ -1,14 +1,14 @@
 -- R-4's claims: the numbers in a result are those of the answer, which goes by the verdict and the tests of the
 -- addresses; the places are those of `locates_as_alone`.
 -- Assumes nothing.
+use Rattle.std.specs.Prelude.{Ok, Err}
 use mathlib.Core.Path.{◌≡◌, refl, sym, ap, ◌∙◌}
 use mathlib.Core.List.{List, [], ◌∷◌, ◌++◌, map}
 use Prim.Native.Nat.{ℕ, ◌+◌, ◌-◌, ◌≤◌, ◌<◌}
 use native.Mathlib.Omega.{arith}
 use lib.ListN.{length, get_or, drop}
 use Rattle.packing.specs.Packed.{verdict_numbers, check_numbers, addresses_located_numbers, located_numbers}
-use Rattle.types.specs.declared.rules.Verdict.{Verdict}
-use Rattle.types.specs.declared.probes.Located.{Located}
+use Rattle.types.specs.Answers.{Verdict, Located}
 use Rattle.types.specs.Refusals.{refusal_number}
 use Rattle.acceptance.specs.Rules.{Accepts}
 use Rattle.acceptance.specs.Grounds.{AnswersBy}
@@ -30,10 +30,10 @@ check_first c d same some = by (verdict_of d) refl (numbers_of_check d)
     by : (v : Verdict) → verdict_of d ≡ v → check_numbers d.result ≡ verdict_numbers v
         → ((located_numbers c.result).number ≡ (check_numbers d.result).number)
         × ((located_numbers c.result).offset ≡ (check_numbers d.result).offset)
-    by Verdict.Accepted e told = absurd (omega (arith, some, ap (λ n. n.number) told, ap (λ n. n.offset) told))
-    by (Verdict.Refused why at) e told =
+    by (Ok _) e told = absurd (omega (arith, some, ap (λ n. n.number) told, ap (λ n. n.offset) told))
+    by (Err r) e told =
         let refused = located_refused (holds c.image) (holds c.marks) c.base c.reset
-        (listed c.addresses) (listed c.places) why at (rw (same.0, same.1, same.2, same.3) at e) in
+        (listed c.addresses) (listed c.places) r.why r.offset (rw (same.0, same.1, same.2, same.3) r.offset e) in
         let answer = locate_numbers c ∙ ap addresses_located_numbers refused in (
           ap (λ n. n.number) answer ∙ sym (ap (λ n. n.number) told),
           ap (λ n. n.offset) answer ∙ sym (ap (λ n. n.offset) told),
@@ -66,21 +66,21 @@ module _ (c : LocateCall) where
     where
       by : (a : Located) → located_of c ≡ a → located_numbers c.result ≡ addresses_located_numbers a
           → (c.places_left ≡ places) × ((located_numbers c.result).read ≡ 0)
-      by (Located.NotLocated why at) e told = (
-        c.kept.1 ∙ refused_leaves image marks c.base c.reset addresses places why at e,
+      by (Err r) e told = (
+        c.kept.1 ∙ refused_leaves image marks c.base c.reset addresses places r.why r.offset e,
         ap (λ n. n.read) told,
       )
-      by (Located.MarksRead n) e told = absurd (omega (arith, some, ap (λ n. n.number) told))
+      by (Ok n) e told = absurd (omega (arith, some, ap (λ n. n.number) told))
 
   -- a call that is not refused, by its answer
   when_located : {P : Type 0} → (located_numbers c.result).number ≡ 0
-      → ((n : ℕ) → located_of c ≡ Located.MarksRead n → (located_numbers c.result).read ≡ n → P) → P
+      → ((n : ℕ) → located_of c ≡ Ok n → (located_numbers c.result).read ≡ n → P) → P
   when_located {P} zero shows = by (located_of c) refl (locate_numbers c)
     where
       by : (a : Located) → located_of c ≡ a → located_numbers c.result ≡ addresses_located_numbers a → P
-      by (Located.NotLocated why at) e told =
-          absurd (omega (arith, zero, ap (λ n. n.number) told, (refusal_range why).0))
-      by (Located.MarksRead n) e told = shows n e (ap (λ n. n.read) told)
+      by (Err r) e told =
+          absurd (omega (arith, zero, ap (λ n. n.number) told, (refusal_range r.why).0))
+      by (Ok n) e told = shows n e (ap (λ n. n.read) told)
 
   places_found : (located_numbers c.result).number ≡ 0
       → (c.places_left
@@ -98,7 +98,7 @@ alone c d k zero same inside one room = when_located c zero (λ n e read.
     let own = (locates_as_alone (image c) (marks c) c.base c.reset (addresses c) (places c) n e).own_call k
     (places d) inside room in
     let a = get_or (addresses c) k 0 in
-    let answer : located_of d ≡ Located.MarksRead (a - c.base + 1) =
+    let answer : located_of d ≡ Ok (a - c.base + 1) =
     rw (same.0, same.1, same.2, same.3, one) own.0 in
     let left : d.places_left
     ≡ places_located (image c) (marks c) c.base c.reset (a ∷ []) (places d) =

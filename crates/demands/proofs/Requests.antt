@@ -1,6 +1,7 @@
 -- The requests' claims. Of R-1: the numbers in a result are those of the answer, which goes by the verdict and the
 -- room; the page that was printed is the text of which `pages_tell` speaks.
 -- Assumes nothing.
+use Rattle.std.specs.Prelude.{Ok, Err}
 use mathlib.Core.Path.{◌≡◌, refl, sym, ap, ◌∙◌}
 use mathlib.Core.List.{List, ◌++◌}
 use Prim.Native.Nat.{ℕ, ◌*◌, ◌≤◌, ◌<◌}
@@ -8,8 +9,7 @@ use native.Mathlib.Omega.{arith}
 use lib.ListN.{length, take, drop}
 use lib.Seq.{take_at}
 use Rattle.packing.specs.Packed.{verdict_numbers, check_numbers, page_printed_numbers, printed_numbers}
-use Rattle.types.specs.declared.rules.Verdict.{Verdict}
-use Rattle.types.specs.declared.pages.Printed.{Printed}
+use Rattle.types.specs.Answers.{Verdict, refused_at, Printed}
 use Rattle.acceptance.specs.Image.{start_count}
 use Rattle.acceptance.specs.Rules.{Accepts}
 use Rattle.reports.specs.PrintedPage.{row_size, page_text, page_after, page_printed}
@@ -32,10 +32,10 @@ check_first c d same some = by (verdict_of d) refl (numbers_of_check d)
     by : (v : Verdict) → verdict_of d ≡ v → check_numbers d.result ≡ verdict_numbers v
         → ((printed_numbers c.result).number ≡ (check_numbers d.result).number)
         × ((printed_numbers c.result).offset ≡ (check_numbers d.result).offset)
-    by Verdict.Accepted e told = absurd (omega (arith, some, ap (λ n. n.number) told, ap (λ n. n.offset) told))
-    by (Verdict.Refused why at) e told =
-        let refused = printed_refused (holds c.image) (holds c.marks) c.base c.reset (holds c.page) why
-        at (rw (same.0, same.1, same.2, same.3) at e) in
+    by (Ok _) e told = absurd (omega (arith, some, ap (λ n. n.number) told, ap (λ n. n.offset) told))
+    by (Err r) e told =
+        let refused = printed_refused (holds c.image) (holds c.marks) c.base c.reset (holds c.page) r.why
+        r.offset (rw (same.0, same.1, same.2, same.3) r.offset e) in
         let answer = print_numbers c ∙ ap page_printed_numbers refused in (
           ap (λ n. n.number) answer ∙ sym (ap (λ n. n.number) told),
           ap (λ n. n.offset) answer ∙ sym (ap (λ n. n.offset) told),
@@ -73,8 +73,8 @@ module _ (c : PrintCall) where
   refused some = by (printed_of c) refl (print_numbers c)
     where
       by : (a : Printed) → printed_of c ≡ a → printed_numbers c.result ≡ page_printed_numbers a → c.page_left ≡ page
-      by (Printed.NotPrinted why at) e told = left (Printed.NotPrinted why at) e
-      by (Printed.Rows n) e told = absurd (omega (arith, some, ap (λ n. n.number) told))
+      by (Err r) e told = left (refused_at r.why r.offset) e
+      by (Ok n) e told = absurd (omega (arith, some, ap (λ n. n.number) told))
 
   printed : Accepted → row_size * start_count marks ≤ length page
       → (printed_numbers c.result ≡ record { number = 0; offset = 0; length = row_size * start_count marks })
@@ -83,10 +83,10 @@ module _ (c : PrintCall) where
   printed rules room =
       let accepted = (accepts_exactly image marks c.base c.reset).1 rules in
       let size = (pages_tell image marks c.base c.reset rules).page_size in
-      let whole : printed_of c ≡ Printed.Rows (row_size * start_count marks) =
+      let whole : printed_of c ≡ Ok (row_size * start_count marks) =
       printed_whole image marks c.base c.reset page accepted (omega (arith, size, room))
-      ∙ ap Printed.Rows size in
-      (print_numbers c ∙ ap page_printed_numbers whole, left (Printed.Rows (row_size * start_count marks)) whole)
+      ∙ ap Ok size in
+      (print_numbers c ∙ ap page_printed_numbers whole, left (Ok (row_size * start_count marks)) whole)
 
   -- a call that is not refused was given an accepted image, and its page begins with the text
   when_printed : {P : Type 0} → (printed_numbers c.result).number ≡ 0
@@ -95,13 +95,13 @@ module _ (c : PrintCall) where
   when_printed {P} zero shows = by (printed_of c) refl (print_numbers c)
     where
       by : (a : Printed) → printed_of c ≡ a → printed_numbers c.result ≡ page_printed_numbers a → P
-      by (Printed.NotPrinted why at) e told =
-          absurd (omega (arith, zero, ap (λ n. n.number) told, (refusal_range why).0))
-      by (Printed.Rows n) e told =
+      by (Err r) e told =
+          absurd (omega (arith, zero, ap (λ n. n.number) told, (refusal_range r.why).0))
+      by (Ok n) e told =
           let text = page_text image marks c.base in
           let was = rows_printed image marks c.base c.reset page n e in
           let front : printed_page c ≡ text =
-          ap (λ k. take k c.page_left) (ap (λ n. n.length) told) ∙ ap (take n) (left (Printed.Rows n) e)
+          ap (λ k. take k c.page_left) (ap (λ n. n.length) told) ∙ ap (take n) (left (Ok n) e)
           ∙ take_at text (drop n page) n (sym was.1) in
           shows ((accepts_exactly image marks c.base c.reset).0 was.0) front
 

@@ -1,6 +1,7 @@
 -- R-7's claim of mark lists: what was read is a list of the marks, base and reset in the result, and the writer writes
 -- these in six digits.
 -- Assumes nothing.
+use Rattle.std.specs.Prelude.{Ok, Err}
 use mathlib.Core.Path.{◌≡◌, refl, sym, ap, ap₂, ◌∙◌}
 use mathlib.Core.List.{◌++◌}
 use Prim.Native.Nat.{◌≤◌}
@@ -8,8 +9,7 @@ use native.Mathlib.Omega.{arith}
 use lib.ListN.{length, drop}
 use Rattle.packing.specs.Packed.{list_read_numbers, read_numbers, list_written_numbers, written_numbers}
 use Rattle.types.specs.declared.lists.Header.{Header}
-use Rattle.types.specs.declared.lists.ListRead.{ListRead}
-use Rattle.types.specs.declared.lists.ListWritten.{ListWritten}
+use Rattle.types.specs.Answers.{ListRead, ListWritten}
 use Rattle.lists.specs.MarkList.{new_digits, list_text, address_digits, marks_read, page_written}
 use Rattle.types.proofs.TestResults.{refusal_range}
 use Rattle.lists.proofs.RoundTrips.{read_is_text, read_then_written}
@@ -20,7 +20,7 @@ use Rattle.demands.proofs.Calls.{read_of, written_of, numbers_of_read, numbers_o
 -- the first line that was read
 record Given (r : ReadCall) : Type 0 where
   header : Header
-  read : read_of r ≡ ListRead.Read header
+  read : read_of r ≡ Ok header
   base : (read_numbers r.result).base ≡ header.base
   reset : (read_numbers r.result).reset ≡ header.reset
 
@@ -28,8 +28,8 @@ given : (r : ReadCall) → (read_numbers r.result).number ≡ 0 → Given r
 given r zero = by (read_of r) refl (numbers_of_read r)
   where
     by : (a : ListRead) → read_of r ≡ a → read_numbers r.result ≡ list_read_numbers a → Given r
-    by (ListRead.NotRead why) e told = absurd (omega (arith, ap (λ n. n.number) told, (refusal_range why).0))
-    by (ListRead.Read h) e told =
+    by (Err why) e told = absurd (omega (arith, ap (λ n. n.number) told, (refusal_range why).0))
+    by (Ok h) e told =
         record { header = h; read = e; base = ap (λ n. n.base) told; reset = ap (λ n. n.reset) told }
 
 as_shown : (r : ReadCall) → (read_numbers r.result).number ≡ 0
@@ -59,7 +59,7 @@ widened r w zero marks base reset room =
     let marks' : holds w.marks ≡ read = marks ∙ r.kept.1 in
     let base' : w.base ≡ h.base = base ∙ g.base in
     let reset' : w.reset ≡ h.reset = reset ∙ g.reset in
-    let written : written_of w ≡ ListWritten.Written (length list) = rw (marks', base', reset') same.0 in
+    let written : written_of w ≡ Ok (length list) = rw (marks', base', reset') same.0 in
     let after : page_written (holds w.marks) w.base w.reset page ≡ list ++ drop (length list) page =
     rw (marks', base', reset') same.1 in (
       numbers_of_write w ∙ ap list_written_numbers written

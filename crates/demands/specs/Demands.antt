@@ -15,7 +15,7 @@ use Rattle.std.specs.Prelude.{◌≡◌, ◌↔◌, ◌⊎◌, ℕ, ◌≤◌, �
 use Rattle.packing.specs.Packed.{verdict_numbers, check_numbers, list_read_numbers, read_numbers, list_written_numbers}
 use Rattle.packing.specs.Packed.{written_numbers, answer_numbers}
 use Rattle.types.specs.declared.refusals.Refusal.{Refusal}
-use Rattle.types.specs.declared.runs.RunAnswer.{RunAnswer}
+use Rattle.types.specs.Answers.{RunAnswer, ended_by}
 use Rattle.types.specs.Refusals.{refusal_number}
 use Rattle.instructions.specs.CodeMap.{entry_at, length_at}
 use Rattle.acceptance.specs.Rules.{Accepts}
@@ -85,7 +85,7 @@ pub record RefusedCheck (c : CheckCall) : Type 0 where
 -- its calls ..; it leaves the state and RAM as they are after the last completed step, or as given if there is none.'
 pub record ByHistory (c : RunCall) : Type 0 where
   pub answer : numbers c
-      ≡ answer_numbers (RunAnswer.Ended (end_of (history_of c)) (completed_steps (history_of c))
+      ≡ answer_numbers (ended_by (end_of (history_of c)) (completed_steps (history_of c))
       (calls_among (history_of c)))
   pub state : c.left_state ≡ state_bytes (state_left (state_given c) (history_of c))
   pub ram : c.left_ram ≡ ram_left (holds c.ram) (history_of c)

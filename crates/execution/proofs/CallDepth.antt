@@ -3,6 +3,8 @@
 -- records. So the two steps come to the same, and leave no more open calls than the smaller limit; by induction so do
 -- the histories, and with them all that is made of a history. The test of the state looks at the open calls alone.
 -- Assumes nothing.
+use Rattle.types.specs.declared.code.Undecoded.{Undecoded}
+use Rattle.std.specs.Prelude.{Ok, Err}
 use mathlib.Core.Path.{◌≡◌, refl, sym, subst, ap, ap₂, ◌∙◌}
 use mathlib.Core.Bool.{Bool, true, false, not, ◌&&◌}
 use mathlib.Core.List.{List, [], ◌∷◌, ◌++◌, map, map-append}
@@ -17,13 +19,10 @@ use borrow.Author.Tests.{lt-ltb, le-leb, ltb-true}
 use Rattle.types.specs.declared.code.Kind.{Kind}
 use Rattle.types.specs.declared.code.Flow.{Flow}
 use Rattle.types.specs.declared.code.Instruction.{Instruction}
-use Rattle.types.specs.declared.code.Decoded.{Decoded}
+use Rattle.types.specs.Answers.{Decoded, Served, StepAnswer, TestResult}
 use Rattle.types.specs.declared.machine.Core.{Core}
 use Rattle.types.specs.declared.machine.State.{State}
-use Rattle.types.specs.declared.machine.Served.{Served}
 use Rattle.types.specs.declared.machine.CallChange.{CallChange}
-use Rattle.types.specs.declared.machine.StepAnswer.{StepAnswer}
-use Rattle.types.specs.declared.refusals.TestResult.{TestResult}
 use Rattle.types.specs.Refusals.{first_refusal}
 use Rattle.prelude.specs.Choice.{pick, bit}
 use Rattle.prelude.proofs.First.{first_same}
@@ -89,11 +88,11 @@ module _ (fewer limit : ℕ) (most : fewer ≤ limit) (more : List ℕ) where
   finish_same i m s (changes d) below room = by (served m d.stores)
     where
       by : (v : Served) → on_served v i d m (extended more s) ≡ extended_stepped more (on_served v i d m s)
-      by Served.All =
+      by (Ok _) =
           ap (λ calls. stepped (answer_of d.calls) (record { core = core_after i s.core d; calls = calls })
           (stored d.stores m.ram))
           (records_same d.calls s.core.depth s.calls below room)
-      by (Served.Unserved stop) = refl
+      by (Err stop) = refl
 
   module _ (m : Memory) (s : State) (h : Holds fewer s) where
     last_same : 0 < s.core.depth → last_opened (extended more s) ≡ last_opened s
@@ -104,7 +103,7 @@ module _ (fewer limit : ℕ) (most : fewer ≤ limit) (more : List ℕ) where
     unfolding step_within
     step_same none = by (fetched m s.core) refl
       where
-        below : (i : Instruction) → fetched m s.core ≡ Decoded.Whole i → (kind : Kind)
+        below : (i : Instruction) → fetched m s.core ≡ Ok i → (kind : Kind)
             → i.entry.flow ≡ Flow.Call kind → s.core.depth < fewer
         below i e kind call = side (eq-or-lt_of_le h.few)
           where
@@ -114,9 +113,9 @@ module _ (fewer limit : ℕ) (most : fewer ≤ limit) (more : List ℕ) where
 
         by : (d : Decoded) → fetched m s.core ≡ d
             → on_decoded_within limit d m (extended more s) ≡ extended_stepped more (on_decoded_within fewer d m s)
-        by Decoded.CutOff e = refl
-        by Decoded.NotCarried e = refl
-        by (Decoded.Whole i) e =
+        by (Err Undecoded.CutOff) e = refl
+        by (Err Undecoded.NotCarried) e = refl
+        by (Ok i) e =
             ap (λ p. finish p i m (extended more s))
             (plan_same s.core i (last_opened s) (last_opened (extended more s)) last_same fewer limit most m
             i.entry.flow (below i e))
@@ -135,17 +134,17 @@ module _ (fewer limit : ℕ) (most : fewer ≤ limit) (more : List ℕ) where
 
         serves_so : (i : Instruction) (d : Change) (v : Served)
             → length (on_served v i d m s).state.calls ≡ length s.calls
-        serves_so i d Served.All = changed d.calls
-        serves_so i d (Served.Unserved stop) = refl
+        serves_so i d (Ok _) = changed d.calls
+        serves_so i d (Err stop) = refl
 
         plans_so : (i : Instruction) (p : Plan) → length (finish p i m s).state.calls ≡ length s.calls
         plans_so i (stops stop) = refl
         plans_so i (changes d) = serves_so i d (served m d.stores)
 
         by : (d : Decoded) → length (on_decoded_within fewer d m s).state.calls ≡ length s.calls
-        by Decoded.CutOff = refl
-        by Decoded.NotCarried = refl
-        by (Decoded.Whole i) = plans_so i (plan_within fewer m s i)
+        by (Err Undecoded.CutOff) = refl
+        by (Err Undecoded.NotCarried) = refl
+        by (Ok i) = plans_so i (plan_within fewer m s i)
 
     holds_kept : Holds fewer (step_within fewer m s).state
     holds_kept = record { few = depth_kept m s h.few; room = rw records_kept h.room }
@@ -216,8 +215,8 @@ module _ (fewer limit : ℕ) (most : fewer ≤ limit) (more : List ℕ) where
   end_same (e ∷ h) = ap (λ end. end_after e.result.answer end) (end_same h)
 
   answer_same : (a : TestResult) (h : List Event) → answer_by a (map (extended_event more) h) ≡ answer_by a h
-  answer_same TestResult.Passed h = rw (end_same h, count_same is_completed h, count_same is_call h) refl
-  answer_same (TestResult.Failed why) h = refl
+  answer_same (Ok _) h = rw (end_same h, count_same is_completed h, count_same is_call h) refl
+  answer_same (Err why) h = refl
 
   come_same : (a : TestResult) (m : Memory) (s : State) (h : List Event)
       → ran_by a m (extended more s) (map (extended_event more) h) ≡ extended_ran more (ran_by a m s h)
@@ -253,8 +252,8 @@ module _ (fewer limit : ℕ) (most : fewer ≤ limit) (more : List ℕ) where
         → SameEvents s (admitted_history_within limit a m (extended more s) asked)
         (admitted_history_within fewer a m s asked)
     unfolding admitted_history_within
-    admitted_same TestResult.Passed none = history_same asked m s h none
-    admitted_same (TestResult.Failed why) none = (refl, h)
+    admitted_same (Ok _) none = history_same asked m s h none
+    admitted_same (Err why) none = (refl, h)
 
     module _ (none : Shallow m (run_history_within limit m (extended more s) asked)) where
       events_same : SameEvents s (run_history_within limit m (extended more s) asked)

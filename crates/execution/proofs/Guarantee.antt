@@ -4,6 +4,8 @@
 -- call opened last, its return widths are those marked at that call's address, and so on down from the mark there. What
 -- an instruction owes by its flow keeps it so, whatever its operation does; the rest is induction over steps and runs.
 -- Assumes nothing.
+use Rattle.types.specs.declared.machine.Completion.{Completion}
+use Rattle.std.specs.Prelude.{Ok, Err, Some, None}
 use mathlib.Core.Path.{◌≡◌, refl, sym, ap, ◌∙◌}
 use mathlib.Core.Bool.{Bool, true, false}
 use mathlib.Core.List.{List, [], ◌∷◌, ◌++◌}
@@ -19,16 +21,12 @@ use Rattle.types.specs.declared.code.Kind.{Kind}
 use Rattle.types.specs.declared.code.Flow.{Flow}
 use Rattle.types.specs.declared.code.WidthEffect.{WidthEffect}
 use Rattle.types.specs.declared.code.Instruction.{Instruction}
-use Rattle.types.specs.declared.code.Decoded.{Decoded}
+use Rattle.types.specs.Answers.{Decoded, Served, StepAnswer, TestResult, End}
 use Rattle.types.specs.declared.machine.State.{State}
 use Rattle.types.specs.declared.machine.Data.{Data}
 use Rattle.types.specs.declared.machine.Store.{Store}
 use Rattle.types.specs.declared.machine.Stop.{Stop}
-use Rattle.types.specs.declared.machine.Served.{Served}
 use Rattle.types.specs.declared.machine.CallChange.{CallChange}
-use Rattle.types.specs.declared.machine.StepAnswer.{StepAnswer}
-use Rattle.types.specs.declared.refusals.TestResult.{TestResult}
-use Rattle.types.specs.declared.runs.End.{End}
 use Rattle.prelude.specs.Choice.{pick, bit}
 use Rattle.instructions.specs.CodeMap.{prefix_bytes, entry_at}
 use Rattle.types.specs.Addresses.{bank_size, address_limit}
@@ -210,36 +208,36 @@ module _ (marks : List ℕ) (base : ℕ) where
 abbrev Late : Stop → Type 0
 Late stop = (22 ≤ stop_number stop) × (stop_number stop ≤ 27)
 
-served_at_late : (m : Memory) (address : ℕ) (stop : Stop) → served_at m address ≡ Served.Unserved stop → Late stop
+served_at_late : (m : Memory) (address : ℕ) (stop : Stop) → served_at m address ≡ Err stop → Late stop
 unfolding served_at
 served_at_late m address stop = by (in_ram m address) (is_in_image m address)
   where
-    same : (other : Stop) → Late other → Served.Unserved other ≡ Served.Unserved stop → Late stop
+    same : (other : Stop) → Late other → ◌≡◌ {A = Served} (Err other) (Err stop) → Late stop
     same other l e = let o : other ≡ stop = cc in rw o at l
 
     by : (a b : Bool)
-        → pick a Served.All (pick b (Served.Unserved Stop.ImageStore) (Served.Unserved Stop.Unmapped))
-        ≡ Served.Unserved stop → Late stop
+        → pick {A = Served} a (Ok tt) (pick b (Err Stop.ImageStore) (Err Stop.Unmapped))
+        ≡ Err stop → Late stop
     by true b e = let z : ◌≡◌ {A = ℕ} 0 1 = cc in absurd (omega arith)
     by false true e = same Stop.ImageStore (omega arith) e
     by false false e = same Stop.Unmapped (omega arith) e
 
 -- a store that can't be served stops by 23 or 26
-served_late : (m : Memory) (stores : List Store) (stop : Stop) → served m stores ≡ Served.Unserved stop → Late stop
+served_late : (m : Memory) (stores : List Store) (stop : Stop) → served m stores ≡ Err stop → Late stop
 served_late m [] stop e = let z : ◌≡◌ {A = ℕ} 0 1 = cc in absurd (omega arith)
 served_late m (a ∷ rest) stop e =
     by (served_at m a.address) refl e (served_late m rest stop)
   where
-    by : (v : Served) → served_at m a.address ≡ v → and_then v (served m rest) ≡ Served.Unserved stop
-        → (served m rest ≡ Served.Unserved stop → Late stop) → Late stop
-    by Served.All f h more = more h
-    by (Served.Unserved other) f h more = served_at_late m a.address stop (f ∙ h)
+    by : (v : Served) → served_at m a.address ≡ v → and_then v (served m rest) ≡ Err stop
+        → (served m rest ≡ Err stop → Late stop) → Late stop
+    by (Ok _) f h more = more h
+    by (Err other) f h more = served_at_late m a.address stop (f ∙ h)
 
 -- what an answer must be
 abbrev AnswersLate : StepAnswer → Type 0
-AnswersLate StepAnswer.Completed = Unit {0}
-AnswersLate StepAnswer.Called = Unit {0}
-AnswersLate (StepAnswer.Stopped stop) = Late stop
+AnswersLate (Ok Completion.Ordinary) = Unit {0}
+AnswersLate (Ok Completion.Call) = Unit {0}
+AnswersLate (Err stop) = Late stop
 
 change_answers : (change : CallChange) → AnswersLate (answer_of change)
 change_answers CallChange.Keep = tt
@@ -261,8 +259,8 @@ module _ (marks : List ℕ) (base : ℕ) (s : State) (i : Instruction) where
     where
       by : (v : Served) → served m d.stores ≡ v
           → AnswersLate (on_served v i d m s).answer × Stands marks base (on_served v i d m s).state
-      by Served.All e = (change_answers d.calls, arrived marks base whole s i d g)
-      by (Served.Unserved stop) e = (served_late m d.stores stop e, st)
+      by (Ok _) e = (change_answers d.calls, arrived marks base whole s i d g)
+      by (Err stop) e = (served_late m d.stores stop e, st)
 
   -- an operation goes on where its flow says
   operates_good : (m : Memory) (goes : Bool → ℕ)
@@ -420,7 +418,7 @@ module _ (marks : List ℕ) (base : ℕ) (s : State) (i : Instruction) (st : Sta
 -- ---- a step
 
 -- a call and a return keep the widths
-module _ (bytes : List ℕ) (m x : ℕ) (i : Instruction) (whole : decode bytes m x ≡ Decoded.Whole i) (kind : Kind) where
+module _ (bytes : List ℕ) (m x : ℕ) (i : Instruction) (whole : decode bytes m x ≡ Ok i) (kind : Kind) where
   abbrev page : ℕ
   page = page_of (get_or bytes 0 0)
 
@@ -473,14 +471,14 @@ module _ (image marks : List ℕ) (base reset : ℕ) (rules : Accepts image mark
   abbrev instruction : Instruction
   instruction = at_start.instruction
 
-  fetches : fetched m s.core ≡ Decoded.Whole instruction
+  fetches : fetched m s.core ≡ Ok instruction
   fetches =
       read (place_of s.core) (bit s.core.registers.status.m) (bit s.core.registers.status.x) here.place
       (st.m_marked ∙ ap mark_m here.mark) (st.x_marked ∙ ap mark_x here.mark)
     where
       read : (a w v : ℕ) → a ≡ base + here.at → w ≡ mark_m (get_or marks here.at 0)
           → v ≡ mark_x (get_or marks here.at 0)
-          → decode (bytes_from m a (length image)) w v ≡ Decoded.Whole instruction
+          → decode (bytes_from m a (length image)) w v ≡ Ok instruction
       read a w v ea ew ev =
           rw (ea, ew, ev, bytes_inside m in_space small (length image) here.at within_image (omega arith))
           at_start.whole
@@ -566,13 +564,13 @@ every_map P Q f [] h = tt
 every_map P Q f (x ∷ xs) h = (f x h.0, every_map P Q f xs h.1)
 
 abbrev EndsLate : End → Type 0
-EndsLate End.Done = Unit {0}
-EndsLate (End.AtStop stop) = Late stop
+EndsLate None = Unit {0}
+EndsLate (Some stop) = Late stop
 
 end_late : (a : StepAnswer) (end : End) → AnswersLate a → EndsLate end → EndsLate (end_after a end)
-end_late StepAnswer.Completed end a e = e
-end_late StepAnswer.Called end a e = e
-end_late (StepAnswer.Stopped stop) end a e = a
+end_late (Ok Completion.Ordinary) end a e = e
+end_late (Ok Completion.Call) end a e = e
+end_late (Err stop) end a e = a
 
 module _ (image marks : List ℕ) (base reset : ℕ) (rules : Accepts image marks base reset) where
   pub record Sound (e : Event) : Type 0 where
@@ -601,19 +599,19 @@ module _ (image marks : List ℕ) (base reset : ℕ) (rules : Accepts image mark
       })
       (λ c. record {
         every = (sound, tt);
-        late = end_late (step before s).answer End.Done now.late tt;
+        late = end_late (step before s).answer None now.late tt;
         stands = rw c st;
       })
 
   -- ---- a run
 
-  ends_well : (h : List Event) (asked : ℕ) → (end_of h ≡ End.Done → completed_steps h ≡ asked) → EndsLate (end_of h)
+  ends_well : (h : List Event) (asked : ℕ) → (end_of h ≡ None → completed_steps h ≡ asked) → EndsLate (end_of h)
       → EndsWell h asked
   ends_well h asked all late = by (end_of h) refl late
     where
       by : (end : End) → end_of h ≡ end → EndsLate end → EndsWell h asked
-      by End.Done e l = EndsWell.done e (all e)
-      by (End.AtStop stop) e l = EndsWell.stopped stop e l.0 l.1
+      by None e l = EndsWell.done e (all e)
+      by (Some stop) e l = EndsWell.stopped stop e l.0 l.1
 
   -- what a run shows, refused or not
   pub record Runs (m : Memory) (s : State) (asked : ℕ) : Type 0 where
@@ -628,7 +626,7 @@ module _ (image marks : List ℕ) (base reset : ℕ) (rules : Accepts image mark
       m' = memory ram image base
 
       by : (a : TestResult) → admission m' s asked ≡ a → Runs m' s asked
-      by TestResult.Passed a =
+      by (Ok _) a =
           let same = admitted_ran m' s asked a in
           let h = shown asked ram s st in
           record {
@@ -642,7 +640,7 @@ module _ (image marks : List ℕ) (base reset : ℕ) (rules : Accepts image mark
               ram = ap (λ r. r.ram) same.1;
             });
           }
-      by (TestResult.Failed why) a =
+      by (Err why) a =
           let same = refused_ran m' s asked why a in
           record {
             every = rw same.0 tt;

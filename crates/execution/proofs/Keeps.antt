@@ -2,6 +2,8 @@
 -- (Effects.antt), and a call opens no entry past the last. So the bytes of what a run leaves say the very state that it
 -- left.
 -- Assumes nothing.
+use Rattle.types.specs.declared.code.Undecoded.{Undecoded}
+use Rattle.std.specs.Prelude.{Ok, Err}
 use mathlib.Core.Path.{◌≡◌, refl, ◌∙◌}
 use mathlib.Core.Bool.{Bool, true, false}
 use mathlib.Core.List.{List, [], ◌∷◌}
@@ -14,15 +16,13 @@ use lib.ListN.{length, get_or, set, take, drop, length-take, length-set}
 use Rattle.types.specs.declared.code.Kind.{Kind}
 use Rattle.types.specs.declared.code.Flow.{Flow}
 use Rattle.types.specs.declared.code.Instruction.{Instruction}
-use Rattle.types.specs.declared.code.Decoded.{Decoded}
+use Rattle.types.specs.Answers.{Decoded, Served, TestResult}
 use Rattle.types.specs.declared.machine.Core.{Core}
 use Rattle.types.specs.declared.machine.State.{State}
 use Rattle.types.specs.declared.machine.Data.{Data}
 use Rattle.types.specs.declared.machine.Store.{Store}
 use Rattle.types.specs.declared.machine.Stop.{Stop}
-use Rattle.types.specs.declared.machine.Served.{Served}
 use Rattle.types.specs.declared.machine.CallChange.{CallChange}
-use Rattle.types.specs.declared.refusals.TestResult.{TestResult}
 use Rattle.prelude.specs.Choice.{pick}
 use Rattle.prelude.specs.Bytes.{AllBytes}
 use Rattle.fields.specs.Fields.{number}
@@ -173,8 +173,8 @@ step_keeps m s image h = by (fetched m s.core)
   where
     served_so : (i : Instruction) (d : Change) (v : Served) → Fits s.core.depth (changes d)
         → InBytes (on_served v i d m s).state (on_served v i d m s).ram
-    served_so i d Served.All f = (changed_keeps i s d f h.0, stored_small d.stores m.ram f.1 h.1)
-    served_so i d (Served.Unserved stop) f = h
+    served_so i d (Ok _) f = (changed_keeps i s d f h.0, stored_small d.stores m.ram f.1 h.1)
+    served_so i d (Err stop) f = h
 
     planned_so : (i : Instruction) (p : Plan) → Fits s.core.depth p
         → InBytes (finish p i m s).state (finish p i m s).ram
@@ -182,9 +182,9 @@ step_keeps m s image h = by (fetched m s.core)
     planned_so i (changes d) f = served_so i d (served m d.stores) f
 
     by : (d : Decoded) → InBytes (on_decoded d m s).state (on_decoded d m s).ram
-    by Decoded.CutOff = h
-    by Decoded.NotCarried = h
-    by (Decoded.Whole i) =
+    by (Err Undecoded.CutOff) = h
+    by (Err Undecoded.NotCarried) = h
+    by (Ok i) =
         planned_so i (plan m s i)
         (plan_fits s.core i m h.0.registers h.1 image (last_opened s) i.entry.flow)
 
@@ -208,8 +208,8 @@ pub run_keeps : (m : Memory) (s : State) (n : ℕ) → AllBytes m.image → InBy
 run_keeps m s n image h = by (admission m s n) refl
   where
     by : (a : TestResult) → admission m s n ≡ a → InBytes (ran m s n).state (ran m s n).ram
-    by TestResult.Passed a = rw (admitted_ran m s n a).1 (history_keeps n m s image h)
-    by (TestResult.Failed why) a = rw (refused_ran m s n why a).1 h
+    by (Ok _) a = rw (admitted_ran m s n a).1 (history_keeps n m s image h)
+    by (Err why) a = rw (refused_ran m s n why a).1 h
 
 -- ---- what bytes say
 

@@ -2,6 +2,8 @@
 -- left, a stopped one by nothing. From these come the end and the counts of a history, and what a loop over the steps
 -- needs.
 -- Assumes nothing.
+use Rattle.types.specs.declared.machine.Completion.{Completion}
+use Rattle.std.specs.Prelude.{Ok, Err, Some, None}
 use mathlib.Core.Path.{◌≡◌, refl, ap}
 use mathlib.Core.Logic.{◌↔◌}
 use mathlib.Core.Bool.{Bool, true, false, not}
@@ -13,11 +15,8 @@ use lib.ListN.{length}
 use borrow.Author.Tests.{leb-true}
 use Rattle.types.specs.declared.machine.State.{State}
 use Rattle.types.specs.declared.machine.Stop.{Stop}
-use Rattle.types.specs.declared.machine.StepAnswer.{StepAnswer}
+use Rattle.types.specs.Answers.{StepAnswer, ended_by, TestResult, End, RunAnswer}
 use Rattle.types.specs.declared.refusals.Refusal.{Refusal}
-use Rattle.types.specs.declared.refusals.TestResult.{TestResult}
-use Rattle.types.specs.declared.runs.End.{End}
-use Rattle.types.specs.declared.runs.RunAnswer.{RunAnswer}
 use Rattle.prelude.specs.Choice.{pick, bit}
 use Rattle.types.specs.Addresses.{address_limit, image_limit}
 use Rattle.types.specs.Refusals.{first_refusal}
@@ -102,15 +101,15 @@ last_stops (e ∷ []) = not (is_completed e.result.answer)
 last_stops (e ∷ f ∷ rest) = last_stops (f ∷ rest)
 
 completed_passes : (a : StepAnswer) (end : End) → is_completed a ≡ true → end_after a end ≡ end
-completed_passes StepAnswer.Completed end h = refl
-completed_passes StepAnswer.Called end h = refl
-completed_passes (StepAnswer.Stopped stop) end h = let z : ◌≡◌ {A = ℕ} 0 1 = cc in absurd (omega arith)
+completed_passes (Ok Completion.Ordinary) end h = refl
+completed_passes (Ok Completion.Call) end h = refl
+completed_passes (Err stop) end h = let z : ◌≡◌ {A = ℕ} 0 1 = cc in absurd (omega arith)
 
 -- the end of one step
-one_end : (a : StepAnswer) → (end_number (end_after a End.Done) ≡ 0) ↔ (not (is_completed a) ≡ false)
-one_end StepAnswer.Completed = (λ _. refl, λ _. refl)
-one_end StepAnswer.Called = (λ _. refl, λ _. refl)
-one_end (StepAnswer.Stopped stop) = (
+one_end : (a : StepAnswer) → (end_number (end_after a None) ≡ 0) ↔ (not (is_completed a) ≡ false)
+one_end (Ok Completion.Ordinary) = (λ _. refl, λ _. refl)
+one_end (Ok Completion.Call) = (λ _. refl, λ _. refl)
+one_end (Err stop) = (
   λ e. absurd (omega (arith, (stop_range stop).0)),
   λ h. let z : ◌≡◌ {A = ℕ} 0 1 = cc in absurd (omega arith),
 )
@@ -132,21 +131,21 @@ others_completed [] l = refl
 others_completed (e ∷ []) l = one_or_other (is_completed e.result.answer)
 others_completed (e ∷ f ∷ rest) l = rw l.0 (omega (arith, others_completed (f ∷ rest) l.1))
 
-stopped_ends : (a : StepAnswer) (end : End) → is_completed a ≡ false → end_after a end ≡ End.Done → ⊥
-stopped_ends StepAnswer.Completed end h e = let z : ◌≡◌ {A = ℕ} 0 1 = cc in absurd (omega arith)
-stopped_ends StepAnswer.Called end h e = let z : ◌≡◌ {A = ℕ} 0 1 = cc in absurd (omega arith)
-stopped_ends (StepAnswer.Stopped stop) end h e = let z : ◌≡◌ {A = ℕ} 0 1 = cc in absurd (omega arith)
+stopped_ends : (a : StepAnswer) (end : End) → is_completed a ≡ false → end_after a end ≡ None → ⊥
+stopped_ends (Ok Completion.Ordinary) end h e = let z : ◌≡◌ {A = ℕ} 0 1 = cc in absurd (omega arith)
+stopped_ends (Ok Completion.Call) end h e = let z : ◌≡◌ {A = ℕ} 0 1 = cc in absurd (omega arith)
+stopped_ends (Err stop) end h e = let z : ◌≡◌ {A = ℕ} 0 1 = cc in absurd (omega arith)
 
 -- where the end is 0 as many steps are completed as were asked
-pub all_asked : (m : Memory) (s : State) (n : ℕ) → end_of (history m s n) ≡ End.Done → completed_steps (history m s n)
+pub all_asked : (m : Memory) (s : State) (n : ℕ) → end_of (history m s n) ≡ None → completed_steps (history m s n)
     ≡ n
 unfolding history_within
 all_asked m s zero = λ _. refl
 all_asked m s (suc n) =
-    by_first_step m s n (λ h. end_of h ≡ End.Done → completed_steps h ≡ suc n)
+    by_first_step m s n (λ h. end_of h ≡ None → completed_steps h ≡ suc n)
     (λ c end. one_more c (all_asked (with_ram (step m s).ram m) (step m s).state n
     (rw (completed_passes (step m s).answer (end_of (onward m s n)) c) at end)))
-    (λ c end. absurd (stopped_ends (step m s).answer End.Done c end))
+    (λ c end. absurd (stopped_ends (step m s).answer None c end))
   where
     one_more : is_completed (step m s).answer ≡ true → completed_steps (onward m s n) ≡ n
         → bit (is_completed (step m s).answer) + completed_steps (onward m s n) ≡ suc n
@@ -156,14 +155,14 @@ all_asked m s (suc n) =
 
 -- an answer with steps and calls that came before
 abbrev pub counted : ℕ → ℕ → RunAnswer → RunAnswer
-counted steps calls (RunAnswer.NotRun why) = RunAnswer.NotRun why
-counted steps calls (RunAnswer.Ended end k c) = RunAnswer.Ended end (steps + k) (calls + c)
+counted steps calls (Err why) = Err why
+counted steps calls (Ok e) = ended_by e.end (steps + e.steps) (calls + e.calls)
 
 abbrev pub further : ℕ → ℕ → Ran → Ran
 further steps calls r = record { answer = counted steps calls r.answer; state = r.state; ram = r.ram }
 
 abbrev pub ended : End → ℕ → ℕ → State → List ℕ → Ran
-ended end steps calls s ram = record { answer = RunAnswer.Ended end steps calls; state = s; ram = ram }
+ended end steps calls s ram = record { answer = ended_by end steps calls; state = s; ram = ram }
 
 -- what a completed step leaves is what the rest goes on from
 pub state_passes : (s : State) (e : Event) (h : List Event) → is_completed e.result.answer ≡ true
@@ -197,26 +196,26 @@ module _ (m : Memory) (s : State) where
       (simp add_assoc)
 
   -- a run whose first step stops ends so
-  pub run_stops : (n steps calls : ℕ) (stop : Stop) → (step m s).answer ≡ StepAnswer.Stopped stop
-      → further steps calls (executed m s (suc n)) ≡ ended (End.AtStop stop) steps calls s m.ram
+  pub run_stops : (n steps calls : ℕ) (stop : Stop) → (step m s).answer ≡ Err stop
+      → further steps calls (executed m s (suc n)) ≡ ended (Some stop) steps calls s m.ram
   run_stops n steps calls stop e = rw (stops_there m s n (rw e refl), e) (simp add-zero)
 
   -- a run of 0 steps ends with 0
-  pub run_ends : (steps calls : ℕ) → further steps calls (executed m s 0) ≡ ended End.Done steps calls s m.ram
+  pub run_ends : (steps calls : ℕ) → further steps calls (executed m s 0) ≡ ended None steps calls s m.ram
   unfolding history_within
   run_ends steps calls = simp add-zero
 
 -- ---- a run, refused or not
 
 module _ (m : Memory) (s : State) (n : ℕ) where
-  pub admitted_ran : admission m s n ≡ TestResult.Passed
+  pub admitted_ran : admission m s n ≡ Ok tt
       → (run_history m s n ≡ history m s n) × (ran m s n ≡ executed m s n)
   unfolding ran_within admitted_history_within
   admitted_ran a = (rw a refl, rw a refl)
 
   -- a refused run makes no step, answers its refusal and leaves all as given
-  pub refused_ran : (why : Refusal) → admission m s n ≡ TestResult.Failed why
-      → (run_history m s n ≡ []) × (ran m s n ≡ record { answer = RunAnswer.NotRun why; state = s; ram = m.ram })
+  pub refused_ran : (why : Refusal) → admission m s n ≡ Err why
+      → (run_history m s n ≡ []) × (ran m s n ≡ record { answer = Err why; state = s; ram = m.ram })
   unfolding ran_within admitted_history_within
   refused_ran why a = (rw a refl, rw a refl)
 
@@ -227,7 +226,7 @@ pub record Bounds (m : Memory) (fits : Bool) (asked : ℕ) : Type 0 where
   pub taken : fits ≡ true
   pub steps : asked ≤ step_limit
 
-pub admitted : (m : Memory) (fits : Bool) (asked : ℕ) → first_refusal (run_tests m fits asked) ≡ TestResult.Passed
+pub admitted : (m : Memory) (fits : Bool) (asked : ℕ) → first_refusal (run_tests m fits asked) ≡ Ok tt
     → Bounds m fits asked
 admitted m fits asked e =
     let held = shown (run_tests m fits asked) e in
@@ -247,9 +246,9 @@ module _ (m : Memory) (s : State) where
   executed_one = by (is_completed (step m s).answer) refl
     where
       stays : (t : StepAnswer) → is_completed t ≡ false → bit (is_call t) ≡ 0
-      stays StepAnswer.Completed c = absurd (completed_stops c)
-      stays StepAnswer.Called c = absurd (completed_stops c)
-      stays (StepAnswer.Stopped stop) c = refl
+      stays (Ok Completion.Ordinary) c = absurd (completed_stops c)
+      stays (Ok Completion.Call) c = absurd (completed_stops c)
+      stays (Err stop) c = refl
 
       by : (b : Bool) → is_completed (step m s).answer ≡ b → executed m s 1 ≡ one_step (step m s)
       by true c = rw (goes_on m s 0 c, c) (simp add-zero)

@@ -1,5 +1,6 @@
 -- A run of a state given as bytes is the run of the state that they say: its answer, and the bytes of what it leaves.
 -- Assumes nothing.
+use Rattle.std.specs.Prelude.{Ok, Err}
 use mathlib.Core.Path.{◌≡◌, refl, sym, ap, ◌∙◌}
 use mathlib.Core.Bool.{false}
 use mathlib.Core.List.{List}
@@ -9,9 +10,7 @@ use lib.Dec.{eqb}
 use lib.ListN.{length}
 use borrow.Author.Tests.{eq-eqb, ne_eqb, eqb-true}
 use Rattle.types.specs.declared.refusals.Refusal.{Refusal}
-use Rattle.types.specs.declared.refusals.TestResult.{TestResult}
-use Rattle.types.specs.declared.runs.End.{End}
-use Rattle.types.specs.declared.runs.RunAnswer.{RunAnswer}
+use Rattle.types.specs.Answers.{TestResult, ended_by, End, RunAnswer}
 use Rattle.types.specs.Refusals.{first_refusal}
 use Rattle.semantics.specs.Memory.{Memory}
 use Rattle.execution.specs.Run.{history, completed_steps, calls_among, end_of, state_fits, run_tests, admission}
@@ -23,6 +22,7 @@ use Rattle.prelude.proofs.Choice.{both_true}
 use Rattle.execution.proofs.Run.{admitted_ran, refused_ran, admitted, none_completed}
 use Rattle.execution.proofs.StateBytes.{state_bytes_lem, bytes_state, bytes_length}
 use Rattle.execution.proofs.Keeps.{InBytes, run_keeps, given_keeps}
+use Rattle.types.proofs.TestResults.{same_ended}
 
 module _ (m : Memory) (bytes : List ℕ) (asked : ℕ) where
   same_admission : length bytes ≡ state_size
@@ -36,10 +36,10 @@ module _ (m : Memory) (bytes : List ℕ) (asked : ℕ) where
       where
         by : (a : TestResult) → admission m (state_of bytes) asked ≡ a
             → ran_bytes_by a m bytes asked ≡ as_bytes (ran m (state_of bytes) asked)
-        by TestResult.Passed e = ap as_bytes (sym (admitted_ran m (state_of bytes) asked e).1)
-        by (TestResult.Failed why) e =
+        by (Ok _) e = ap as_bytes (sym (admitted_ran m (state_of bytes) asked e).1)
+        by (Err why) e =
             rw (refused_ran m (state_of bytes) asked why e).1
-            (λ j. record { answer = RunAnswer.NotRun why; state = sym (bytes_state bytes long small) j; ram = m.ram })
+            (λ j. record { answer = Err why; state = sym (bytes_state bytes long small) j; ram = m.ram })
 
     -- what the bytes of a run say is what the run of the state that they say comes to
     module _ (in_image : AllBytes m.image) (ram_bytes : AllBytes m.ram) where
@@ -65,13 +65,13 @@ module _ (m : Memory) (bytes : List ℕ) (asked : ℕ) where
     pub history_is : run_history m (state_of bytes) asked ≡ history m (state_of bytes) asked
     pub ran_is : ran_bytes m bytes asked ≡ as_bytes (executed m (state_of bytes) asked)
 
-  pub taken : (end : End) (steps calls : ℕ) → (ran_bytes m bytes asked).answer ≡ RunAnswer.Ended end steps calls → Taken
+  pub taken : (end : End) (steps calls : ℕ) → (ran_bytes m bytes asked).answer ≡ ended_by end steps calls → Taken
   unfolding ran_bytes
   taken end steps calls = by (first_refusal (run_tests m (bytes_fit bytes) asked)) refl
     where
       by : (a : TestResult) → first_refusal (run_tests m (bytes_fit bytes) asked) ≡ a
-          → (ran_bytes_by a m bytes asked).answer ≡ RunAnswer.Ended end steps calls → Taken
-      by TestResult.Passed e told =
+          → (ran_bytes_by a m bytes asked).answer ≡ ended_by end steps calls → Taken
+      by (Ok _) e told =
           let fits = both_true (eqb (length bytes) state_size) (state_fits (state_of bytes))
           (admitted m (bytes_fit bytes) asked e).taken in
           let long = eqb-true (length bytes) state_size fits.0 in
@@ -80,30 +80,30 @@ module _ (m : Memory) (bytes : List ℕ) (asked : ℕ) where
             history_is = (admitted_ran m (state_of bytes) asked (sym (same_admission long) ∙ e)).0;
             ran_is = rw e refl;
           }
-      by (TestResult.Failed why) e told = let z : ◌≡◌ {A = ℕ} 0 1 = cc in absurd (omega arith)
+      by (Err why) e told = let z : ◌≡◌ {A = ℕ} 0 1 = cc in absurd (omega arith)
 
   -- ---- 'A refusal leaves every buffer and the state as given', and so does a run that completes no step
 
-  pub refused_leaves : (why : Refusal) → (ran_bytes m bytes asked).answer ≡ RunAnswer.NotRun why
+  pub refused_leaves : (why : Refusal) → (ran_bytes m bytes asked).answer ≡ Err why
       → ((ran_bytes m bytes asked).state ≡ bytes) × ((ran_bytes m bytes asked).ram ≡ m.ram)
   unfolding ran_bytes
   refused_leaves why = by (first_refusal (run_tests m (bytes_fit bytes) asked))
     where
-      by : (a : TestResult) → (ran_bytes_by a m bytes asked).answer ≡ RunAnswer.NotRun why
+      by : (a : TestResult) → (ran_bytes_by a m bytes asked).answer ≡ Err why
           → ((ran_bytes_by a m bytes asked).state ≡ bytes) × ((ran_bytes_by a m bytes asked).ram ≡ m.ram)
-      by TestResult.Passed e = let z : ◌≡◌ {A = ℕ} 0 1 = cc in absurd (omega arith)
-      by (TestResult.Failed other) e = (refl, refl)
+      by (Ok _) e = let z : ◌≡◌ {A = ℕ} 0 1 = cc in absurd (omega arith)
+      by (Err other) e = (refl, refl)
 
   pub none_leaves : AllBytes bytes → (end : End) (calls : ℕ)
-      → (ran_bytes m bytes asked).answer ≡ RunAnswer.Ended end 0 calls
+      → (ran_bytes m bytes asked).answer ≡ ended_by end 0 calls
       → ((ran_bytes m bytes asked).state ≡ bytes) × ((ran_bytes m bytes asked).ram ≡ m.ram)
   none_leaves small end calls told =
       let t = taken end 0 calls told in
       let same = t.ran_is in
       let h = history m (state_of bytes) asked in
-      let none : RunAnswer.Ended (end_of h) (completed_steps h) (calls_among h) ≡ RunAnswer.Ended end 0 calls =
+      let none : ended_by (end_of h) (completed_steps h) (calls_among h) ≡ ended_by end 0 calls =
       sym (ap (λ r. r.answer) same) ∙ told in
-      let left = none_completed (state_of bytes) m.ram h cc in (
+      let left = none_completed (state_of bytes) m.ram h (same_ended none).1 in (
         ap (λ r. r.state) same ∙ ap state_bytes left.0 ∙ bytes_state bytes t.long small,
         ap (λ r. r.ram) same ∙ left.1,
       )

@@ -1,6 +1,7 @@
 -- A run refuses by the first ground that holds: each of its tests is turned into its ground, and the law of
 -- FirstGround.antt does the rest.
 -- Assumes nothing.
+use Rattle.std.specs.Prelude.{Ok, Err}
 use mathlib.Core.Bool.{◌||◌, Bool}
 use mathlib.Core.Path.{◌≡◌, ap, refl, ◌∙◌}
 use mathlib.Core.List.{List}
@@ -10,8 +11,7 @@ use lib.Dec.{ltb, leb, eqb}
 use lib.ListN.{get_or, length}
 use Rattle.types.specs.declared.machine.Status.{Status}
 use Rattle.types.specs.declared.machine.State.{State}
-use Rattle.types.specs.declared.runs.RunAnswer.{RunAnswer}
-use Rattle.types.specs.declared.refusals.TestResult.{TestResult}
+use Rattle.types.specs.Answers.{RunAnswer, TestResult}
 use Rattle.execution.specs.Run.{ram_limit, ram_fits, call_fits, level_limit, calls_fit, state_fits, state_fits_within}
 use Rattle.execution.specs.Run.{run_tests, executed, admission, ran}
 use Rattle.execution.specs.RunGrounds.{WrongRam, WrongCall, WrongState, WrongBytes, run_grounds, RunAnswers}
@@ -76,7 +76,7 @@ run_decided m fits asked state = (
   ),
 )
 
-run_apart : (m : Memory) (s : State) (asked : ℕ) → Apart RunAnswer.NotRun (executed m s asked).answer
+run_apart : (m : Memory) (s : State) (asked : ℕ) → Apart Err (executed m s asked).answer
 run_apart m s asked = record {
   one = λ why other e. cc;
   none = λ why e. let z : ◌≡◌ {A = ℕ} 0 1 = cc in absurd (omega arith);
@@ -86,13 +86,13 @@ run_apart m s asked = record {
 pub run_answers : RunAnswers
 run_answers m s asked =
     rw (by (admission m s asked) refl)
-    (answers_by RunAnswer.NotRun (executed m s asked).answer (run_apart m s asked) (run_grounds m (WrongState s) asked)
+    (answers_by Err (executed m s asked).answer (run_apart m s asked) (run_grounds m (WrongState s) asked)
     (run_tests m (state_fits s) asked) refl (run_decided m (state_fits s) asked (wrong_state s)))
   where
     by : (so : TestResult) → admission m s asked ≡ so
-        → (ran m s asked).answer ≡ answered (admission m s asked) RunAnswer.NotRun (executed m s asked).answer
-    by TestResult.Passed e = ap (λ r. r.answer) (admitted_ran m s asked e).1 ∙ rw e refl
-    by (TestResult.Failed why) e = ap (λ r. r.answer) (refused_ran m s asked why e).1 ∙ rw e refl
+        → (ran m s asked).answer ≡ answered (admission m s asked) Err (executed m s asked).answer
+    by (Ok _) e = ap (λ r. r.answer) (admitted_ran m s asked e).1 ∙ rw e refl
+    by (Err why) e = ap (λ r. r.answer) (refused_ran m s asked why e).1 ∙ rw e refl
 
 pub run_bytes_answers : RunBytesAnswers
 unfolding ran_bytes
@@ -100,11 +100,11 @@ run_bytes_answers m bytes asked =
     let s = state_of bytes in
     let tests = run_tests m (bytes_fit bytes) asked in
     rw (by (first_refusal tests))
-    (answers_by RunAnswer.NotRun (executed m s asked).answer (run_apart m s asked)
+    (answers_by Err (executed m s asked).answer (run_apart m s asked)
     (run_grounds m (WrongBytes bytes) asked) tests refl (run_decided m (bytes_fit bytes) asked (wrong_bytes bytes)))
   where
     by : (so : TestResult)
-        → (ran_bytes_by so m bytes asked).answer ≡ answered so RunAnswer.NotRun
+        → (ran_bytes_by so m bytes asked).answer ≡ answered so Err
         (executed m (state_of bytes) asked).answer
-    by TestResult.Passed = refl
-    by (TestResult.Failed why) = refl
+    by (Ok _) = refl
+    by (Err why) = refl

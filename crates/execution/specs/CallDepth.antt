@@ -7,11 +7,11 @@
 -- 'never held more': the given state holds no more, and counts as held also where a run makes no step. What comes after
 -- it holds no more either, as no call is met with so many open.
 -- Assumes nothing.
-use Rattle.std.specs.Prelude.{◌≡◌, ℕ, ◌≤◌, List, ◌++◌, map, length}
+use Rattle.std.specs.Prelude.{◌≡◌, ℕ, ◌≤◌, List, ◌++◌, map, length, Ok}
 use Rattle.types.specs.declared.code.Kind.{Kind}
 use Rattle.types.specs.declared.code.Flow.{Flow}
 use Rattle.types.specs.declared.code.Instruction.{Instruction}
-use Rattle.types.specs.declared.code.Decoded.{Decoded}
+use Rattle.types.specs.Answers.{Decoded}
 use Rattle.types.specs.declared.machine.State.{State}
 use Rattle.semantics.specs.Memory.{Memory, memory}
 use Rattle.semantics.specs.Step.{call_limit, fetched, Stepped}
@@ -50,7 +50,7 @@ pub record Holds (limit : ℕ) (s : State) : Type 0 where
 -- 'nor met a call with 24 open': a step, completed or stopped, whose code is a JSR, long or not
 abbrev pub MeetsNoCall : ℕ → List ℕ → ℕ → Event → Type 0
 MeetsNoCall limit image base e =
-    (i : Instruction) (kind : Kind) → fetched (memory e.ram image base) e.state.core ≡ Decoded.Whole i
+    (i : Instruction) (kind : Kind) → fetched (memory e.ram image base) e.state.core ≡ Ok i
     → i.entry.flow ≡ Flow.Call kind → e.state.core.depth ≡ limit → ⊥
 
 -- ---- 'behave as they did'

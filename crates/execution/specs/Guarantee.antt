@@ -9,18 +9,14 @@
 -- stops 22 to 27': `EndsWell`.
 -- 'a single claim about the whole list' (01): `Guaranteed`.
 -- Assumes nothing.
-use Rattle.std.specs.Prelude.{◌≡◌, ℕ, ◌≤◌, ◌<◌, true, List, [], length}
+use Rattle.std.specs.Prelude.{◌≡◌, ℕ, ◌≤◌, ◌<◌, true, List, [], length, Ok, Err, Some, None}
 use Rattle.types.specs.declared.code.Kind.{Kind}
 use Rattle.types.specs.declared.code.Flow.{Flow}
 use Rattle.types.specs.declared.code.Instruction.{Instruction}
-use Rattle.types.specs.declared.code.Decoded.{Decoded}
-use Rattle.types.specs.declared.rules.Verdict.{Verdict}
+use Rattle.types.specs.Answers.{Decoded, ended_by, Verdict, TestResult, End, RunAnswer}
 use Rattle.types.specs.declared.machine.State.{State}
 use Rattle.types.specs.declared.machine.Stop.{Stop}
 use Rattle.types.specs.declared.refusals.Refusal.{Refusal}
-use Rattle.types.specs.declared.refusals.TestResult.{TestResult}
-use Rattle.types.specs.declared.runs.End.{End}
-use Rattle.types.specs.declared.runs.RunAnswer.{RunAnswer}
 use Rattle.instructions.specs.CodeMap.{length_at}
 use Rattle.acceptance.specs.Image.{is_start, mark_m, mark_x, mark_at}
 use Rattle.instructions.specs.Successors.{next_address, kind_number}
@@ -47,7 +43,7 @@ pub record Marked (marks : List ℕ) (m : Memory) (s : State) : Type 0 where
 -- address, lies within the image, and the code is carried.
 pub record WholeInside (m : Memory) (s : State) : Type 0 where
   pub instruction : Instruction
-  pub fetches : fetched m s.core ≡ Decoded.Whole instruction
+  pub fetches : fetched m s.core ≡ Ok instruction
   pub carried : instruction.entry.carried ≡ true
   pub counted : instruction.length
       ≡ length_at instruction.entry (bit s.core.registers.status.m) (bit s.core.registers.status.x)
@@ -61,8 +57,8 @@ pub record Safe (image marks : List ℕ) (base : ℕ) (e : Event) : Type 0 where
 
 -- 'ends only because the steps asked for are done or by one of stops 22 to 27'
 pub data EndsWell (h : List Event) (asked : ℕ) : Type 0 where
-  done : end_of h ≡ End.Done → completed_steps h ≡ asked → EndsWell h asked
-  stopped : (stop : Stop) → end_of h ≡ End.AtStop stop → 22 ≤ stop_number stop → stop_number stop ≤ 27 → EndsWell h asked
+  done : end_of h ≡ None → completed_steps h ≡ asked → EndsWell h asked
+  stopped : (stop : Stop) → end_of h ≡ Some stop → 22 ≤ stop_number stop → stop_number stop ≤ 27 → EndsWell h asked
 
 -- A run that is not refused: its history is demand 2's steps, and it 'answers exactly its history's end, its number of
 -- completed steps, and the number of its calls ..; it leaves the state and RAM as they are after the last completed
@@ -71,7 +67,7 @@ pub record AdmittedRun (m : Memory) (s : State) (asked : ℕ) : Type 0 where
   pub steps : run_history m s asked ≡ history m s asked
   pub ends : EndsWell (history m s asked) asked
   pub answer : (ran m s asked).answer
-      ≡ RunAnswer.Ended (end_of (history m s asked)) (completed_steps (history m s asked))
+      ≡ ended_by (end_of (history m s asked)) (completed_steps (history m s asked))
       (calls_among (history m s asked))
   pub state : (ran m s asked).state ≡ state_left s (history m s asked)
   pub ram : (ran m s asked).ram ≡ ram_left m.ram (history m s asked)
@@ -79,14 +75,14 @@ pub record AdmittedRun (m : Memory) (s : State) (asked : ℕ) : Type 0 where
 -- A refused run makes no step, answers its refusal and leaves state and RAM as given.
 pub record RefusedRun (m : Memory) (s : State) (asked : ℕ) (why : Refusal) : Type 0 where
   pub steps : run_history m s asked ≡ []
-  pub answer : (ran m s asked).answer ≡ RunAnswer.NotRun why
+  pub answer : (ran m s asked).answer ≡ Err why
   pub state : (ran m s asked).state ≡ s
   pub ram : (ran m s asked).ram ≡ m.ram
 
 -- every run is one or the other
 pub data RunOutcome (m : Memory) (s : State) (asked : ℕ) : Type 0 where
-  admitted : admission m s asked ≡ TestResult.Passed → AdmittedRun m s asked → RunOutcome m s asked
-  refused : (why : Refusal) → admission m s asked ≡ TestResult.Failed why → RefusedRun m s asked why
+  admitted : admission m s asked ≡ Ok tt → AdmittedRun m s asked → RunOutcome m s asked
+  refused : (why : Refusal) → admission m s asked ≡ Err why → RefusedRun m s asked why
       → RunOutcome m s asked
 
 -- ---- the claim
@@ -104,7 +100,7 @@ pub record Begins (marks : List ℕ) (m : Memory) (s : State) : Type 0 where
 -- The demand, 'whatever RAM and every other register hold at first'.
 abbrev pub Guarantee : Type 0
 Guarantee =
-    (image marks : List ℕ) (base reset : ℕ) → verdict image marks base reset ≡ Verdict.Accepted
+    (image marks : List ℕ) (base reset : ℕ) → verdict image marks base reset ≡ Ok tt
     → (ram : List ℕ) (s : State) → Begins marks (memory ram image base) s
     → (asked : List ℕ) → Guaranteed image marks base (runs_from (memory ram image base) s asked)
 
@@ -114,13 +110,13 @@ Guarantee =
 -- other kind, or pulled address not the open call's', the second never arises. An entry past the list's end is no call.
 abbrev pub OwnKind : List ℕ → ℕ → Event → Type 0
 OwnKind image base e =
-    (i : Instruction) (kind : Kind) → fetched (memory e.ram image base) e.state.core ≡ Decoded.Whole i
+    (i : Instruction) (kind : Kind) → fetched (memory e.ram image base) e.state.core ≡ Ok i
     → i.entry.flow ≡ Flow.Return kind → 0 < e.state.core.depth → e.state.core.depth ≤ length e.state.calls
     → kind_of (last_opened e.state) ≡ kind_number kind
 
 abbrev pub OwnKinds : Type 0
 OwnKinds =
-    (image marks : List ℕ) (base reset : ℕ) → verdict image marks base reset ≡ Verdict.Accepted
+    (image marks : List ℕ) (base reset : ℕ) → verdict image marks base reset ≡ Ok tt
     → (ram : List ℕ) (s : State) → Begins marks (memory ram image base) s
     → (asked : List ℕ)
     → Every (OwnKind image base) (joined_history image base (runs_from (memory ram image base) s asked))

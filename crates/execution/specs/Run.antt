@@ -2,15 +2,13 @@
 -- leaves are functions of the history. Like a step, a run is defined within any limit of open calls (`.._within limit`);
 -- at the end stand the machine's own, within `call_limit`.
 -- Assumes nothing.
-use Rattle.std.specs.Prelude.{ℕ, zero, suc, ◌+◌, Bool, true, false, not, ◌&&◌, ◌||◌, List, [], ◌∷◌, ◌++◌, eqb}
+use Rattle.types.specs.declared.machine.Completion.{Completion}
+use Rattle.std.specs.Prelude.{ℕ, zero, suc, ◌+◌, Bool, true, false, not, ◌&&◌, ◌||◌, List, [], ◌∷◌, ◌++◌, eqb, Ok, Err, Some, None}
 use Rattle.std.specs.Prelude.{ltb, leb, length, get_or}
 use Rattle.types.specs.declared.code.Kind.{Kind}
 use Rattle.types.specs.declared.machine.State.{State}
-use Rattle.types.specs.declared.machine.StepAnswer.{StepAnswer}
+use Rattle.types.specs.Answers.{StepAnswer, ended_by, TestResult, End, RunAnswer}
 use Rattle.types.specs.declared.refusals.Refusal.{Refusal}
-use Rattle.types.specs.declared.refusals.TestResult.{TestResult}
-use Rattle.types.specs.declared.runs.End.{End}
-use Rattle.types.specs.declared.runs.RunAnswer.{RunAnswer}
 use Rattle.prelude.specs.Choice.{pick, bit}
 use Rattle.types.specs.Refusals.{Tests, first_refusal}
 use Rattle.types.specs.Addresses.{address_limit}
@@ -67,12 +65,12 @@ calls_among = count is_call
 
 -- 'the end (0 when all asked steps are done, else the stop)'
 abbrev pub end_after : StepAnswer → End → End
-end_after StepAnswer.Completed more = more
-end_after StepAnswer.Called more = more
-end_after (StepAnswer.Stopped stop) more = End.AtStop stop
+end_after (Ok Completion.Ordinary) more = more
+end_after (Ok Completion.Call) more = more
+end_after (Err stop) more = Some stop
 
 abbrev pub end_of : List Event → End
-end_of [] = End.Done
+end_of [] = None
 end_of (e ∷ rest) = end_after e.result.answer (end_of rest)
 
 -- 'it leaves the state and RAM as they are after the last completed step, or as given if there is none'
@@ -129,8 +127,8 @@ admission_within limit m s asked = first_refusal (run_tests m (state_fits_within
 
 -- 'A run is refused exactly when one of the numbers tested for a run holds ..; its history is empty.'
 unfoldable pub admitted_history_within : ℕ → TestResult → Memory → State → ℕ → List Event
-admitted_history_within limit TestResult.Passed m s asked = history_within limit m s asked
-admitted_history_within limit (TestResult.Failed why) m s asked = []
+admitted_history_within limit (Ok _) m s asked = history_within limit m s asked
+admitted_history_within limit (Err why) m s asked = []
 
 abbrev pub run_history_within : ℕ → Memory → State → ℕ → List Event
 run_history_within limit m s asked = admitted_history_within limit (admission_within limit m s asked) m s asked
@@ -138,8 +136,8 @@ run_history_within limit m s asked = admitted_history_within limit (admission_wi
 -- '.. and answers the first such number'; 'A run that is not refused answers exactly its history's end, its number of
 -- completed steps, and the number of its calls'
 abbrev pub answer_by : TestResult → List Event → RunAnswer
-answer_by TestResult.Passed h = RunAnswer.Ended (end_of h) (completed_steps h) (calls_among h)
-answer_by (TestResult.Failed why) h = RunAnswer.NotRun why
+answer_by (Ok _) h = ended_by (end_of h) (completed_steps h) (calls_among h)
+answer_by (Err why) h = Err why
 
 -- A run's answer, and state and RAM after it. A step by itself is a run of one.
 pub record Ran : Type 0 where
@@ -153,7 +151,7 @@ ran_by a m s h = record { answer = answer_by a h; state = state_left s h; ram = 
 
 -- what a run comes to that is not refused
 abbrev pub executed_within : ℕ → Memory → State → ℕ → Ran
-executed_within limit m s asked = ran_by TestResult.Passed m s (history_within limit m s asked)
+executed_within limit m s asked = ran_by (Ok tt) m s (history_within limit m s asked)
 
 unfoldable pub ran_within : ℕ → Memory → State → ℕ → Ran
 ran_within limit m s asked = ran_by (admission_within limit m s asked) m s (run_history_within limit m s asked)
@@ -161,7 +159,7 @@ ran_within limit m s asked = ran_by (admission_within limit m s asked) m s (run_
 -- What a step comes to as a run of one: completed, completed as a call, or stopped.
 abbrev pub one_step : Stepped → Ran
 one_step t = record {
-  answer = RunAnswer.Ended (end_after t.answer End.Done) (bit (is_completed t.answer)) (bit (is_call t.answer));
+  answer = ended_by (end_after t.answer None) (bit (is_completed t.answer)) (bit (is_call t.answer));
   state = t.state;
   ram = t.ram;
 }

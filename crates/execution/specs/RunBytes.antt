@@ -1,8 +1,7 @@
 -- A run of a state that is given as bytes: `m7700_run` and `m7700_step` of include/m7700.h.
 -- Assumes nothing.
-use Rattle.std.specs.Prelude.{ℕ, Bool, ◌&&◌, List, eqb, length}
-use Rattle.types.specs.declared.refusals.TestResult.{TestResult}
-use Rattle.types.specs.declared.runs.RunAnswer.{RunAnswer}
+use Rattle.std.specs.Prelude.{ℕ, Bool, ◌&&◌, List, eqb, length, Ok, Err}
+use Rattle.types.specs.Answers.{TestResult, RunAnswer}
 use Rattle.types.specs.Refusals.{first_refusal}
 use Rattle.semantics.specs.Memory.{Memory}
 use Rattle.execution.specs.Run.{state_fits, run_tests, Ran, executed}
@@ -24,8 +23,8 @@ as_bytes r = record { answer = r.answer; state = state_bytes r.state; ram = r.ra
 
 -- 'A refusal leaves every buffer and the state as given'
 abbrev pub ran_bytes_by : TestResult → Memory → List ℕ → ℕ → RanBytes
-ran_bytes_by TestResult.Passed m bytes asked = as_bytes (executed m (state_of bytes) asked)
-ran_bytes_by (TestResult.Failed why) m bytes asked = record { answer = RunAnswer.NotRun why; state = bytes; ram = m.ram }
+ran_bytes_by (Ok _) m bytes asked = as_bytes (executed m (state_of bytes) asked)
+ran_bytes_by (Err why) m bytes asked = record { answer = Err why; state = bytes; ram = m.ram }
 
 unfoldable pub ran_bytes : Memory → List ℕ → ℕ → RanBytes
 ran_bytes m bytes asked = ran_bytes_by (first_refusal (run_tests m (bytes_fit bytes) asked)) m bytes asked

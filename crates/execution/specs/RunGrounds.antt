@@ -1,9 +1,9 @@
 -- 01, 'Numbers': on which grounds a run is refused. Nothing here says how a ground is tested.
 -- Assumes nothing.
-use Rattle.std.specs.Prelude.{◌≡◌, ◌⊎◌, List, [], ◌∷◌, ℕ, ◌<◌, ◌≤◌, ◌^◌, get_or, length}
+use Rattle.std.specs.Prelude.{◌≡◌, ◌⊎◌, List, [], ◌∷◌, ℕ, ◌<◌, ◌≤◌, ◌^◌, get_or, length, Err}
 use Rattle.types.specs.declared.machine.State.{State}
 use Rattle.types.specs.declared.refusals.Refusal.{Refusal}
-use Rattle.types.specs.declared.runs.RunAnswer.{RunAnswer}
+use Rattle.types.specs.Answers.{RunAnswer}
 use Rattle.execution.specs.Run.{ram_limit, executed, ran}
 use Rattle.types.specs.Addresses.{address_limit}
 use Rattle.semantics.specs.Step.{return_of, kind_of, call_limit}
@@ -54,12 +54,12 @@ run_grounds m Wrong asked =
 abbrev pub RunAnswers : Type 0
 RunAnswers =
     (m : Memory) (s : State) (asked : ℕ)
-    → AnswersBy (run_grounds m (WrongState s) asked) RunAnswer.NotRun (executed m s asked).answer
+    → AnswersBy (run_grounds m (WrongState s) asked) Err (executed m s asked).answer
     (ran m s asked).answer
 
 -- the same of a state that is given as bytes
 abbrev pub RunBytesAnswers : Type 0
 RunBytesAnswers =
     (m : Memory) (bytes : List ℕ) (asked : ℕ)
-    → AnswersBy (run_grounds m (WrongBytes bytes) asked) RunAnswer.NotRun (executed m (state_of bytes) asked).answer
+    → AnswersBy (run_grounds m (WrongBytes bytes) asked) Err (executed m (state_of bytes) asked).answer
     (ran_bytes m bytes asked).answer

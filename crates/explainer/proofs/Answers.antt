@@ -1,5 +1,6 @@
 -- What the check's packed answer tells: the line, and what the tests before its number have shown.
 -- Assumes nothing.
+use Rattle.std.specs.Prelude.{Ok, Err}
 use mathlib.Core.Path.{◌≡◌, refl, sym, ap, ◌∙◌}
 use mathlib.Core.Logic.{⊎_elim}
 use mathlib.Core.Bool.{Bool, true, false}
@@ -10,8 +11,7 @@ use borrow.Author.Tests.{le-leb, lt-leb}
 use lib.Dec.{leb}
 use lib.ListN.{length, take, drop}
 use Rattle.types.specs.declared.refusals.Refusal.{Refusal}
-use Rattle.types.specs.declared.rules.Verdict.{Verdict}
-use Rattle.types.specs.declared.pages.Printed.{Printed}
+use Rattle.types.specs.Answers.{Verdict, refused_at, Printed}
 use Rattle.types.specs.Addresses.{address_limit}
 use Rattle.types.specs.Refusals.{refusal_number}
 use Rattle.prelude.proofs.Match.{NoKey, outside}
@@ -112,19 +112,19 @@ module _ (image marks : List ℕ) (base reset : ℕ) where
       where
         by : (v : Verdict) → check_numbers answer ≡ verdict_numbers v
             → line_by v image marks base reset ≡ ascii "accepted\n"
-        by Verdict.Accepted e = refl
-        by (Verdict.Refused why at) e =
-            absurd (omega (arith, zero, ap (λ n. n.number) e, (refusal_range why).0))
+        by (Ok _) e = refl
+        by (Err r) e =
+            absurd (omega (arith, zero, ap (λ n. n.number) e, (refusal_range r.why).0))
 
     -- a refusal, with its number and offset
     when_refused : {P : Type 0} → (answer / 65_536 ≡ 0 → ⊥)
-        → ((why : Refusal) (at : ℕ) → verdict image marks base reset ≡ Verdict.Refused why at
+        → ((why : Refusal) (at : ℕ) → verdict image marks base reset ≡ refused_at why at
         → refusal_number why ≡ answer / 65_536 → at ≡ answer % 65_536 → P) → P
     when_refused {P} some then = by (verdict image marks base reset) refl told
       where
         by : (v : Verdict) → verdict image marks base reset ≡ v → check_numbers answer ≡ verdict_numbers v → P
-        by Verdict.Accepted e n = absurd (some (ap (λ n. n.number) n))
-        by (Verdict.Refused why at) e n = then why at e (sym (ap (λ n. n.number) n)) (sym (ap (λ n. n.offset) n))
+        by (Ok _) e n = absurd (some (ap (λ n. n.number) n))
+        by (Err r) e n = then r.why r.offset e (sym (ap (λ n. n.number) n)) (sym (ap (λ n. n.offset) n))
 
     pub refused_line_lem : (answer / 65_536 ≡ 0 → ⊥)
         → explanation image marks base reset
@@ -146,7 +146,7 @@ explained_fits image marks base reset page short =
     by (leb (length (explanation image marks base reset)) (length page))
   where
     by : (b : Bool) → PrintedFits
-        (pick b (Printed.Rows (length (explanation image marks base reset))) (Printed.NotPrinted Refusal.Page 0))
+        (pick b (Ok (length (explanation image marks base reset))) (refused_at Refusal.Page 0))
     by true = omega arith
     by false = omega arith
 
@@ -160,14 +160,14 @@ module _ (image marks : List ℕ) (base reset : ℕ) (page : List ℕ) {size : �
       × ((left ≡ page_explained image marks base reset page)
       × (length (explanation image marks base reset) ≤ line_limit))
 
-  pub no_room : length page < size → Left (Printed.NotPrinted Refusal.Page 0) page
+  pub no_room : length page < size → Left (refused_at Refusal.Page 0) page
   unfolding explained page_explained page_after
   no_room few =
       let short = lt-leb (length (explanation image marks base reset)) (length page) (omega (arith, a.size)) in
       (rw short refl, (rw short refl, omega (arith, a.size, a.most)))
 
   pub written : {left : List ℕ} → size ≤ length page
-      → left ≡ take size line ++ drop (length (take size line)) page → Left (Printed.Rows size) left
+      → left ≡ take size line ++ drop (length (take size line)) page → Left (Ok size) left
   unfolding explained page_explained page_after
   written room put =
       let same : size ≡ length (explanation image marks base reset) = omega (arith, a.size) in

@@ -1,6 +1,8 @@
 -- What is decoded at a start, for what is said of it: a code that is not carried is there, one that is cut off has few
 -- bytes. And the requirement that is named, as the code asks for it.
 -- Assumes nothing.
+use Rattle.types.specs.declared.code.Undecoded.{Undecoded}
+use Rattle.std.specs.Prelude.{Ok, Err}
 use mathlib.Core.Path.{◌≡◌, refl, sym, ap, ◌∙◌}
 use mathlib.Core.Bool.{Bool, true, false}
 use mathlib.Core.List.{List}
@@ -11,7 +13,7 @@ use lib.Dec.{eqb, ltb, leb}
 use lib.ListN.{length, get_or}
 use Rattle.types.specs.declared.code.Kind.{Kind}
 use Rattle.types.specs.declared.code.Flow.{Flow}
-use Rattle.types.specs.declared.code.Decoded.{Decoded}
+use Rattle.types.specs.Answers.{Decoded}
 use Rattle.types.specs.declared.rules.Requirement.{Requirement}
 use Rattle.types.specs.declared.rules.Requirements.{Requirements}
 use Rattle.prelude.specs.Choice.{pick}
@@ -35,24 +37,24 @@ module _ (bytes : List ℕ) (m x : ℕ) where
   there = judged bytes prefix (code_entry bytes) size
 
   abbrev whole : Decoded
-  whole = Decoded.Whole (record { entry = code_entry bytes; length = size; operand = operand_of bytes prefix size })
+  whole = Ok (record { entry = code_entry bytes; length = size; operand = operand_of bytes prefix size })
 
-  pub uncarried_code : decode bytes m x ≡ Decoded.NotCarried → prefix < length bytes
+  pub uncarried_code : decode bytes m x ≡ Err Undecoded.NotCarried → prefix < length bytes
   unfolding decode decode_on
   uncarried_code h = by (ltb prefix (length bytes)) refl h
     where
-      by : (b : Bool) → ltb prefix (length bytes) ≡ b → pick b there Decoded.CutOff ≡ Decoded.NotCarried
+      by : (b : Bool) → ltb prefix (length bytes) ≡ b → pick b there (Err Undecoded.CutOff) ≡ Err Undecoded.NotCarried
           → prefix < length bytes
       by true e h = ltb-true prefix (length bytes) e
       by false e h = let z : ◌≡◌ {A = ℕ} 0 1 = cc in absurd (omega arith)
 
-  pub few_left : decode bytes m x ≡ Decoded.CutOff → length bytes ≤ 6
+  pub few_left : decode bytes m x ≡ Err Undecoded.CutOff → length bytes ≤ 6
   unfolding decode decode_on judged
   few_left h = by (ltb prefix (length bytes)) (code_entry bytes).carried (leb size (length bytes)) refl refl refl h
     where
       by : (a b c : Bool) → ltb prefix (length bytes) ≡ a → (code_entry bytes).carried ≡ b → leb size (length bytes) ≡ c
-          → pick a (pick b (pick c whole Decoded.CutOff) Decoded.NotCarried) Decoded.CutOff
-          ≡ Decoded.CutOff
+          → pick a (pick b (pick c whole (Err Undecoded.CutOff)) (Err Undecoded.NotCarried)) (Err Undecoded.CutOff)
+          ≡ Err Undecoded.CutOff
           → length bytes ≤ 6
       by false b c e e' e'' h =
           let one = one_of (eqb (page_of (get_or bytes 0 0)) 0) 0 1 (omega arith) (omega arith) in

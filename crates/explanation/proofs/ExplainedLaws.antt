@@ -1,5 +1,6 @@
 -- The marks that are read are those of the list; the explanation has room behind the answer's line.
 -- Assumes nothing.
+use Rattle.std.specs.Prelude.{Ok, Err}
 use mathlib.Core.Path.{◌≡◌, refl, sym, ap, ◌∙◌}
 use mathlib.Core.List.{List, [], ◌++◌, append-nil}
 use Prim.Native.Nat.{ℕ, ◌+◌, ◌-◌, ◌≤◌, ◌<◌}
@@ -8,8 +9,7 @@ use borrow.Author.Tests.{le-leb, lt-leb}
 use borrow.Rule.Slice.PartMut.{put_mid}
 use lib.ListN.{length, take, drop}
 use Rattle.types.specs.declared.lists.Header.{Header}
-use Rattle.types.specs.declared.lists.ListRead.{ListRead}
-use Rattle.types.specs.declared.pages.Printed.{Printed}
+use Rattle.types.specs.Answers.{ListRead, refused_at, Printed}
 use Rattle.types.specs.declared.refusals.Refusal.{Refusal}
 use Rattle.text.proofs.Pages.{Front, front_next, part_room}
 use Rattle.types.specs.Addresses.{image_limit}
@@ -25,11 +25,11 @@ use Rattle.explanation.specs.Explained.{text_limit}
 -- ---- by the list
 
 module _ (image text marks : List ℕ) (alike : length marks ≡ length image) where
-  pub list_refused : (why : Refusal) → read_list text marks ≡ ListRead.NotRead why → list_explanation image text ≡ []
+  pub list_refused : (why : Refusal) → read_list text marks ≡ Err why → list_explanation image text ≡ []
   unfolding list_explanation explanation_as read_list
   list_refused why e = rw (← alike, e)
 
-  pub list_explained : (h : Header) → read_list text marks ≡ ListRead.Read h
+  pub list_explained : (h : Header) → read_list text marks ≡ Ok h
       → explanation image (marks_read text marks) h.base h.reset ≡ list_explanation image text
   unfolding list_explanation explanation_as read_list marks_read marks_by
   list_explained h e = rw (← alike, e)
@@ -42,24 +42,24 @@ module _ (image marks : List ℕ) (base reset : ℕ) (page left : List ℕ) (roo
   abbrev line : List ℕ
   line = explanation image marks base reset
 
-  whole : explained image marks base reset page ≡ Printed.Rows (length line)
+  whole : explained image marks base reset page ≡ Ok (length line)
   unfolding explained
   whole = rw (le-leb (length line) (length page) (omega arith))
 
   -- tells the answers apart
   abbrev rows : Printed → ℕ
-  rows (Printed.NotPrinted why at) = 0
-  rows (Printed.Rows n) = n + 1
+  rows (Err r) = 0
+  rows (Ok n) = n + 1
 
   abbrev size_of : Printed → ℕ
-  size_of (Printed.NotPrinted why at) = 0
-  size_of (Printed.Rows n) = n
+  size_of (Err r) = 0
+  size_of (Ok n) = n
 
-  pub line_size_lem : (n : ℕ) → explained image marks base reset page ≡ Printed.Rows n → n ≡ length line
+  pub line_size_lem : (n : ℕ) → explained image marks base reset page ≡ Ok n → n ≡ length line
   line_size_lem n e = ap size_of (sym e ∙ whole)
 
   pub never_short : {P : Type 0} (why : Refusal) (at : ℕ)
-      → explained image marks base reset page ≡ Printed.NotPrinted why at → P
+      → explained image marks base reset page ≡ refused_at why at → P
   never_short why at e = absurd (omega (arith, ap rows (sym e ∙ whole)))
 
   pub line_left : left ≡ line ++ drop (length line) page
@@ -68,10 +68,10 @@ module _ (image marks : List ℕ) (base reset : ℕ) (page left : List ℕ) (roo
 
 -- a list that is read, explained
 pub explained_by : (image text marks read page left : List ℕ) (h : Header) (n : ℕ) → length marks ≡ length image
-    → read_list text marks ≡ ListRead.Read h → read ≡ marks_read text marks → line_limit ≤ length page
+    → read_list text marks ≡ Ok h → read ≡ marks_read text marks → line_limit ≤ length page
     → length (explanation image read h.base h.reset) ≤ line_limit
     → left ≡ page_explained image read h.base h.reset page
-    → explained image read h.base h.reset page ≡ Printed.Rows n
+    → explained image read h.base h.reset page ≡ Ok n
     → (n ≡ length (list_explanation image text)) × (left ≡ list_explanation image text ++ drop n page) ×
     (n ≤ line_limit)
 explained_by image text marks read page left h n alike e m room short kept told =

@@ -1,8 +1,8 @@
 -- `./check --explain` (docs/requests/explain.md), of files: what the program writes for the bytes of an image file and
 -- a list file.
 -- Assumes nothing.
-use Rattle.std.specs.Prelude.{ℕ, ◌+◌, ◌&&◌, List, [], ◌++◌, leb, length}
-use Rattle.types.specs.declared.lists.ListRead.{ListRead}
+use Rattle.std.specs.Prelude.{ℕ, ◌+◌, ◌&&◌, List, [], ◌++◌, leb, length, Ok, Err}
+use Rattle.types.specs.Answers.{ListRead}
 use Rattle.prelude.specs.Choice.{pick}
 use Rattle.types.specs.Addresses.{image_limit}
 use Rattle.lists.specs.MarkList.{is_old, address_digits, header_shown, marks_of, read_as}
@@ -12,8 +12,8 @@ use Rattle.answer.specs.AnswerLine.{list_limit, answer_line}
 
 -- by the marks, the base and the reset address of a list; a list that is refused has none, and nothing is explained
 unfoldable pub explanation_as : ListRead → List ℕ → List ℕ → List ℕ
-explanation_as (ListRead.NotRead why) image text = []
-explanation_as (ListRead.Read h) image text =
+explanation_as (Err why) image text = []
+explanation_as (Ok h) image text =
     explanation image (marks_of (address_digits text) h text) h.base h.reset
 
 -- the list is read for as many marks as the image has bytes

@@ -12,7 +12,7 @@ ghost use Rattle.acceptance.specs.Verdict.{bad_mark, all_formed, image_tests, ma
 use crate::marks::mark_kind;
 use fields::byte_at;
 use types::addresses::ADDRESS_LIMIT;
-use types::refusals::{Refusal, TestResult};
+use types::refusals::Refusal;
 
 // The limit of types/specs/Addresses.antt.
 pub const IMAGE_LIMIT: usize = 65_536;
@@ -122,32 +122,29 @@ fn all_formed(marks: &[u8]) -> bool
 }
 
 // 1, 2: what every call tests of an image of so many bytes at a base, with so many marks.
-pub fn test_image(image: usize, marks: usize, base: u32) -> TestResult
+pub fn test_image(image: usize, marks: usize, base: u32) -> Result<(), Refusal>
     ensures { result ≡ first_refusal (image_tests image marks base) }
 {
     if !length_fits(image, marks) {
-        return TestResult::Failed(Refusal::Length);
+        return Err(Refusal::Length);
     }
     if !base_fits(base, image) {
-        return TestResult::Failed(Refusal::Base);
+        return Err(Refusal::Base);
     }
-    TestResult::Passed
+    Ok(())
 }
 
 // 1, 2, 4, 3: what the check and the writer test. The marks are gone through only where they are as many as they must
 // be.
-pub fn test_marks(image: usize, marks: &[u8], base: u32, reset: u32) -> TestResult
+pub fn test_marks(image: usize, marks: &[u8], base: u32, reset: u32) -> Result<(), Refusal>
     ensures { result ≡ first_refusal (marks_tests image marks.now base reset) }
 {
-    let tested = test_image(image, marks.len(), base);
-    if let TestResult::Failed(_) = tested {
-        return tested;
-    }
+    test_image(image, marks.len(), base)?;
     if !all_formed(marks) {
-        return TestResult::Failed(Refusal::Mark);
+        return Err(Refusal::Mark);
     }
     if !reset_fits(marks, base, reset) {
-        return TestResult::Failed(Refusal::Reset);
+        return Err(Refusal::Reset);
     }
-    TestResult::Passed
+    Ok(())
 }

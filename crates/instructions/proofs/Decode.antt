@@ -2,6 +2,8 @@
 -- has 1 to 6 bytes, they lie within the bytes that it was read from, and its operand is below the bound of its bytes.
 -- Each test on the way to `Whole` must have passed, and the length's bounds are the code map's rule.
 -- Assumes nothing.
+use Rattle.types.specs.declared.code.Undecoded.{Undecoded}
+use Rattle.std.specs.Prelude.{Ok, Err}
 use mathlib.Core.Path.{◌≡◌, refl}
 use mathlib.Core.Bool.{Bool, true, false}
 use mathlib.Core.List.{List, [], ◌∷◌}
@@ -15,20 +17,20 @@ use Rattle.prelude.proofs.Bytes.{bytes_take, bytes_drop}
 use Rattle.fields.proofs.Fields.{number_bound}
 use Rattle.types.specs.declared.code.Entry.{Entry}
 use Rattle.types.specs.declared.code.Instruction.{Instruction}
-use Rattle.types.specs.declared.code.Decoded.{Decoded}
+use Rattle.types.specs.Answers.{Decoded}
 use Rattle.prelude.specs.Choice.{pick}
 use Rattle.instructions.specs.CodeMap.{prefix_bytes, entry_at, length_at}
 use Rattle.prelude.specs.Bytes.{AllBytes}
 use Rattle.instructions.specs.Decode.{page_of, operand_of, judged, decode_on, decode}
 use Rattle.instructions.proofs.CodeMap.{carried_length}
 
-passed_or_cut : (t : Bool) (d : Decoded) (i : Instruction) → pick t d Decoded.CutOff ≡ Decoded.Whole i
-    → (t ≡ true) × (d ≡ Decoded.Whole i)
+passed_or_cut : (t : Bool) (d : Decoded) (i : Instruction) → pick t d (Err Undecoded.CutOff) ≡ Ok i
+    → (t ≡ true) × (d ≡ Ok i)
 passed_or_cut true d i h = (refl, h)
 passed_or_cut false d i h = let z : ◌≡◌ {A = ℕ} 0 1 = cc in absurd (omega arith)
 
-passed_or_not_carried : (t : Bool) (d : Decoded) (i : Instruction) → pick t d Decoded.NotCarried ≡ Decoded.Whole i
-    → (t ≡ true) × (d ≡ Decoded.Whole i)
+passed_or_not_carried : (t : Bool) (d : Decoded) (i : Instruction) → pick t d (Err Undecoded.NotCarried) ≡ Ok i
+    → (t ≡ true) × (d ≡ Ok i)
 passed_or_not_carried true d i h = (refl, h)
 passed_or_not_carried false d i h = let z : ◌≡◌ {A = ℕ} 0 1 = cc in absurd (omega arith)
 
@@ -40,7 +42,7 @@ pub record Passed (page : ℕ) (bytes : List ℕ) (m x : ℕ) (i : Instruction) 
   pub inside : i.length ≤ length bytes
   pub operand : i.operand ≡ operand_of bytes (prefix_bytes page) i.length
 
-pub same_whole : (i j : Instruction) → Decoded.Whole i ≡ Decoded.Whole j → i ≡ j
+pub same_whole : (i j : Instruction) → ◌≡◌ {A = Decoded} (Ok i) (Ok j) → i ≡ j
 same_whole i j h = cc
 
 made : (page : ℕ) (bytes : List ℕ) (m x : ℕ) (e : Entry) (n : ℕ) → e ≡ entry_at page
@@ -56,7 +58,7 @@ made page bytes m x e n at_code at_widths carried inside =
       operand = refl;
     }
 
-passed : (page : ℕ) (bytes : List ℕ) (m x : ℕ) (i : Instruction) → decode_on page bytes m x ≡ Decoded.Whole i
+passed : (page : ℕ) (bytes : List ℕ) (m x : ℕ) (i : Instruction) → decode_on page bytes m x ≡ Ok i
     → Passed page bytes m x i
 unfolding decode_on judged
 passed page bytes m x i h =
@@ -86,14 +88,14 @@ decodes_on page bytes m x i p =
       inside = p.inside;
     }
 
-pub decodes : (bytes : List ℕ) (m x : ℕ) (i : Instruction) → decode bytes m x ≡ Decoded.Whole i → Decodes bytes i
+pub decodes : (bytes : List ℕ) (m x : ℕ) (i : Instruction) → decode bytes m x ≡ Ok i → Decodes bytes i
 unfolding decode
 decodes bytes m x i h =
     let page = page_of (get_or bytes 0 0) in
     decodes_on page bytes m x i (passed page bytes m x i h)
 
 -- an instruction's entry is the code map's, and its length what the code map counts at these widths
-pub decoded_entry : (bytes : List ℕ) (m x : ℕ) (i : Instruction) → decode bytes m x ≡ Decoded.Whole i
+pub decoded_entry : (bytes : List ℕ) (m x : ℕ) (i : Instruction) → decode bytes m x ≡ Ok i
     → (i.entry ≡ entry_at (page_of (get_or bytes 0 0)) (get_or bytes (prefix_bytes (page_of (get_or bytes 0 0))) 0))
     × (i.length ≡ length_at i.entry m x)
 unfolding decode
@@ -105,7 +107,7 @@ part_length : (n k : ℕ) (bytes : List ℕ) → n ≤ length bytes → length (
 part_length n k bytes h = simp (length-take, length-drop) (omega arith)
 
 -- the operand is below the bound of its bytes
-pub operand_bound : (bytes : List ℕ) (m x : ℕ) (i : Instruction) → AllBytes bytes → decode bytes m x ≡ Decoded.Whole i
+pub operand_bound : (bytes : List ℕ) (m x : ℕ) (i : Instruction) → AllBytes bytes → decode bytes m x ≡ Ok i
     → i.operand < 256 ^ (i.length - (prefix_bytes (page_of (get_or bytes 0 0)) + 1))
 unfolding decode
 operand_bound bytes m x i small h =
@@ -117,7 +119,7 @@ operand_bound bytes m x i small h =
     let below = number_bound part (bytes_take (n - k) (drop k bytes) (bytes_drop k bytes small)) in
     rw p.operand (rw (part_length n k bytes p.inside) at below)
 
-pub decode_nothing : (bytes : List ℕ) (m x : ℕ) → length bytes ≡ 0 → Decoded.CutOff ≡ decode bytes m x
+pub decode_nothing : (bytes : List ℕ) (m x : ℕ) → length bytes ≡ 0 → Err Undecoded.CutOff ≡ decode bytes m x
 unfolding decode decode_on
 decode_nothing [] m x h = refl
 decode_nothing (b ∷ bs) m x h = absurd (omega arith)

@@ -1,10 +1,11 @@
 -- The instruction at a place: 01, 'length is read from there at the marked widths', and numbers 5 and 6, which are 21
 -- and 20 in a step. It is read from the bytes that begin with the instruction's first one, wherever those come from.
 -- Assumes nothing.
-use Rattle.std.specs.Prelude.{ℕ, ◌+◌, ◌-◌, List, eqb, ltb, leb, length, get_or, take, drop}
+use Rattle.types.specs.declared.code.Undecoded.{Undecoded}
+use Rattle.std.specs.Prelude.{ℕ, ◌+◌, ◌-◌, List, eqb, ltb, leb, length, get_or, take, drop, Ok, Err}
 use Rattle.fields.specs.Fields.{number}
 use Rattle.types.specs.declared.code.Entry.{Entry}
-use Rattle.types.specs.declared.code.Decoded.{Decoded}
+use Rattle.types.specs.Answers.{Decoded}
 use Rattle.prelude.specs.Choice.{pick}
 use Rattle.instructions.specs.CodeMap.{prefix_bytes, entry_at, length_at}
 
@@ -25,9 +26,9 @@ unfoldable pub judged : List ℕ → ℕ → Entry → ℕ → Decoded
 judged bytes prefix e n =
     pick e.carried
     (pick (leb n (length bytes))
-    (Decoded.Whole (record { entry = e; length = n; operand = operand_of bytes prefix n }))
-    Decoded.CutOff)
-    Decoded.NotCarried
+    (Ok (record { entry = e; length = n; operand = operand_of bytes prefix n }))
+    (Err Undecoded.CutOff))
+    (Err Undecoded.NotCarried)
 
 -- what the bytes begin with, its code behind the prefix bytes of a page
 unfoldable pub decode_on : ℕ → List ℕ → ℕ → ℕ → Decoded
@@ -35,7 +36,7 @@ decode_on page bytes m x =
     pick (ltb (prefix_bytes page) (length bytes))
     (judged bytes (prefix_bytes page) (entry_at page (get_or bytes (prefix_bytes page) 0))
     (length_at (entry_at page (get_or bytes (prefix_bytes page) 0)) m x))
-    Decoded.CutOff
+    (Err Undecoded.CutOff)
 
 -- what the bytes begin with, at the widths m and x
 unfoldable pub decode : List ℕ → ℕ → ℕ → Decoded

@@ -4,11 +4,11 @@
 use Rattle.std.specs.Prelude.{ℕ, ◌+◌, ◌%◌, ◌-◌, ◌*◌, ◌/◌, ◌^◌, ltb, eqb}
 use Rattle.types.specs.declared.code.Target.{Target}
 use Rattle.types.specs.declared.code.WidthEffect.{WidthEffect}
-use Rattle.types.specs.declared.code.Kind.{Kind}
 use Rattle.types.specs.declared.code.Instruction.{Instruction}
 use Rattle.types.specs.Addresses.{address_limit, in_bank_of, bank_size}
 use Rattle.prelude.specs.Choice.{pick}
 use Rattle.types.specs.Status.{mask_m, mask_x}
+pub use Rattle.types.specs.Kinds.{kind_number}
 
 -- 'the next address': addresses count on as one 24-bit number that wraps
 abbrev pub next_address : ℕ → ℕ → ℕ
@@ -58,11 +58,6 @@ x_after WidthEffect.SetM x operand = x
 x_after WidthEffect.ClearM x operand = x
 x_after WidthEffect.SetBits x operand = set_bit x (operand / mask_x % 2)
 x_after WidthEffect.ClearBits x operand = clear_bit x (operand / mask_x % 2)
-
--- kinds as a mark has them
-abbrev pub kind_number : Kind → ℕ
-kind_number Kind.ByRts = 1
-kind_number Kind.ByRtl = 2
 
 -- where an instruction at an address goes by its target
 abbrev pub target_address : Instruction → ℕ → ℕ

@@ -2,6 +2,8 @@
 -- too (`agreed_admitted`), so that of all of them, one after another, one is left that stands in each; and it is among
 -- those that are tried. The answer and the marks delivered follow.
 -- Assumes nothing.
+use Rattle.types.specs.declared.code.Undecoded.{Undecoded}
+use Rattle.std.specs.Prelude.{Ok, Err}
 use mathlib.Core.Path.{◌≡◌, refl, sym, ap, ◌∙◌}
 use mathlib.Core.Logic.{◌⊎◌, inl, inr}
 use mathlib.Core.Bool.{Bool, true, false, true≢false, not, ◌&&◌}
@@ -15,12 +17,10 @@ use lib.ListN.{length, get_or, get_or-eq_default}
 use Rattle.types.specs.declared.code.Kind.{Kind}
 use Rattle.types.specs.declared.code.Flow.{Flow}
 use Rattle.types.specs.declared.code.Instruction.{Instruction}
-use Rattle.types.specs.declared.code.Decoded.{Decoded}
+use Rattle.types.specs.Answers.{Decoded, TestResult, Verdict}
 use Rattle.types.specs.declared.refusals.Refusal.{Refusal}
-use Rattle.types.specs.declared.refusals.TestResult.{TestResult}
 use Rattle.types.specs.declared.rules.Requirement.{Requirement}
 use Rattle.types.specs.declared.rules.Requirements.{Requirements}
-use Rattle.types.specs.declared.rules.Verdict.{Verdict}
 use Rattle.types.specs.Refusals.{Tests, first_refusal}
 use Rattle.prelude.specs.Bytes.{AllBytes}
 use Rattle.prelude.specs.Choice.{pick}
@@ -67,7 +67,7 @@ tested_stands marks others stands = found_none (missing_at marks others) (length
 abbrev CallsListed : List ℕ → List ℕ → ℕ → List ℕ → Type 0
 CallsListed image marks base routines =
     (at : ℕ) (i : Instruction) (kind : Kind) → start_at marks at ≡ true
-    → instruction_at image marks at ≡ Decoded.Whole i → i.entry.flow ≡ Flow.Call kind
+    → instruction_at image marks at ≡ Ok i → i.entry.flow ≡ Flow.Call kind
     → is_listed routines base (target_address i (base + at)) ≡ true
 
 listed_tested : (image marks : List ℕ) (base : ℕ) (routines : List ℕ) → all_are_listed image marks base routines ≡ true
@@ -99,15 +99,15 @@ tested_listed image marks base routines calls =
         by : (b : Bool) (d : Decoded) → start_at marks at ≡ b → instruction_at image marks at ≡ d
             → b && not (target_listed routines base at d) ≡ false
         by false d s whole = refl
-        by true Decoded.NotCarried s whole = refl
-        by true Decoded.CutOff s whole = refl
-        by true (Decoded.Whole i) s whole =
+        by true (Err Undecoded.NotCarried) s whole = refl
+        by true (Err Undecoded.CutOff) s whole = refl
+        by true (Ok i) s whole =
             rw (by_flow i.entry.flow (is_listed routines base (target_address i (base + at)))
             (λ kind call. calls at i kind s whole call)) refl
 
-accepted_by_lem : (v : Verdict) → accepted_by v ≡ true → v ≡ Verdict.Accepted
-accepted_by_lem Verdict.Accepted h = refl
-accepted_by_lem (Verdict.Refused why offset) h = absurd (true≢false (sym h))
+accepted_by_lem : (v : Verdict) → accepted_by v ≡ true → v ≡ Ok tt
+accepted_by_lem (Ok _) h = refl
+accepted_by_lem (Err r) h = absurd (true≢false (sym h))
 
 module _ (image : List ℕ) (base reset : ℕ) (routines : List ℕ) where
   pub admitted_tested : (marks : List ℕ) → is_admitted image base reset routines marks ≡ true
@@ -373,21 +373,21 @@ module _ (image : List ℕ) (base reset : ℕ) (text marks : List ℕ) where
   abbrev routines : List ℕ
   routines = routine_marks base (length image) text
 
-  passed_has : built image base reset text marks ≡ TestResult.Passed → has_marking image base reset routines ≡ true
+  passed_has : built image base reset text marks ≡ Ok tt → has_marking image base reset routines ≡ true
   unfolding built
   passed_has e =
       (both_true (routines_fit base (length image) text) _
       (shown (build_tests image base reset text (length marks)) e).1.1.1.0).1
 
   module _ (within : WithinLimits image base text marks) where
-    has_passed : has_marking image base reset routines ≡ true → built image base reset text marks ≡ TestResult.Passed
+    has_passed : has_marking image base reset routines ≡ true → built image base reset text marks ≡ Ok tt
     unfolding built
     has_passed h =
         none_fails (build_tests image base reset text (length marks))
         (within.form, (within.right_length, (within.right_base, (rw within.all_fit h, tt))))
 
     none_failed : has_marking image base reset routines ≡ false
-        → built image base reset text marks ≡ TestResult.Failed Refusal.Routines
+        → built image base reset text marks ≡ Err Refusal.Routines
     unfolding built first_refusal
     none_failed h = rw (within.form, within.right_length, within.right_base, within.all_fit, h) refl
 
@@ -396,21 +396,21 @@ module _ (image : List ℕ) (base reset : ℕ) (text marks : List ℕ) where
   abbrev form : Tests
   form = form_tests text (length image) (length marks) base
 
-  pub within_limits : first_refusal form ≡ TestResult.Passed → routines_fit base (length image) text ≡ true
+  pub within_limits : first_refusal form ≡ Ok tt → routines_fit base (length image) text ≡ true
       → WithinLimits image base text marks
   within_limits passed fit =
       let held = shown form passed in
       record { form = held.0; right_length = held.1.0; right_base = held.1.1.0; all_fit = fit }
 
-  pub routines_refuse : first_refusal form ≡ TestResult.Passed → routines_fit base (length image) text ≡ false
-      → built image base reset text marks ≡ TestResult.Failed Refusal.Routines
+  pub routines_refuse : first_refusal form ≡ Ok tt → routines_fit base (length image) text ≡ false
+      → built image base reset text marks ≡ Err Refusal.Routines
   unfolding built first_refusal
   routines_refuse passed fit =
       let held = shown form passed in
       rw (held.0, held.1.0, held.1.1.0, fit) refl
 
   -- a refusal leaves the marks as given
-  pub refused_keeps : (why : Refusal) → built image base reset text marks ≡ TestResult.Failed why
+  pub refused_keeps : (why : Refusal) → built image base reset text marks ≡ Err why
       → marks_built image base reset text marks ≡ marks
   unfolding marks_built marks_after
   refused_keeps why e = rw e refl
@@ -457,7 +457,7 @@ module _ (image : List ℕ) (base reset : ℕ) (text given marks : List ℕ)
     (within : WithinLimits image base text given)
     (complete : Complete image base reset (routine_marks base (length image) text) marks) where
   pub worked_delivered : is_admitted image base reset (routine_marks base (length image) text) marks ≡ true
-      → (built image base reset text given ≡ TestResult.Passed) × (marks_built image base reset text given ≡ marks)
+      → (built image base reset text given ≡ Ok tt) × (marks_built image base reset text given ≡ marks)
   worked_delivered h =
       let l = worked_least image base reset (routine_marks base (length image) text) marks complete h in
       let has = has_marking_lem image base reset (routine_marks base (length image) text) marks l.admitted in
@@ -468,7 +468,7 @@ module _ (image : List ℕ) (base reset : ℕ) (text given marks : List ℕ)
       )
 
   pub worked_refused : is_admitted image base reset (routine_marks base (length image) text) marks ≡ false
-      → (built image base reset text given ≡ TestResult.Failed Refusal.Routines)
+      → (built image base reset text given ≡ Err Refusal.Routines)
       × (marks_built image base reset text given ≡ given)
   worked_refused h =
       let none = worked_none image base reset (routine_marks base (length image) text) marks complete h in

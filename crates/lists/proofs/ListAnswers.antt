@@ -1,5 +1,6 @@
 -- What the answers of the reader and the writer show: which tests were passed, and how small the numbers in them are.
 -- Assumes nothing.
+use Rattle.std.specs.Prelude.{Ok, Err}
 use mathlib.Core.Path.{◌≡◌}
 use mathlib.Core.Bool.{Bool, true}
 use mathlib.Core.List.{List}
@@ -7,8 +8,7 @@ use Prim.Native.Nat.{ℕ, ◌+◌, ◌*◌, ◌≤◌, ◌<◌}
 use native.Mathlib.Omega.{arith}
 use lib.ListN.{length, length-append}
 use Rattle.types.specs.declared.lists.Header.{Header}
-use Rattle.types.specs.declared.lists.ListRead.{ListRead}
-use Rattle.types.specs.declared.lists.ListWritten.{ListWritten}
+use Rattle.types.specs.Answers.{ListRead, ListWritten}
 use Rattle.types.specs.Refusals.{first_refusal}
 use Rattle.types.specs.Addresses.{address_limit, image_limit}
 use Rattle.acceptance.specs.Image.{base_fits}
@@ -21,11 +21,11 @@ use Rattle.lists.proofs.MarkList.{length_shown, lines_most, length_header, decim
 
 -- ---- what a text that is read has passed
 
-pub read_passes : (old : Bool) (h r : Header) (text : List ℕ) (n : ℕ) → read_as old h text n ≡ ListRead.Read r
+pub read_passes : (old : Bool) (h r : Header) (text : List ℕ) (n : ℕ) → read_as old h text n ≡ Ok r
     → (h ≡ r) × AllHold (read_tests old r text n)
 unfolding read_as
 read_passes old h r text n e =
-    let all = all_passed (first_refusal (read_tests old h text n)) ListRead.NotRead
+    let all = all_passed (first_refusal (read_tests old h text n)) Err
     (λ why r. let z : ◌≡◌ {A = ℕ} 0 1 = cc in absurd (omega arith)) e in
     let same : h ≡ r = let e = all.1 in cc in
     (same, rw same at (shown (read_tests old h text n) all.0))
@@ -43,17 +43,17 @@ list_base old base n h = (both_true (base_fits base n) _ h).0
 -- ---- what marks that are written have passed
 
 pub written_passes : (marks : List ℕ) (base reset n : ℕ) (page : List ℕ)
-    → write_list marks base reset page ≡ ListWritten.Written n
+    → write_list marks base reset page ≡ Ok n
     → (length (list_text new_digits marks base reset) ≡ n) × AllHold (write_tests marks base reset page)
 unfolding write_list
 written_passes marks base reset n page e =
-    let all = all_passed (first_refusal (write_tests marks base reset page)) ListWritten.NotWritten
+    let all = all_passed (first_refusal (write_tests marks base reset page)) Err
     (λ why r. let z : ◌≡◌ {A = ℕ} 0 1 = cc in absurd (omega arith)) e in
     let same = all.1 in (cc, shown (write_tests marks base reset page) all.0)
 
 -- ---- how small the answers are
 
-pub read_small : (text marks : List ℕ) (h : Header) → read_list text marks ≡ ListRead.Read h
+pub read_small : (text marks : List ℕ) (h : Header) → read_list text marks ≡ Ok h
     → (h.base < address_limit) × (h.reset < address_limit)
 unfolding read_list
 read_small text marks h e =
@@ -70,7 +70,7 @@ read_small text marks h e =
     )
 
 pub written_small : (marks : List ℕ) (base reset n : ℕ) (page : List ℕ)
-    → write_list marks base reset page ≡ ListWritten.Written n
+    → write_list marks base reset page ≡ Ok n
     → n ≤ 22 + 17 * image_limit
 unfolding list_text
 written_small marks base reset n page e =

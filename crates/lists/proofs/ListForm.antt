@@ -1,6 +1,7 @@
 -- The reader's test for 14 passes exactly the texts that are mark lists. The addresses in turn take lines of starts,
 -- and no other text, whole: by induction over the addresses. A first line shows what it was made of.
 -- Assumes nothing.
+use Rattle.std.specs.Prelude.{Err}
 use mathlib.Core.Path.{◌≡◌, refl, sym, ap, ◌∙◌}
 use mathlib.Core.Logic.{◌↔◌, ◌⊎◌, inl, inr}
 use mathlib.Core.Bool.{Bool, true, false}
@@ -14,7 +15,7 @@ use lib.ListN.{length, drop}
 use lib.Seq.{drop_at}
 use Rattle.types.specs.declared.lists.Header.{Header}
 use Rattle.types.specs.declared.refusals.Refusal.{Refusal}
-use Rattle.types.specs.declared.lists.ListRead.{ListRead}
+use Rattle.types.specs.Answers.{ListRead}
 use Rattle.prelude.specs.Choice.{pick}
 use Rattle.types.specs.Refusals.{first_refusal}
 use Rattle.text.specs.Digits.{digits}
@@ -185,7 +186,7 @@ list_exactly text = (tested_list (is_old text) (header_shown text) text, list_te
 -- 'a lone 0 is in form and gets 1'
 pub lone_zero : (old : Bool) (base reset : ℕ) (marks : List ℕ) → base < 16 ^ 6 → reset < 16 ^ digits_by old
     → let text = header_text (digits_by old) (record { base = base; length = 0; reset = reset }) in
-    IsMarkList text × (read_list text marks ≡ ListRead.NotRead Refusal.Length)
+    IsMarkList text × (read_list text marks ≡ Err Refusal.Length)
 unfolding read_list read_as length_fits first_refusal
 lone_zero old base reset marks based started = (l, rw (list_tested text l, shows_header text l))
   where

@@ -1,6 +1,7 @@
 -- The reader, the writer and the builder refuse by the first ground that holds: each of their tests is turned into
 -- its ground, and the law of FirstGround.antt does the rest.
 -- Assumes nothing.
+use Rattle.std.specs.Prelude.{Ok, Err}
 use mathlib.Core.Path.{◌≡◌, refl, sym, ◌∙◌}
 use mathlib.Core.Bool.{Bool, true, false, true≢false, false≢true, not, ◌||◌, ◌&&◌}
 use mathlib.Core.List.{List}
@@ -9,9 +10,7 @@ use native.Mathlib.Omega.{arith}
 use lib.Dec.{leb}
 use lib.ListN.{length}
 use Rattle.types.specs.declared.lists.Header.{Header}
-use Rattle.types.specs.declared.lists.ListRead.{ListRead}
-use Rattle.types.specs.declared.lists.ListWritten.{ListWritten}
-use Rattle.types.specs.declared.refusals.TestResult.{TestResult}
+use Rattle.types.specs.Answers.{ListRead, ListWritten, TestResult}
 use Rattle.types.specs.Addresses.{bank_size}
 use Rattle.acceptance.specs.Image.{base_fits, start_count}
 use Rattle.lists.specs.MarkList.{list_base_fits, is_old, address_digits, header_shown, marks_of, is_list, read_tests}
@@ -50,7 +49,7 @@ wrong_list_base old base image =
 pub read_answers : ReadAnswers
 unfolding read_list read_as
 read_answers text marks =
-    answers_by ListRead.NotRead (ListRead.Read h)
+    answers_by Err (Ok h)
     (record {
       one = λ why other e. cc;
       none = λ why e. let z : ◌≡◌ {A = ℕ} 0 1 = cc in absurd (omega arith);
@@ -77,7 +76,7 @@ pub write_answers : WriteAnswers
 unfolding write_list
 write_answers marks base reset page =
     let list = list_text new_digits marks base reset in
-    answers_by ListWritten.NotWritten (ListWritten.Written (length list))
+    answers_by Err (Ok (length list))
     (record {
       one = λ why other e. cc;
       none = λ why e. let z : ◌≡◌ {A = ℕ} 0 1 = cc in absurd (omega arith);
@@ -115,9 +114,9 @@ wrong_routines image base reset text =
     (above (start_count routines) routine_limit)
     (has_none image base reset routines)
 
-same_answer : (so : TestResult) → answered so TestResult.Failed TestResult.Passed ≡ so
-same_answer TestResult.Passed = refl
-same_answer (TestResult.Failed why) = refl
+same_answer : (so : TestResult) → answered so Err (Ok tt) ≡ so
+same_answer (Ok _) = refl
+same_answer (Err why) = refl
 
 -- 14, 1, 2, 17
 pub build_answers : BuildAnswers
@@ -125,7 +124,7 @@ unfolding built
 build_answers image base reset text marks =
     let tests = build_tests image base reset text (length marks) in
     rw (← same_answer (first_refusal tests))
-    (answers_by TestResult.Failed TestResult.Passed
+    (answers_by Err (Ok tt)
     (record { one = λ why other e. same_why e; none = λ why e. failed_passed e })
     (build_grounds image base reset text marks) tests refl (
       not_holding (is_routine_list text) (routines_exactly text),

@@ -2,6 +2,7 @@
 -- marks that it shows, so the writer writes that list in six digits; and the text of marks that the writer takes shows
 -- its first line and its marks.
 -- Assumes nothing.
+use Rattle.std.specs.Prelude.{Ok}
 use mathlib.Core.Path.{◌≡◌, refl, sym, ap, ◌∙◌}
 use mathlib.Core.Bool.{Bool, true, false}
 use mathlib.Core.List.{List, [], ◌∷◌, ◌++◌, append-nil}
@@ -13,9 +14,7 @@ use lib.Dec.{eqb, ltb}
 use lib.ListN.{length, take, drop, length-append}
 use lib.Seq.{take_at, drop_at}
 use Rattle.types.specs.declared.lists.Header.{Header}
-use Rattle.types.specs.declared.lists.ListRead.{ListRead}
-use Rattle.types.specs.declared.lists.ListWritten.{ListWritten}
-use Rattle.types.specs.declared.refusals.TestResult.{TestResult}
+use Rattle.types.specs.Answers.{ListRead, ListWritten, TestResult}
 use Rattle.types.specs.Refusals.{first_refusal}
 use Rattle.text.specs.Text.{starts_with}
 use Rattle.types.specs.Addresses.{address_limit}
@@ -75,7 +74,7 @@ formed_marks count h text =
     ) (omega arith) (omega arith)))
 
 -- what was read is the list, in its digits, of the marks, base and reset that it gave
-pub read_is_text : (text marks : List ℕ) (h : Header) → read_list text marks ≡ ListRead.Read h
+pub read_is_text : (text marks : List ℕ) (h : Header) → read_list text marks ≡ Ok h
     → list_text (address_digits text) (marks_read text marks) h.base h.reset ≡ text
 unfolding read_list marks_read marks_by
 read_is_text text marks h e =
@@ -100,10 +99,10 @@ starts_in_text old h text e =
 
 -- R-7: 'an old list comes out in six digits': in whichever digits it was read, a list is written as the one in six
 -- digits of the same marks, base and reset
-pub read_then_written : (text marks page : List ℕ) (h : Header) → read_list text marks ≡ ListRead.Read h
+pub read_then_written : (text marks page : List ℕ) (h : Header) → read_list text marks ≡ Ok h
     → let list = list_text new_digits (marks_read text marks) h.base h.reset in
     length list ≤ length page
-    → (write_list (marks_read text marks) h.base h.reset page ≡ ListWritten.Written (length list))
+    → (write_list (marks_read text marks) h.base h.reset page ≡ Ok (length list))
     × (page_written (marks_read text marks) h.base h.reset page ≡ list ++ drop (length list) page)
 unfolding read_list marks_read marks_by page_written page_by write_list
 read_then_written text marks page h e =
@@ -113,7 +112,7 @@ read_then_written text marks page h e =
     let read = marks_of count h text in
     let list = list_text new_digits read h.base h.reset in
     let tests = write_tests read h.base h.reset page in
-    let passes : length list ≤ length page → first_refusal tests ≡ TestResult.Passed = λ long. none_fails tests (
+    let passes : length list ≤ length page → first_refusal tests ≡ Ok tt = λ long. none_fails tests (
       rw (length_marks_of count h text) (rw fits.same at held.1.0),
       (
         rw (length_marks_of count h text) (list_base (is_old text) h.base h.length held.1.1.0),
@@ -123,9 +122,9 @@ read_then_written text marks page h e =
     rw e (λ long. (rw (passes long) refl, rw (passes long) refl))
 
 -- demand 2: 'a mark list read, and written again to a page long enough, is the same list', by R-7 'for lists in six'
-pub six_again : (text marks page : List ℕ) (h : Header) → read_list text marks ≡ ListRead.Read h
+pub six_again : (text marks page : List ℕ) (h : Header) → read_list text marks ≡ Ok h
     → is_old text ≡ false → length text ≤ length page
-    → (write_list (marks_read text marks) h.base h.reset page ≡ ListWritten.Written (length text))
+    → (write_list (marks_read text marks) h.base h.reset page ≡ Ok (length text))
     × (page_written (marks_read text marks) h.base h.reset page ≡ text ++ drop (length text) page)
 six_again text marks page h e six long =
     let same = rw six at (read_is_text text marks h e) in
@@ -192,7 +191,7 @@ module _ (marks : List ℕ) (base reset n : ℕ) (page : List ℕ)
   unfolding marks_of
   marks_again = rw shows_lines shows_marks.0
 
-  read_again : (lent : ℕ) → lent ≡ length marks → read_as false first_line list lent ≡ ListRead.Read first_line
+  read_again : (lent : ℕ) → lent ≡ length marks → read_as false first_line list lent ≡ Ok first_line
   unfolding read_as list_base_fits
   read_again lent same =
       rw (none_fails (read_tests false first_line list lent)
@@ -203,9 +202,9 @@ module _ (marks : List ℕ) (base reset n : ℕ) (page : List ℕ)
 
 -- a list that was written is read as the same marks, base and reset, into marks of their length
 pub written_then_read : (marks : List ℕ) (base reset n : ℕ) (page lent : List ℕ)
-    → write_list marks base reset page ≡ ListWritten.Written n → length lent ≡ length marks
+    → write_list marks base reset page ≡ Ok n → length lent ≡ length marks
     → (read_list (take n (page_written marks base reset page)) lent
-    ≡ ListRead.Read (record { base = base; length = length marks; reset = reset }))
+    ≡ Ok (record { base = base; length = length marks; reset = reset }))
     × (marks_read (take n (page_written marks base reset page)) lent ≡ marks)
 unfolding page_written page_by read_list marks_read marks_by
 written_then_read marks base reset n page lent e same =

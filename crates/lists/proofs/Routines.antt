@@ -2,6 +2,7 @@
 -- owes there, since the target of a call is on the list, and so already stands as listed; and what is owed is met there
 -- (`owed_met`). So marks that lack nothing that is owed are admitted themselves (`complete_admitted`).
 -- Assumes nothing.
+use Rattle.std.specs.Prelude.{Ok}
 use mathlib.Core.Path.{◌≡◌, refl, sym, ◌∙◌}
 use mathlib.Core.Logic.{◌⊎◌, inl, inr}
 use mathlib.Core.Bool.{Bool, true, false, true≢false}
@@ -14,7 +15,7 @@ use lib.Seq.{ext_get_or}
 use Rattle.types.specs.declared.code.Kind.{Kind}
 use Rattle.types.specs.declared.code.Flow.{Flow}
 use Rattle.types.specs.declared.code.Instruction.{Instruction}
-use Rattle.types.specs.declared.code.Decoded.{Decoded}
+use Rattle.types.specs.Answers.{Decoded}
 use Rattle.types.specs.declared.rules.Requirement.{Requirement}
 use Rattle.types.specs.declared.rules.Requirements.{Requirements}
 use Rattle.prelude.specs.Choice.{pick}
@@ -143,11 +144,11 @@ module _ (image : List ℕ) (base reset : ℕ) (routines : List ℕ) where
     pub rules_there : StartRules image others base at
     rules_there = (admitted_rules others v).at_starts at (start_inside others at here) here
 
-    pub whole_there : (i : Instruction) → instruction_at image marks at ≡ Decoded.Whole i
-        → instruction_at image others at ≡ Decoded.Whole i
+    pub whole_there : (i : Instruction) → instruction_at image marks at ≡ Ok i
+        → instruction_at image others at ≡ Ok i
     whole_there i whole = rw (stands at s) whole
 
-    pub listed_there : (i : Instruction) (kind : Kind) → instruction_at image marks at ≡ Decoded.Whole i
+    pub listed_there : (i : Instruction) (kind : Kind) → instruction_at image marks at ≡ Ok i
         → i.entry.flow ≡ Flow.Call kind → is_listed routines base (target_address i (base + at)) ≡ true
     listed_there i kind whole call = v.calls_listed at i kind here (whole_there i whole) call
 
@@ -162,7 +163,7 @@ module _ (image : List ℕ) (base reset : ℕ) (routines : List ℕ) where
         (λ kind call. sym (same_at marks others base (target_address i (base + at)) stands (started kind call))))
 
     -- what is owed in that marking is met there
-    pub owed_there_lem : (i : Instruction) → instruction_at image marks at ≡ Decoded.Whole i
+    pub owed_there_lem : (i : Instruction) → instruction_at image marks at ≡ Ok i
         → AllMet others base (owed_there others base at i)
     owed_there_lem i whole =
         let r = rules_there in
@@ -170,7 +171,7 @@ module _ (image : List ℕ) (base reset : ℕ) (routines : List ℕ) where
         rw same at r.successors
 
     -- Where the routines stand already, the same is owed here.
-    pub owed_met : (i : Instruction) → StandsIn routines marks → instruction_at image marks at ≡ Decoded.Whole i
+    pub owed_met : (i : Instruction) → StandsIn routines marks → instruction_at image marks at ≡ Ok i
         → (owed_there marks base at i ≡ owed_there others base at i) × AllMet others base (owed_there marks base at i)
     owed_met i listed whole =
         let same = same_owed i (λ kind call.
@@ -187,7 +188,7 @@ module _ (image : List ℕ) (base reset : ℕ) (routines : List ℕ) where
     pub listed : StandsIn routines marks
     pub at_reset : is_start (mark_at marks base reset) ≡ true
     -- what the marking owes at a start of the marks is a start of them
-    pub owed : (at : ℕ) (i : Instruction) → start_at marks at ≡ true → instruction_at image marks at ≡ Decoded.Whole i
+    pub owed : (at : ℕ) (i : Instruction) → start_at marks at ≡ true → instruction_at image marks at ≡ Ok i
         → all_starts marks base (owed_there others base at i) ≡ true
 
   module _ (marks others : List ℕ) (v : Admitted image base reset routines others)
@@ -211,7 +212,7 @@ module _ (image : List ℕ) (base reset : ℕ) (routines : List ℕ) where
     complete_start : (at : ℕ) → start_at marks at ≡ true → StartRules image marks base at
     complete_start at s =
         let r = rules_there marks others v c.within at s in
-        let whole : instruction_at image marks at ≡ Decoded.Whole r.instruction = rw (← c.within at s) r.whole in
+        let whole : instruction_at image marks at ≡ Ok r.instruction = rw (← c.within at s) r.whole in
         let started = c.owed at r.instruction s whole in
         let same = same_owed marks others v c.within at s r.instruction
         (λ kind call. target_started marks others base at r.instruction kind call started) in

@@ -1,12 +1,10 @@
 -- 01, 'Numbers', and 02, R-6: on which grounds the reader and the writer of mark lists refuse, and the builder of
 -- marks. Nothing here says how a ground is tested.
 -- Assumes nothing.
-use Rattle.std.specs.Prelude.{◌≡◌, ◌⊎◌, Bool, true, List, [], ◌∷◌, ℕ, ◌+◌, ◌%◌, ◌<◌, length}
+use Rattle.std.specs.Prelude.{◌≡◌, ◌⊎◌, Bool, true, List, [], ◌∷◌, ℕ, ◌+◌, ◌%◌, ◌<◌, length, Ok, Err}
 use Rattle.types.specs.declared.lists.Header.{Header}
 use Rattle.types.specs.declared.refusals.Refusal.{Refusal}
-use Rattle.types.specs.declared.lists.ListRead.{ListRead}
-use Rattle.types.specs.declared.lists.ListWritten.{ListWritten}
-use Rattle.types.specs.declared.refusals.TestResult.{TestResult}
+use Rattle.types.specs.Answers.{ListRead, ListWritten, TestResult}
 use Rattle.acceptance.specs.Grounds.{WrongBase, Grounds, WrongLength, WrongReset, AnswersBy, WrongSize, WrongMark}
 use Rattle.types.specs.Addresses.{bank_size}
 use Rattle.lists.specs.ListForm.{IsMarkList, StartLines}
@@ -47,7 +45,7 @@ read_grounds text marks =
 abbrev pub ReadAnswers : Type 0
 ReadAnswers =
     (text marks : List ℕ)
-    → AnswersBy (read_grounds text marks) ListRead.NotRead (ListRead.Read (header_shown text)) (read_list text marks)
+    → AnswersBy (read_grounds text marks) Err (Ok (header_shown text)) (read_list text marks)
 
 -- 'Writer: 1, 2, 4, 3, 15'. The marks are as many as the image's bytes.
 abbrev pub write_grounds : List ℕ → ℕ → ℕ → List ℕ → Grounds
@@ -62,8 +60,8 @@ write_grounds marks base reset page =
 abbrev pub WriteAnswers : Type 0
 WriteAnswers =
     (marks : List ℕ) (base reset : ℕ) (page : List ℕ)
-    → AnswersBy (write_grounds marks base reset page) ListWritten.NotWritten
-    (ListWritten.Written (length (list_text new_digits marks base reset))) (write_list marks base reset page)
+    → AnswersBy (write_grounds marks base reset page) Err
+    (Ok (length (list_text new_digits marks base reset))) (write_list marks base reset page)
 
 -- ---- marks built from a routine list
 
@@ -90,5 +88,5 @@ build_grounds image base reset text marks =
 abbrev pub BuildAnswers : Type 0
 BuildAnswers =
     (image : List ℕ) (base reset : ℕ) (text marks : List ℕ)
-    → AnswersBy (build_grounds image base reset text marks) TestResult.Failed TestResult.Passed
+    → AnswersBy (build_grounds image base reset text marks) Err (Ok tt)
     (built image base reset text marks)

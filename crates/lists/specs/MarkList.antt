@@ -3,12 +3,11 @@
 -- among them, have one count of digits, which is the first parameter of what hangs on it (02, R-7). A list in four
 -- digits is an old one.
 -- Assumes nothing.
-use Rattle.std.specs.Prelude.{ℕ, zero, suc, ◌+◌, ◌%◌, ◌^◌, Bool, not, ◌&&◌, ◌||◌, List, [], ◌∷◌, ◌++◌, eqb, ltb, leb}
+use Rattle.std.specs.Prelude.{ℕ, zero, suc, ◌+◌, ◌%◌, ◌^◌, Bool, not, ◌&&◌, ◌||◌, List, [], ◌∷◌, ◌++◌, eqb, ltb, leb, Ok, Err}
 use Rattle.std.specs.Prelude.{length, get_or, drop}
 use Rattle.types.specs.declared.lists.Header.{Header}
 use Rattle.types.specs.declared.refusals.Refusal.{Refusal}
-use Rattle.types.specs.declared.lists.ListRead.{ListRead}
-use Rattle.types.specs.declared.lists.ListWritten.{ListWritten}
+use Rattle.types.specs.Answers.{ListRead, ListWritten}
 use Rattle.prelude.specs.Choice.{pick}
 use Rattle.text.specs.Digits.{digit, digits, value, digit_count}
 use Rattle.text.specs.Text.{starts_with}
@@ -196,7 +195,7 @@ read_tests old h text n =
     ++ ((reset_fits (marks_of (digits_by old) h text) h.base h.reset, Refusal.Reset) ∷ [])
 
 unfoldable pub read_as : Bool → Header → List ℕ → ℕ → ListRead
-read_as old h text n = answered (first_refusal (read_tests old h text n)) ListRead.NotRead (ListRead.Read h)
+read_as old h text n = answered (first_refusal (read_tests old h text n)) Err (Ok h)
 
 -- the reader
 unfoldable pub read_list : List ℕ → List ℕ → ListRead
@@ -204,8 +203,8 @@ read_list text marks = read_as (is_old text) (header_shown text) text (length ma
 
 -- 'the reader fills all marks'; 'a refusal leaves every buffer .. as given'
 unfoldable pub marks_by : ListRead → List ℕ → List ℕ → List ℕ
-marks_by (ListRead.NotRead refusal) text marks = marks
-marks_by (ListRead.Read h) text marks = marks_of (address_digits text) h text
+marks_by (Err refusal) text marks = marks
+marks_by (Ok h) text marks = marks_of (address_digits text) h text
 
 unfoldable pub marks_read : List ℕ → List ℕ → List ℕ
 marks_read text marks = marks_by (read_list text marks) text marks
@@ -219,13 +218,13 @@ write_tests marks base reset page =
 -- the writer
 unfoldable pub write_list : List ℕ → ℕ → ℕ → List ℕ → ListWritten
 write_list marks base reset page =
-    answered (first_refusal (write_tests marks base reset page)) ListWritten.NotWritten
-    (ListWritten.Written (length (list_text new_digits marks base reset)))
+    answered (first_refusal (write_tests marks base reset page)) Err
+    (Ok (length (list_text new_digits marks base reset)))
 
 -- 'The writer leaves bytes past the list alone'; 'a refusal leaves every buffer .. as given'
 unfoldable pub page_by : ListWritten → List ℕ → ℕ → ℕ → List ℕ → List ℕ
-page_by (ListWritten.NotWritten refusal) marks base reset page = page
-page_by (ListWritten.Written n) marks base reset page = list_text new_digits marks base reset ++ drop n page
+page_by (Err refusal) marks base reset page = page
+page_by (Ok n) marks base reset page = list_text new_digits marks base reset ++ drop n page
 
 unfoldable pub page_written : List ℕ → ℕ → ℕ → List ℕ → List ℕ
 page_written marks base reset page = page_by (write_list marks base reset page) marks base reset page

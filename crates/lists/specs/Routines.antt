@@ -2,15 +2,14 @@
 -- one, the answer, the marks delivered, and what R-6 claims of them. Nothing here says how marks are worked out: the
 -- definitions try every list of bytes.
 -- Assumes nothing.
-use Rattle.std.specs.Prelude.{◌≡◌, ◌↔◌, ℕ, ◌+◌, ◌^◌, Bool, true, false, not, ◌&&◌, eqb, ltb, leb, length, get_or}
+use Rattle.types.specs.declared.code.Undecoded.{Undecoded}
+use Rattle.std.specs.Prelude.{◌≡◌, ◌↔◌, ℕ, ◌+◌, ◌^◌, Bool, true, false, not, ◌&&◌, eqb, ltb, leb, length, get_or, Ok, Err}
 use mathlib.Core.List.{List, [], ◌∷◌, ◌++◌, head_d}
 use Rattle.types.specs.declared.code.Kind.{Kind}
 use Rattle.types.specs.declared.code.Flow.{Flow}
 use Rattle.types.specs.declared.code.Instruction.{Instruction}
-use Rattle.types.specs.declared.code.Decoded.{Decoded}
+use Rattle.types.specs.Answers.{Decoded, TestResult, Verdict}
 use Rattle.types.specs.declared.refusals.Refusal.{Refusal}
-use Rattle.types.specs.declared.refusals.TestResult.{TestResult}
-use Rattle.types.specs.declared.rules.Verdict.{Verdict}
 use Rattle.types.specs.Refusals.{Tests, first_refusal}
 use Rattle.prelude.specs.First.{first_from}
 use Rattle.prelude.specs.Lists.{passing, all_pass, all_lists}
@@ -80,10 +79,10 @@ is_listed routines base address = is_start (mark_at routines base address)
 module _ (image : List ℕ) (base reset : ℕ) (routines : List ℕ) where
   -- a marking that 'passes the check, holds every listed routine as listed, and has all call targets on the list'
   pub record Admitted (marks : List ℕ) : Type 0 where
-    pub passes : verdict image marks base reset ≡ Verdict.Accepted
+    pub passes : verdict image marks base reset ≡ Ok tt
     pub as_listed : StandsIn routines marks
     pub calls_listed : (at : ℕ) (i : Instruction) (kind : Kind) → start_at marks at ≡ true
-        → instruction_at image marks at ≡ Decoded.Whole i → i.entry.flow ≡ Flow.Call kind
+        → instruction_at image marks at ≡ Ok i → i.entry.flow ≡ Flow.Call kind
         → is_listed routines base (target_address i (base + at)) ≡ true
 
   -- 'the least: each start in them stands, equally marked, in every such marking'
@@ -109,10 +108,10 @@ flow_listed (Flow.Return kind) listed = true
 flow_listed Flow.Halt listed = true
 
 unfoldable pub target_listed : List ℕ → ℕ → ℕ → Decoded → Bool
-target_listed routines base at (Decoded.Whole i) =
+target_listed routines base at (Ok i) =
     flow_listed i.entry.flow (is_listed routines base (target_address i (base + at)))
-target_listed routines base at Decoded.NotCarried = true
-target_listed routines base at Decoded.CutOff = true
+target_listed routines base at (Err Undecoded.NotCarried) = true
+target_listed routines base at (Err Undecoded.CutOff) = true
 
 abbrev pub stray_at : List ℕ → List ℕ → ℕ → List ℕ → ℕ → Bool
 stray_at image marks base routines at =
@@ -123,8 +122,8 @@ all_are_listed image marks base routines =
     eqb (first_from (stray_at image marks base routines) 0 (length marks)) (length marks)
 
 abbrev pub accepted_by : Verdict → Bool
-accepted_by Verdict.Accepted = true
-accepted_by (Verdict.Refused why offset) = false
+accepted_by (Ok _) = true
+accepted_by (Err r) = false
 
 unfoldable pub is_admitted : List ℕ → ℕ → ℕ → List ℕ → List ℕ → Bool
 is_admitted image base reset routines marks =
@@ -168,8 +167,8 @@ built image base reset text marks = first_refusal (build_tests image base reset 
 
 -- the marks delivered; 01: 'A refusal leaves every buffer .. as given'
 unfoldable pub marks_after : TestResult → List (List ℕ) → List ℕ → List ℕ
-marks_after (TestResult.Failed why) least marks = marks
-marks_after TestResult.Passed least marks = head_d least marks
+marks_after (Err why) least marks = marks
+marks_after (Ok _) least marks = head_d least marks
 
 unfoldable pub marks_built : List ℕ → ℕ → ℕ → List ℕ → List ℕ → List ℕ
 marks_built image base reset text marks =
@@ -190,14 +189,14 @@ pub record WithinLimits (image : List ℕ) (base : ℕ) (text marks : List ℕ) 
 abbrev pub RefusedExactly : Type 0
 RefusedExactly =
     (image : List ℕ) (base reset : ℕ) (text marks : List ℕ) → WithinLimits image base text marks
-    → (built image base reset text marks ≡ TestResult.Failed Refusal.Routines)
+    → (built image base reset text marks ≡ Err Refusal.Routines)
     ↔ ((others : List ℕ) → Admitted image base reset (routine_marks base (length image) text) others → ⊥)
 
 -- 'The marks delivered are the least'
 abbrev pub DeliversLeast : Type 0
 DeliversLeast =
     (image : List ℕ) (base reset : ℕ) (text marks : List ℕ)
-    → built image base reset text marks ≡ TestResult.Passed
+    → built image base reset text marks ≡ Ok tt
     → Least image base reset (routine_marks base (length image) text) (marks_built image base reset text marks)
 
 -- there is only one

@@ -1,11 +1,12 @@
+use Rattle.types.specs.declared.machine.Completion.{Completion}
+use Rattle.std.specs.Prelude.{Ok, Err}
 use mathlib.Core.List.{List, [], ◌∷◌}
 use mathlib.Core.Bool.{Bool, true, false}
 use mathlib.Core.Path.{◌≡◌, refl}
 use Prim.Native.Nat.{◌≤◌, ℕ, zero, suc}
 use native.Mathlib.Omega.{arith}
-use Rattle.types.specs.declared.machine.StepAnswer.{StepAnswer}
+use Rattle.types.specs.Answers.{StepAnswer, TestResult}
 use Rattle.types.specs.declared.machine.State.{State}
-use Rattle.types.specs.declared.refusals.TestResult.{TestResult}
 use Rattle.prelude.specs.Choice.{bit}
 use Rattle.semantics.specs.Step.{is_completed, is_call, step}
 use Rattle.execution.specs.Run.{Event, completed_steps, calls_among, with_ram, history, history_within, run_tests}
@@ -17,9 +18,9 @@ use Rattle.packing.specs.Packed.{RunFits}
 use Rattle.execution.proofs.Run.{by_first_step, admitted}
 
 one_call : (a : StepAnswer) → bit (is_call a) ≤ bit (is_completed a)
-one_call StepAnswer.Completed = omega arith
-one_call StepAnswer.Called = omega arith
-one_call (StepAnswer.Stopped stop) = omega arith
+one_call (Ok Completion.Ordinary) = omega arith
+one_call (Ok Completion.Call) = omega arith
+one_call (Err stop) = omega arith
 
 calls_few : (h : List Event) → calls_among h ≤ completed_steps h
 calls_few [] = omega arith
@@ -45,9 +46,9 @@ run_fits m bytes asked = by (first_refusal (run_tests m (bytes_fit bytes) asked)
   where
     by : (a : TestResult) → first_refusal (run_tests m (bytes_fit bytes) asked) ≡ a
         → RunFits (ran_bytes_by a m bytes asked).answer
-    by TestResult.Passed e =
+    by (Ok _) e =
         let most = (admitted m (bytes_fit bytes) asked e).steps in
         let h = history m (state_of bytes) asked in
         let steps = steps_few m (state_of bytes) asked in
         (omega (arith, most, steps), omega (arith, most, steps, calls_few h))
-    by (TestResult.Failed why) e = tt
+    by (Err why) e = tt

@@ -1,5 +1,6 @@
 -- The answer and the places at each exit: by the verdict, then by the tests of the addresses, else by the pass.
 -- Assumes nothing.
+use Rattle.std.specs.Prelude.{Ok, Err}
 use mathlib.Core.Path.{◌≡◌, refl, sym, ◌∙◌}
 use mathlib.Core.Bool.{true}
 use mathlib.Core.List.{List, ◌++◌, map}
@@ -7,9 +8,7 @@ use Prim.Native.Nat.{ℕ, ◌+◌, ◌≤◌}
 use borrow.Author.Tests.{leb-true}
 use lib.ListN.{length, drop, length-map}
 use Rattle.types.specs.declared.refusals.Refusal.{Refusal}
-use Rattle.types.specs.declared.refusals.TestResult.{TestResult}
-use Rattle.types.specs.declared.rules.Verdict.{Verdict}
-use Rattle.types.specs.declared.probes.Located.{Located}
+use Rattle.types.specs.Answers.{TestResult, refused_at, Verdict, Located}
 use Rattle.types.specs.Addresses.{address_limit}
 use Rattle.types.specs.Refusals.{Tests, first_refusal}
 use Rattle.acceptance.specs.Verdict.{verdict}
@@ -30,12 +29,12 @@ module _ (image marks : List ℕ) (base reset : ℕ) (addresses places : List �
   abbrev tests : Tests
   tests = locate_tests base (length image) addresses (length places)
 
-  pub refused_first : (why : Refusal) (at : ℕ) → verdict image marks base reset ≡ Verdict.Refused why at
-      → Answers (Located.NotLocated why at) places
+  pub refused_first : (why : Refusal) (at : ℕ) → verdict image marks base reset ≡ refused_at why at
+      → Answers (refused_at why at) places
   unfolding located located_by places_located places_after
   refused_first why at e = (rw e refl, rw e refl)
 
-  module _ (accepted : verdict image marks base reset ≡ Verdict.Accepted) where
+  module _ (accepted : verdict image marks base reset ≡ Ok tt) where
     -- what acceptance says of the lengths
     pub as_many : length marks ≡ length image
     as_many =
@@ -46,11 +45,11 @@ module _ (image marks : List ℕ) (base reset : ℕ) (addresses places : List �
     in_space = base_whole base (length image) ((accepts_exactly image marks base reset).0 accepted).right_base
 
     module _ (tested : TestResult) (so : tested ≡ first_refusal tests) where
-      pub refused_then : (why : Refusal) → tested ≡ TestResult.Failed why → Answers (Located.NotLocated why 0) places
+      pub refused_then : (why : Refusal) → tested ≡ Err why → Answers (refused_at why 0) places
       unfolding located located_by places_located places_after
       refused_then why e = let f = sym so ∙ e in (rw (accepted, f) refl, rw (accepted, f) refl)
 
-      module _ (passes : tested ≡ TestResult.Passed) where
+      module _ (passes : tested ≡ Ok tt) where
         pub fit : addresses_fit base (length image) addresses ≡ true
         fit = (shown tests (sym so ∙ passes)).0
 
@@ -60,7 +59,7 @@ module _ (image marks : List ℕ) (base reset : ℕ) (addresses places : List �
         pub places_found : (read : ℕ) (left : List ℕ) → read ≡ (pass_over image marks base addresses).read
             → left
             ≡ map place_number (pass_over image marks base addresses).places ++ drop (length addresses) places
-            → Answers (Located.MarksRead read) left
+            → Answers (Ok read) left
         unfolding located located_by places_located places_after
         places_found read left is_read is_left =
             let f = sym so ∙ passes in

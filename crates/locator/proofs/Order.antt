@@ -1,6 +1,7 @@
 -- The tests of the addresses as loops make them: what is asked of a list is asked of what is left of it, as long as no
 -- address fails.
 -- Assumes nothing.
+use Rattle.std.specs.Prelude.{Ok, Err}
 use mathlib.Core.Path.{◌≡◌, refl}
 use mathlib.Core.Bool.{Bool, true, false, not}
 use mathlib.Core.List.{List, [], ◌∷◌}
@@ -12,7 +13,7 @@ use lib.Dec.{leb}
 use lib.ListN.{length, get_or, drop, length-drop, drop_of_length-le}
 use lib.Seq.{drop-cons}
 use Rattle.types.specs.declared.refusals.Refusal.{Refusal}
-use Rattle.types.specs.declared.refusals.TestResult.{TestResult}
+use Rattle.types.specs.Answers.{TestResult}
 use Rattle.types.specs.Refusals.{first_refusal}
 use Rattle.reports.specs.Locate.{address_count, is_ascending, all_inside, addresses_fit}
 
@@ -120,10 +121,10 @@ module _ (addresses : List ℕ) where
 
 -- ---- 15
 
-pub no_room : (n room : ℕ) → room < n → TestResult.Failed Refusal.Page ≡ first_refusal ((leb n room, Refusal.Page) ∷ [])
+pub no_room : (n room : ℕ) → room < n → Err Refusal.Page ≡ first_refusal ((leb n room, Refusal.Page) ∷ [])
 unfolding first_refusal
 no_room n room h = rw (lt-leb n room h)
 
-pub some_room : (n room : ℕ) → n ≤ room → TestResult.Passed ≡ first_refusal ((leb n room, Refusal.Page) ∷ [])
+pub some_room : (n room : ℕ) → n ≤ room → Ok tt ≡ first_refusal ((leb n room, Refusal.Page) ∷ [])
 unfolding first_refusal
 some_room n room h = rw (le-leb n room h)

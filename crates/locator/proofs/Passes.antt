@@ -1,6 +1,8 @@
 -- The loop of the pass: the places that stand already, and those of the pass over what is left, are those of the whole
 -- pass; so are the marks read. What the code keeps of the last start says what the definition carries.
 -- Assumes nothing.
+use Rattle.types.specs.declared.code.Undecoded.{Undecoded}
+use Rattle.std.specs.Prelude.{Ok, Err}
 use mathlib.Core.Path.{◌≡◌, refl, sym, ap, subst, ◌∙◌}
 use mathlib.Core.Logic.{inl, inr}
 use mathlib.Core.Bool.{Bool, true, false, not}
@@ -56,13 +58,13 @@ module _ (image : List ℕ) (p : Passing) (at mark : ℕ) where
 module _ (image : List ℕ) (at mark m x : ℕ) (here : LayoutRead) (is-layout : here ≡ layout_read (drop at image) m x)
     (is_m : m ≡ mark_m mark) (is_x : x ≡ mark_x mark)
   where
-    pub end_fits : (f : Layout) → here ≡ LayoutRead.Fits f → at + f.length ≡ end_at image at mark
+    pub end_fits : (f : Layout) → here ≡ Ok f → at + f.length ≡ end_at image at mark
     end_fits f e = rw (← is_m, ← is_x, decoded_layout (drop at image) m x, ← is-layout, e)
 
-    pub end_uncarried : here ≡ LayoutRead.Uncarried → at ≡ end_at image at mark
+    pub end_uncarried : here ≡ Err Undecoded.NotCarried → at ≡ end_at image at mark
     end_uncarried e = rw (← is_m, ← is_x, decoded_layout (drop at image) m x, ← is-layout, e) (omega arith)
 
-    pub end_short : here ≡ LayoutRead.Short → at ≡ end_at image at mark
+    pub end_short : here ≡ Err Undecoded.CutOff → at ≡ end_at image at mark
     end_short e = rw (← is_m, ← is_x, decoded_layout (drop at image) m x, ← is-layout, e) (omega arith)
 
 pub end_kept : (image : List ℕ) (p : Passing) → KnownEnd image p → (p.end ≡ 0 → ⊥)

@@ -1,5 +1,7 @@
 -- What calls and returns leave makes the definition's step, exit by exit.
 -- Assumes nothing.
+use Rattle.types.specs.declared.machine.Completion.{Completion}
+use Rattle.std.specs.Prelude.{Ok, Err, Some, None, Option}
 use mathlib.Core.Path.{◌≡◌, refl, sym, ap, ap₂, ◌∙◌}
 use mathlib.Core.Bool.{Bool, true, false, ◌&&◌}
 use mathlib.Core.List.{List, []}
@@ -11,8 +13,6 @@ use borrow.Author.Tests.{lt-ltb, le-ltb, eq-eqb, ne_eqb}
 use Rattle.cpu.specs.declared.effects.Effect.{Effect}
 use Rattle.cpu.specs.File.{registers_of}
 use Rattle.cpu.specs.CodeEffects.{code_effect, as_effect, InFile}
-use Rattle.memory.specs.declared.reads.LongRead.{LongRead}
-use Rattle.memory.specs.declared.reads.WordRead.{WordRead}
 use Rattle.memory.specs.declared.stores.Stores.{Stores}
 use Rattle.memory.specs.Listed.{listed}
 use Rattle.memory.specs.Reads.{word_read, long_read}
@@ -20,11 +20,10 @@ use Rattle.memory.proofs.Views.{long_done, long_unmapped}
 use Rattle.types.specs.declared.code.Flow.{Flow}
 use Rattle.types.specs.declared.code.Instruction.{Instruction}
 use Rattle.types.specs.declared.code.Kind.{Kind}
-use Rattle.types.specs.declared.machine.StepAnswer.{StepAnswer}
+use Rattle.types.specs.Answers.{StepAnswer, Served}
 use Rattle.types.specs.declared.machine.CallChange.{CallChange}
 use Rattle.types.specs.declared.machine.Core.{Core}
 use Rattle.types.specs.declared.machine.Registers.{Registers}
-use Rattle.types.specs.declared.machine.Served.{Served}
 use Rattle.types.specs.declared.machine.Stop.{Stop}
 use Rattle.semantics.specs.Addressing.{pulled_at}
 use Rattle.semantics.specs.Arithmetic.{with_s, with_status}
@@ -65,10 +64,10 @@ next_bank m place n act =
 
 -- the return address that is pulled, by its kind
 module _ (m : Memory) (place depth : ℕ) (file : List ℕ) (i : Fetched) (s first second third : ℕ) (kind : Kind)
-    (r : LongRead) (is-s : s ≡ (registers_of file).s) (is-first : first ≡ (s + 1) % bank_size)
+    (r : Option ℕ) (is-s : s ≡ (registers_of file).s) (is-first : first ≡ (s + 1) % bank_size)
     (is-second : second ≡ (s + 2) % bank_size)
   where
-    pub pulls_word : (n : ℕ) (w : WordRead) → n ≡ i.length → place < address_limit → kind ≡ Kind.ByRts
+    pub pulls_word : (n : ℕ) (w : Option ℕ) → n ≡ i.length → place < address_limit → kind ≡ Kind.ByRts
         → w ≡ word_read (evaluate m (word_from first second)) → r ≡ in_next_bank place n w
         → r ≡ long_read (evaluate m (spec.pulls_return (core_at place depth file) (instruction i) kind))
     pulls_word n w is-n h is-kind read e =
@@ -146,13 +145,13 @@ module _ (c : Core) (i : Instruction) where
         rw (no_second (ltb 0 c.depth && eqb (kind_of opened) (kind_number kind)) (eqb (return_of opened) address)
         (ne_eqb (return_of opened) address h)) refl
 
-  module _ (m : Memory) (opened : ℕ) (kind : Kind) (w : LongRead)
+  module _ (m : Memory) (opened : ℕ) (kind : Kind) (w : Option ℕ)
       (read : w ≡ long_read (evaluate m (spec.pulls_return c i kind))) where
-    return_unmapped : w ≡ LongRead.Unmapped → stops Stop.Unmapped ≡ plan_by c i m opened (Flow.Return kind)
+    return_unmapped : w ≡ None → stops Stop.Unmapped ≡ plan_by c i m opened (Flow.Return kind)
     return_unmapped e =
         sym (pulls_first m c i opened kind (long_unmapped (evaluate m (spec.pulls_return c i kind)) w read e))
 
-    return_to : (address : ℕ) → w ≡ LongRead.Long address
+    return_to : (address : ℕ) → w ≡ Some address
         → returns_to c i opened kind address ≡ plan_by c i m opened (Flow.Return kind)
     unfolding plan_by_within
     return_to address e = rw (long_done (evaluate m (spec.pulls_return c i kind)) w address read e) refl
@@ -167,7 +166,7 @@ module _ (i : Fetched) (m : Memory) (place depth : ℕ) (file calls : List ℕ) 
 
   -- a call
   module _ (kind : Kind) where
-    pub stops_deep : (t : StepResult) → t ≡ step_result (StepAnswer.Stopped Stop.Deep) place depth → call_limit ≤ depth
+    pub stops_deep : (t : StepResult) → t ≡ step_result (Err Stop.Deep) place depth → call_limit ≤ depth
         → left t file calls m.ram ≡ finished (spec.calls core (instruction i) kind) i m place depth file calls
     stops_deep t e h =
         stops_so i m place depth file calls Stop.Deep (spec.calls core (instruction i) kind) t e
@@ -196,18 +195,18 @@ module _ (i : Fetched) (m : Memory) (place depth : ℕ) (file calls : List ℕ) 
             (e ∙ ap (target_address (instruction i)) (sym (place_kept place depth file h))) next_kept
             (pushed place depth file i is-s next_kept))
 
-        pub stops_pushing : (stop : Stop) (t : StepResult) → t ≡ step_result (StepAnswer.Stopped stop) place depth
-            → w ≡ Served.Unserved stop
+        pub stops_pushing : (stop : Stop) (t : StepResult) → t ≡ step_result (Err stop) place depth
+            → w ≡ Err stop
             → left t file calls m.ram ≡ finished (spec.calls core (instruction i) kind) i m place depth file calls
         stops_pushing stop t e e' =
             stops_at_stores i m place depth file calls after (target_address (instruction i) place)
             (CallChange.Open next (kind_number kind)) (listed stores) stop t e (sym tested ∙ e')
             ∙ opened_so (target_address (instruction i) place) refl
 
-        pub calls_so : (to entry : ℕ) (file' ram' : List ℕ) → to ≡ target_address (instruction i) place → w ≡ Served.All
+        pub calls_so : (to entry : ℕ) (file' ram' : List ℕ) → to ≡ target_address (instruction i) place → w ≡ Ok tt
             → entry ≡ call_record next (kind_number kind) → registers_of file' ≡ widths_after (instruction i) here after
             → ram' ≡ stored (listed stores) m.ram
-            → left (step_result StepAnswer.Called to (depth + 1)) file' (set calls depth entry) ram'
+            → left (step_result (Ok Completion.Call) to (depth + 1)) file' (set calls depth entry) ram'
             ≡ finished (spec.calls core (instruction i) kind) i m place depth file calls
         calls_so to entry file' ram' is-to all is-entry same is-ram =
             completes i m place depth file calls after to (CallChange.Open next (kind_number kind)) (listed stores)
@@ -220,19 +219,19 @@ module _ (i : Fetched) (m : Memory) (place depth : ℕ) (file calls : List ℕ) 
     abbrev plan : Plan
     plan = returns_to core (instruction i) opened kind address
 
-    pub stops_none_open : (t : StepResult) → t ≡ step_result (StepAnswer.Stopped Stop.Astray) place depth → depth ≡ 0
+    pub stops_none_open : (t : StepResult) → t ≡ step_result (Err Stop.Astray) place depth → depth ≡ 0
         → left t file calls m.ram ≡ finished plan i m place depth file calls
     stops_none_open t e h =
         stops_so i m place depth file calls Stop.Astray plan t e (none_open core (instruction i) opened kind address h)
 
     pub stops_other_kind : (n : ℕ) (t : StepResult) → n ≡ kind_number kind
-        → t ≡ step_result (StepAnswer.Stopped Stop.Astray) place depth
+        → t ≡ step_result (Err Stop.Astray) place depth
         → (kind_of opened ≡ n → ⊥) → left t file calls m.ram ≡ finished plan i m place depth file calls
     stops_other_kind n t is-kind e h =
         stops_so i m place depth file calls Stop.Astray plan t e
         (other_kind core (instruction i) opened kind address n is-kind h)
 
-    pub stops_other_address : (t : StepResult) → t ≡ step_result (StepAnswer.Stopped Stop.Astray) place depth
+    pub stops_other_address : (t : StepResult) → t ≡ step_result (Err Stop.Astray) place depth
         → (return_of opened ≡ address → ⊥)
         → left t file calls m.ram ≡ finished plan i m place depth file calls
     stops_other_address t e h =
@@ -242,7 +241,7 @@ module _ (i : Fetched) (m : Memory) (place depth : ℕ) (file calls : List ℕ) 
     pub returns_so : (n : ℕ) (file' : List ℕ) → n ≡ kind_number kind → 0 < depth → kind_of opened ≡ n
         → return_of opened ≡ address
         → registers_of file' ≡ widths_after (instruction i) here (with_s (pulled_at here (return_bytes kind)) here)
-        → left (step_result StepAnswer.Completed address (depth - 1)) file' calls m.ram
+        → left (step_result (Ok Completion.Ordinary) address (depth - 1)) file' calls m.ram
         ≡ finished plan i m place depth file calls
     returns_so n file' is-kind below same there e =
         completes i m place depth file calls (with_s (pulled_at here (return_bytes kind)) here) address
@@ -251,18 +250,18 @@ module _ (i : Fetched) (m : Memory) (place depth : ℕ) (file calls : List ℕ) 
         ∙ ap (λ p. finished p i m place depth file calls)
         (returned core (instruction i) opened kind address n is-kind below same there)
 
-  module _ (opened s : ℕ) (kind : Kind) (w : LongRead) (is-s : s ≡ here.s)
+  module _ (opened s : ℕ) (kind : Kind) (w : Option ℕ) (is-s : s ≡ here.s)
       (read : (depth : ℕ) (file : List ℕ) (j : Fetched) → s ≡ (registers_of file).s → i.length ≡ j.length
       → w ≡ long_read (evaluate m (spec.pulls_return (core_at place depth file) (instruction j) kind))) where
-    pub stops_pulling : (t : StepResult) → t ≡ step_result (StepAnswer.Stopped Stop.Unmapped) place depth
-        → w ≡ LongRead.Unmapped
+    pub stops_pulling : (t : StepResult) → t ≡ step_result (Err Stop.Unmapped) place depth
+        → w ≡ None
         → left t file calls m.ram
         ≡ finished (plan_by core (instruction i) m opened (Flow.Return kind)) i m place depth file calls
     stops_pulling t e e' =
         stops_so i m place depth file calls Stop.Unmapped (plan_by core (instruction i) m opened (Flow.Return kind)) t e
         (return_unmapped core (instruction i) m opened kind w (read depth file i is-s refl) e')
 
-    pub pulls_so : (address : ℕ) (after : Stepped) → w ≡ LongRead.Long address
+    pub pulls_so : (address : ℕ) (after : Stepped) → w ≡ Some address
         → after ≡ finished (returns_to core (instruction i) opened kind address) i m place depth file calls
         → after ≡ finished (plan_by core (instruction i) m opened (Flow.Return kind)) i m place depth file calls
     pulls_so address after e is-after =

@@ -5,7 +5,7 @@ use mathlib.Core.List.{List}
 use Prim.Native.Nat.{ℕ, ◌+◌, ◌-◌, ◌≤◌}
 use native.Mathlib.Omega.{arith}
 use lib.ListN.{length, drop}
-use Rattle.types.specs.declared.code.Decoded.{Decoded}
+use Rattle.types.specs.Answers.{Decoded}
 use Rattle.types.specs.declared.machine.Core.{Core}
 use Rattle.instructions.specs.Decode.{decode}
 use Rattle.types.specs.Addresses.{address_limit, image_limit}

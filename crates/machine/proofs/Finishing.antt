@@ -1,14 +1,14 @@
 -- What the functions leave makes the definition's step.
 -- Assumes nothing.
+use Rattle.std.specs.Prelude.{Ok, Err}
 use mathlib.Core.Path.{◌≡◌, refl, ap, ap₂}
 use mathlib.Core.List.{List}
 use Prim.Native.Nat.{ℕ, ◌/◌, ◌%◌, ◌<◌}
 use native.Mathlib.Omega.{arith}
 use Rattle.cpu.specs.File.{registers_of}
-use Rattle.types.specs.declared.machine.StepAnswer.{StepAnswer}
+use Rattle.types.specs.Answers.{StepAnswer, Served}
 use Rattle.types.specs.declared.machine.CallChange.{CallChange}
 use Rattle.types.specs.declared.machine.Registers.{Registers}
-use Rattle.types.specs.declared.machine.Served.{Served}
 use Rattle.types.specs.declared.machine.Stop.{Stop}
 use Rattle.types.specs.declared.machine.Store.{Store}
 use Rattle.types.specs.Addresses.{address_limit, bank_size}
@@ -32,19 +32,19 @@ core_kept place depth file =
 
 module _ (i : Fetched) (m : Memory) (place depth : ℕ) (file calls : List ℕ) where
   -- a plan that stops leaves all as it was
-  pub stops_so : (stop : Stop) (p : Plan) (t : StepResult) → t ≡ step_result (StepAnswer.Stopped stop) place depth
+  pub stops_so : (stop : Stop) (p : Plan) (t : StepResult) → t ≡ step_result (Err stop) place depth
       → stops stop ≡ p
       → left t file calls m.ram ≡ finished p i m place depth file calls
   stops_so stop p t e e' = rw (e, ← e') refl
 
   module _ (after : Registers) (to : ℕ) (opens : CallChange) (stores : List Store) where
-    pub stops_at_stores : (stop : Stop) (t : StepResult) → t ≡ step_result (StepAnswer.Stopped stop) place depth
-        → served m stores ≡ Served.Unserved stop
+    pub stops_at_stores : (stop : Stop) (t : StepResult) → t ≡ step_result (Err stop) place depth
+        → served m stores ≡ Err stop
         → left t file calls m.ram ≡ finished (changes (change after to opens stores)) i m place depth file calls
     stops_at_stores stop t e e' = rw (e, e') refl
 
     -- all parts of a change carried out
-    pub completes : (file' calls' ram' : List ℕ) → served m stores ≡ Served.All
+    pub completes : (file' calls' ram' : List ℕ) → served m stores ≡ Ok tt
         → registers_of file' ≡ widths_after (instruction i) (registers_of file) after
         → calls' ≡ calls_after opens depth calls → ram' ≡ stored stores m.ram
         → left (step_result (answer_of opens) to (depth_after opens depth)) file' calls' ram'

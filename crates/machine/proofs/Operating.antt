@@ -1,5 +1,7 @@
 -- Operations and jumps: what the functions give makes the definition's plan, and the plan its step.
 -- Assumes nothing.
+use Rattle.types.specs.declared.machine.Completion.{Completion}
+use Rattle.std.specs.Prelude.{Ok, Err, Some, None, Option}
 use mathlib.Core.Path.{◌≡◌, refl, sym, ap, ◌∙◌}
 use mathlib.Core.Bool.{Bool, true, false}
 use mathlib.Core.List.{List, []}
@@ -7,7 +9,6 @@ use Prim.Native.Nat.{ℕ, ◌<◌}
 use lib.ListN.{get_or}
 use Rattle.actions.specs.Tasks.{unpacked_task}
 use Rattle.actions.specs.ActionEffects.{effect_by}
-use Rattle.addressing.specs.declared.reach.DataRead.{DataRead}
 use Rattle.addressing.specs.Found.{data_read}
 use Rattle.codepages.specs.Packing.{unpacked}
 use Rattle.cpu.specs.declared.effects.Effect.{Effect as Kept}
@@ -25,7 +26,7 @@ use Rattle.types.specs.declared.machine.Data.{Data}
 use Rattle.types.specs.declared.machine.Registers.{Registers}
 use Rattle.types.specs.declared.machine.CallChange.{CallChange}
 use Rattle.types.specs.declared.machine.Stop.{Stop}
-use Rattle.types.specs.declared.machine.StepAnswer.{StepAnswer}
+use Rattle.types.specs.Answers.{StepAnswer}
 use Rattle.semantics.specs.Addressing.{operand_use_of, is_short, data_of}
 use Rattle.prelude.specs.Choice.{pick}
 use Rattle.semantics.specs.Effects.{Effect, effect_of}
@@ -49,11 +50,11 @@ pub not_taken : (branches taken : Bool) (target next to : ℕ) → taken ≡ fal
 not_taken true taken target next to h e = rw h e
 not_taken false taken target next to h e = e
 
-data_done : (o : Outcome Data) (w : DataRead) (d : Data) → w ≡ data_read o → w ≡ DataRead.Found d → o ≡ done d
+data_done : (o : Outcome Data) (w : Option Data) (d : Data) → w ≡ data_read o → w ≡ Some d → o ≡ done d
 data_done (done u) w d e e' = cc
 data_done unmapped w d e e' = cc
 
-data_unmapped : (o : Outcome Data) (w : DataRead) → w ≡ data_read o → w ≡ DataRead.Unmapped → o ≡ unmapped
+data_unmapped : (o : Outcome Data) (w : Option Data) → w ≡ data_read o → w ≡ None → o ≡ unmapped
 data_unmapped (done u) w e e' = cc
 data_unmapped unmapped w e e' = cc
 
@@ -80,7 +81,7 @@ module _ (i : Fetched) (m : Memory) (place depth : ℕ) (file : List ℕ) where
     is_tested : is_decimal (operand_use_of entry.operation) r ≡ decimal
     is_tested = ap (λ a. is_decimal a r) (sym asked_so) ∙ sym tested
 
-    pub stops_decimal : decimal ≡ true → (t : StepResult) → t ≡ step_result (StepAnswer.Stopped Stop.Decimal) place
+    pub stops_decimal : decimal ≡ true → (t : StepResult) → t ≡ step_result (Err Stop.Decimal) place
         depth
         → (calls : List ℕ)
         → left t file calls m.ram ≡ finished (operates c (instruction i) m goes) i m place depth file calls
@@ -92,7 +93,7 @@ module _ (i : Fetched) (m : Memory) (place depth : ℕ) (file : List ℕ) where
         (status : ℕ) (is-status : status ≡ get_or file 7 0) (by-m : Bool) (is_m : by-m ≡ is_set mask_m status)
         (by-x : Bool) (is_x : by-x ≡ is_set mask_x status) (short : Bool) (is-short : short ≡ is_short width by-m by-x)
         (mode : Mode) (is-mode : mode ≡ entry.mode) (named : Accumulator) (is-named : named ≡ entry.accumulator)
-        (w : DataRead) (read : w ≡ data_read (evaluate m (data_of access mode named r short i.operand))) where
+        (w : Option Data) (read : w ≡ data_read (evaluate m (data_of access mode named r short i.operand))) where
       short_so : short ≡ spec.short c (instruction i)
       short_so = rw (is-short, is-width, is_m, is_x, is-status) refl
 
@@ -105,19 +106,19 @@ module _ (i : Fetched) (m : Memory) (place depth : ℕ) (file : List ℕ) where
       again : w ≡ data_read asked
       again = read ∙ rw (asked_so, is-mode, is-named, short_so) refl
 
-      unmapped_plan : w ≡ DataRead.Unmapped → stops Stop.Unmapped ≡ operates c (instruction i) m goes
+      unmapped_plan : w ≡ None → stops Stop.Unmapped ≡ operates c (instruction i) m goes
       unfolding operates
       unmapped_plan e = rw (is_tested, h, data_unmapped asked w again e) refl
 
-      pub stops_unmapped : w ≡ DataRead.Unmapped → (t : StepResult)
-          → t ≡ step_result (StepAnswer.Stopped Stop.Unmapped) place depth
+      pub stops_unmapped : w ≡ None → (t : StepResult)
+          → t ≡ step_result (Err Stop.Unmapped) place depth
           → (calls : List ℕ)
           → left t file calls m.ram ≡ finished (operates c (instruction i) m goes) i m place depth file calls
       stops_unmapped e t is-result calls =
           stops_so i m place depth file calls Stop.Unmapped (operates c (instruction i) m goes) t is-result
           (unmapped_plan e)
 
-      module _ (given : Data) (found : w ≡ DataRead.Found given) (inside : place < address_limit)
+      module _ (given : Data) (found : w ≡ Some given) (inside : place < address_limit)
           (next : ℕ) (is-next : next ≡ next_address place i.length) (e : Kept)
           (is-effect : as_effect e r ≡ effect_by mode short i.operand next given file (unpacked_task task))
           (to : ℕ) (is-to : to ≡ goes e.taken) where
@@ -156,9 +157,9 @@ module _ (i : Fetched) (m : Memory) (place depth : ℕ) (file : List ℕ) where
   pub jumped : (e : Kept) → e ≡ code_effect 7 0 7 0 (get_or file 7 0) Stores.None false
       → (file' : List ℕ) → registers_of file' ≡ widths_after (instruction i) r (as_effect e r).registers
       → (to target : ℕ) → to ≡ target → (calls : List ℕ)
-      → left (step_result StepAnswer.Completed to depth) file' calls m.ram
+      → left (step_result (Ok Completion.Ordinary) to depth) file' calls m.ram
       ≡ finished (changes (change r target CallChange.Keep [])) i m place depth file calls
   jumped e is-effect file' same to target is-to calls =
-      ap (λ n. left (step_result StepAnswer.Completed n depth) file' calls m.ram) is-to
+      ap (λ n. left (step_result (Ok Completion.Ordinary) n depth) file' calls m.ram) is-to
       ∙ completes i m place depth file calls r target CallChange.Keep [] file' calls m.ram refl
       (same ∙ ap (λ k. widths_after (instruction i) r (as_effect k r).registers) is-effect) refl refl

@@ -1,5 +1,7 @@
 -- What is fetched decides the step, and its flow the plan.
 -- Assumes nothing.
+use Rattle.types.specs.declared.code.Undecoded.{Undecoded}
+use Rattle.std.specs.Prelude.{Ok, Err}
 use mathlib.Core.Path.{◌≡◌, refl, sym, ap, ◌∙◌}
 use mathlib.Core.Logic.{◌⊎◌, ⊎_elim}
 use mathlib.Core.Bool.{Bool}
@@ -8,13 +10,12 @@ use Prim.Native.Nat.{ℕ, ◌-◌, ◌%◌, ◌<◌}
 use lib.ListN.{get_or}
 use Rattle.cpu.specs.File.{registers_of}
 use Rattle.types.specs.declared.code.Kind.{Kind}
-use Rattle.types.specs.declared.code.Decoded.{Decoded}
+use Rattle.types.specs.Answers.{Decoded, StepAnswer}
 use Rattle.types.specs.declared.code.Flow.{Flow}
 use Rattle.types.specs.declared.code.Instruction.{Instruction}
 use Rattle.types.specs.declared.machine.CallChange.{CallChange}
 use Rattle.types.specs.declared.machine.Core.{Core}
 use Rattle.types.specs.declared.machine.Stop.{Stop}
-use Rattle.types.specs.declared.machine.StepAnswer.{StepAnswer}
 use Rattle.prelude.specs.Choice.{pick}
 use Rattle.types.specs.Addresses.{address_limit}
 use Rattle.semantics.specs.Memory.{Memory}
@@ -40,13 +41,13 @@ module _ (i : Fetched) (m : Memory) (place depth : ℕ) (file opens : List ℕ) 
 
   module _ (flow : Flow) (is-flow : flow ≡ there.entry.flow) (after : Stepped) where
     by_plan : (p : Plan) → after ≡ finished p i m place depth file opens → p ≡ plan_by c there m opened flow
-        → after ≡ on_decoded (Decoded.Whole there) m (state c opens)
+        → after ≡ on_decoded (Ok there) m (state c opens)
     by_plan p e e' = rw (e, e', is-flow) refl
 
     -- an operation goes on at the next address, or by its target where it branches
     pub by_operation : flow ≡ Flow.Next ⊎ flow ≡ Flow.Branch → (branches : Bool) → branches ≡ is_branch flow
         → after ≡ finished (operates c there m (goes_on_by branches i place)) i m place depth file opens
-        → after ≡ on_decoded (Decoded.Whole there) m (state c opens)
+        → after ≡ on_decoded (Ok there) m (state c opens)
     unfolding plan_by_within
     by_operation h branches e e' =
         by_plan (operates c there m (goes_on_by branches i place)) e' (by flow h branches e)
@@ -71,7 +72,7 @@ module _ (i : Fetched) (m : Memory) (place depth : ℕ) (file opens : List ℕ) 
         ≡ finished (changes (change (registers_of file) (target_address there place) CallChange.Keep [])) i m place
         depth
         file opens
-        → after ≡ on_decoded (Decoded.Whole there) m (state c opens)
+        → after ≡ on_decoded (Ok there) m (state c opens)
     unfolding plan_by_within
     by_jump e e' =
         by_plan (changes (change (registers_of file) (target_address there place) CallChange.Keep [])) e' (rw e jumped)
@@ -84,7 +85,7 @@ module _ (i : Fetched) (m : Memory) (place depth : ℕ) (file opens : List ℕ) 
 
     pub by_call : (kind : Kind) → flow ≡ Flow.Call kind
         → after ≡ finished (calls c there kind) i m place depth file opens
-        → after ≡ on_decoded (Decoded.Whole there) m (state c opens)
+        → after ≡ on_decoded (Ok there) m (state c opens)
     unfolding plan_by_within
     by_call kind e e' = by_plan (calls c there kind) e' (rw e called)
       where
@@ -93,12 +94,12 @@ module _ (i : Fetched) (m : Memory) (place depth : ℕ) (file opens : List ℕ) 
 
     pub by_return : (kind : Kind) (last : ℕ) → flow ≡ Flow.Return kind → last ≡ opened
         → after ≡ finished (plan_by c there m last (Flow.Return kind)) i m place depth file opens
-        → after ≡ on_decoded (Decoded.Whole there) m (state c opens)
+        → after ≡ on_decoded (Ok there) m (state c opens)
     by_return kind last e e' e'' = by_plan (plan_by c there m last (Flow.Return kind)) e'' (rw (e, e') refl)
 
-    pub by_halt : (t : StepResult) → flow ≡ Flow.Halt → t ≡ step_result (StepAnswer.Stopped Stop.Halt) place depth
+    pub by_halt : (t : StepResult) → flow ≡ Flow.Halt → t ≡ step_result (Err Stop.Halt) place depth
         → after ≡ left t file opens m.ram
-        → after ≡ on_decoded (Decoded.Whole there) m (state c opens)
+        → after ≡ on_decoded (Ok there) m (state c opens)
     unfolding plan_by_within
     by_halt t e e' e'' = by_plan (stops Stop.Halt) (rw (e'', e') refl) (rw e halted)
       where
@@ -117,17 +118,17 @@ module _ (m : Memory) (place depth : ℕ) (file opens : List ℕ) (found : Fetch
         e ∙ ap (λ d. on_decoded d m (state here opens)) is-fetched
         ∙ ap (λ c. on_decoded (fetched m c) m (state c opens)) (core_kept place depth file)
 
-    pub step_whole : (i : Fetched) → found ≡ Fetch.Whole i
-        → after ≡ on_decoded (Decoded.Whole (instruction i)) m (state here opens)
+    pub step_whole : (i : Fetched) → found ≡ Ok i
+        → after ≡ on_decoded (Ok (instruction i)) m (state here opens)
         → after ≡ step m (state (core_at place depth file) opens)
     step_whole i e e' = by_fetch (rw e e')
 
-    pub step_uncarried : (t : StepResult) → found ≡ Fetch.NotCarried
-        → t ≡ step_result (StepAnswer.Stopped Stop.Uncarried) place depth
+    pub step_uncarried : (t : StepResult) → found ≡ Err Undecoded.NotCarried
+        → t ≡ step_result (Err Stop.Uncarried) place depth
         → after ≡ left t file opens m.ram → after ≡ step m (state (core_at place depth file) opens)
     step_uncarried t e e' e'' = by_fetch (rw (e, e'', e', core_kept place depth file) refl)
 
-    pub step_outside : (t : StepResult) → found ≡ Fetch.CutOff
-        → t ≡ step_result (StepAnswer.Stopped Stop.Outside) place depth
+    pub step_outside : (t : StepResult) → found ≡ Err Undecoded.CutOff
+        → t ≡ step_result (Err Stop.Outside) place depth
         → after ≡ left t file opens m.ram → after ≡ step m (state (core_at place depth file) opens)
     step_outside t e e' e'' = by_fetch (rw (e, e'', e', core_kept place depth file) refl)

@@ -1,13 +1,11 @@
 -- A step's end as the code has it, beside what is lent to it, as the definition's.
 -- Assumes nothing.
-use Rattle.std.specs.Prelude.{ℕ, ◌/◌, ◌%◌, Bool, List}
+use Rattle.std.specs.Prelude.{ℕ, ◌/◌, ◌%◌, Bool, List, Some, None, Option}
 use Rattle.cpu.specs.File.{registers_of}
 use Rattle.machine.specs.declared.commit.StepResult.{StepResult}
 use Rattle.machine.specs.declared.fetch.Fetched.{Fetched}
 use Rattle.machine.specs.Fetches.{instruction}
-use Rattle.memory.specs.declared.reads.WordRead.{WordRead}
-use Rattle.memory.specs.declared.reads.LongRead.{LongRead}
-use Rattle.types.specs.declared.machine.StepAnswer.{StepAnswer}
+use Rattle.types.specs.Answers.{StepAnswer}
 use Rattle.types.specs.declared.machine.Core.{Core}
 use Rattle.types.specs.declared.machine.State.{State}
 use Rattle.prelude.specs.Choice.{pick}
@@ -45,6 +43,6 @@ goes_on_by branches i place taken =
     (next_address place i.length)
 
 -- a word that was read, as an address of the bank of the address just after an instruction of n bytes
-abbrev pub in_next_bank : ℕ → ℕ → WordRead → LongRead
-in_next_bank place n (WordRead.Word address) = LongRead.Long (in_bank_after place n address)
-in_next_bank place n WordRead.Unmapped = LongRead.Unmapped
+abbrev pub in_next_bank : ℕ → ℕ → Option ℕ → Option ℕ
+in_next_bank place n (Some address) = Some (in_bank_after place n address)
+in_next_bank place n None = None

@@ -1,6 +1,7 @@
 -- The reader's tests, over plain values: a text is a list when its lines end with it; the mark at the reset address is
 -- the one shown behind the lines of the addresses before it; what the tests come to gives the answer and the marks.
 -- Assumes nothing.
+use Rattle.std.specs.Prelude.{Ok, Err}
 use mathlib.Core.Path.{◌≡◌, refl, sym, ap}
 use mathlib.Core.Bool.{Bool, true, false, not, ◌&&◌, ◌||◌}
 use mathlib.Core.List.{List, [], ◌∷◌}
@@ -12,8 +13,7 @@ use lib.Dec.{eqb, ltb, leb}
 use lib.ListN.{length, get_or, drop, length-drop, get_or-eq_default}
 use Rattle.types.specs.declared.lists.Header.{Header}
 use Rattle.types.specs.declared.refusals.Refusal.{Refusal}
-use Rattle.types.specs.declared.refusals.TestResult.{TestResult}
-use Rattle.types.specs.declared.lists.ListRead.{ListRead}
+use Rattle.types.specs.Answers.{TestResult, ListRead}
 use Rattle.types.specs.Addresses.{bank_size}
 use Rattle.types.specs.Refusals.{first_refusal}
 use Rattle.text.specs.Text.{starts_with}
@@ -124,7 +124,7 @@ module _ (old : Bool) (n marks base : ℕ) where
   bank = not old || leb (base % bank_size + n) bank_size
 
   pub image_fails : {so : TestResult} {why : Refusal} → so ≡ first_refusal (image_tests n marks base)
-      → so ≡ TestResult.Failed why → so ≡ first_refusal (list_tests old n marks base)
+      → so ≡ Err why → so ≡ first_refusal (list_tests old n marks base)
   unfolding first_refusal list_base_fits
   image_fails {so} e failed = by (length_fits n marks) (base_fits base n) e
     where
@@ -134,7 +134,7 @@ module _ (old : Bool) (n marks base : ℕ) where
       by true false e = e
       by true true e = let z : ◌≡◌ {A = ℕ} 0 1 = cc in absurd (omega arith)
 
-  pub image_passes : {so : TestResult} {given : Bool} → TestResult.Passed ≡ first_refusal (image_tests n marks base)
+  pub image_passes : {so : TestResult} {given : Bool} → Ok tt ≡ first_refusal (image_tests n marks base)
       → given ≡ bank → so ≡ first_refusal ((given, Refusal.Base) ∷ [])
       → so ≡ first_refusal (list_tests old n marks base)
   unfolding first_refusal list_base_fits
@@ -146,13 +146,13 @@ module _ (old : Bool) (n marks base : ℕ) where
 
 module _ (text marks : List ℕ) (old : Bool) (h : Header) (old-so : old ≡ is_old text)
     (headed-so : h ≡ header_shown text) where
-  pub refused : {why : Refusal} → TestResult.Failed why ≡ first_refusal (read_tests old h text (length marks))
-      → (ListRead.NotRead why ≡ read_list text marks) × (marks ≡ marks_read text marks)
+  pub refused : {why : Refusal} → Err why ≡ first_refusal (read_tests old h text (length marks))
+      → (Err why ≡ read_list text marks) × (marks ≡ marks_read text marks)
   unfolding read_list read_as marks_read marks_by
   refused e = (rw (← old-so, ← headed-so, ← e), rw (← old-so, ← headed-so, ← e))
 
-  pub is_read : TestResult.Passed ≡ first_refusal (read_tests old h text (length marks))
-      → (ListRead.Read h ≡ read_list text marks) × (marks_of (digits_by old) h text ≡ marks_read text marks)
+  pub is_read : (Ok tt) ≡ first_refusal (read_tests old h text (length marks))
+      → (Ok h ≡ read_list text marks) × (marks_of (digits_by old) h text ≡ marks_read text marks)
   unfolding read_list read_as marks_read marks_by
   is_read e = (
     rw (← old-so, ← headed-so, ← e),

@@ -1,5 +1,6 @@
 -- The writer's answer and page by what its tests come to; the list's length is that of its parts.
 -- Assumes nothing.
+use Rattle.std.specs.Prelude.{Ok, Err}
 use mathlib.Core.Path.{◌≡◌, refl, sym}
 use mathlib.Core.Bool.{true, false}
 use mathlib.Core.List.{List, ◌++◌}
@@ -10,8 +11,7 @@ use lib.ListN.{length, take, drop, length-append}
 use borrow.Rule.Slice.PartMut.{put_mid}
 use Rattle.types.specs.declared.lists.Header.{Header}
 use Rattle.types.specs.declared.refusals.Refusal.{Refusal}
-use Rattle.types.specs.declared.refusals.TestResult.{TestResult}
-use Rattle.types.specs.declared.lists.ListWritten.{ListWritten}
+use Rattle.types.specs.Answers.{TestResult, ListWritten}
 use Rattle.types.specs.Refusals.{first_refusal}
 use Rattle.acceptance.specs.Verdict.{marks_tests}
 use Rattle.lists.specs.MarkList.{new_digits, header_text, lines, first_address, list_text, write_tests, write_list}
@@ -21,27 +21,27 @@ use Rattle.types.proofs.TestResults.{passes, fails, holds, goes_on}
 use Rattle.text.proofs.Pages.{Front, front_next}
 
 module _ (marks : List ℕ) (base reset : ℕ) (page : List ℕ) where
-  pub refused : {why : Refusal} → TestResult.Failed why ≡ first_refusal (write_tests marks base reset page)
-      → (ListWritten.NotWritten why ≡ write_list marks base reset page) × (page ≡ page_written marks base reset page)
+  pub refused : {why : Refusal} → Err why ≡ first_refusal (write_tests marks base reset page)
+      → (Err why ≡ write_list marks base reset page) × (page ≡ page_written marks base reset page)
   unfolding write_list page_written page_by
   refused e = (rw (← e), rw (← e))
 
   abbrev pub first_line : Header
   first_line = record { base = base; length = length marks; reset = reset }
 
-  module _ (passed : TestResult.Passed ≡ first_refusal (marks_tests (length marks) marks base reset)) (size : ℕ)
+  module _ (passed : (Ok tt) ≡ first_refusal (marks_tests (length marks) marks base reset)) (size : ℕ)
       (s : size ≡ length (list_text new_digits marks base reset)) where
     pub short_page : length page < size
-        → TestResult.Failed Refusal.Page ≡ first_refusal (write_tests marks base reset page)
+        → Err Refusal.Page ≡ first_refusal (write_tests marks base reset page)
     short_page short =
         goes_on (marks_tests (length marks) marks base reset) _ passed refl
         (fails {given = false} _ _ (sym (rw (← s) (lt-leb size (length page) short))) refl)
 
-    pub is_written : size ≤ length page → (ListWritten.Written size ≡ write_list marks base reset page)
+    pub is_written : size ≤ length page → (Ok size ≡ write_list marks base reset page)
         × (list_text new_digits marks base reset ++ drop size page ≡ page_written marks base reset page)
     unfolding write_list page_written page_by
     is_written long =
-        let all : TestResult.Passed ≡ first_refusal (write_tests marks base reset page) =
+        let all : (Ok tt) ≡ first_refusal (write_tests marks base reset page) =
         goes_on (marks_tests (length marks) marks base reset) _ passed refl
         (holds {given = true} _ _ (sym (rw (← s) (le-leb size (length page) long))) refl passes) in
         (rw (← all, s), rw (← all, s))

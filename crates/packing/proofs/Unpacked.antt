@@ -1,21 +1,15 @@
 -- The numbers that the functions of include/m7700.h take out of a result are those of the answer that was packed: each
 -- number is below the bound of its bits.
 -- Assumes nothing.
+use Rattle.std.specs.Prelude.{Ok, Err, Some, None}
 use mathlib.Core.Path.{◌≡◌, refl, ap}
 use mathlib.Core.Bool.{false}
 use Prim.Native.Nat.{ℕ, ◌+◌, ◌*◌, ◌/◌, ◌%◌, ◌^◌, ◌<◌}
 use native.Mathlib.Omega.{arith}
 use borrow.Author.Tests.{ne_eqb}
 use lib.Dec.{eqb}
-use Rattle.types.specs.declared.rules.Verdict.{Verdict}
-use Rattle.types.specs.declared.lists.ListRead.{ListRead}
-use Rattle.types.specs.declared.lists.ListWritten.{ListWritten}
-use Rattle.types.specs.declared.pages.Printed.{Printed}
-use Rattle.types.specs.declared.probes.Located.{Located}
+use Rattle.types.specs.Answers.{Verdict, refused_at, ListRead, ListWritten, Printed, Located, TestResult, End, RunAnswer}
 use Rattle.types.specs.declared.refusals.Refusal.{Refusal}
-use Rattle.types.specs.declared.refusals.TestResult.{TestResult}
-use Rattle.types.specs.declared.runs.End.{End}
-use Rattle.types.specs.declared.runs.RunAnswer.{RunAnswer}
 use Rattle.types.specs.Refusals.{refusal_number}
 use Rattle.types.specs.Runs.{end_number}
 use Rattle.types.proofs.TestResults.{refusal_range}
@@ -27,22 +21,22 @@ use Rattle.packing.specs.Packed.{addresses_located_numbers, located_numbers, pac
 use Rattle.packing.specs.Packed.{RunFits, answer_numbers, run_numbers}
 
 pub verdict_unpacked : (v : Verdict) → Fits v → check_numbers (packed_verdict v) ≡ verdict_numbers v
-verdict_unpacked Verdict.Accepted f = refl
-verdict_unpacked (Verdict.Refused why at) f =
-    let result = refusal_number why * 65_536 + at in
-    let number : (check_numbers result).number ≡ refusal_number why = omega arith in
-    let offset : (check_numbers result).offset ≡ at = omega arith in
+verdict_unpacked (Ok _) f = refl
+verdict_unpacked (Err r) f =
+    let result = refusal_number r.why * 65_536 + r.offset in
+    let number : (check_numbers result).number ≡ refusal_number r.why = omega arith in
+    let offset : (check_numbers result).offset ≡ r.offset = omega arith in
     λ j. record { number = number j; offset = offset j }
 
 pub read_unpacked : (a : ListRead) → ReadFits a → read_numbers (packed_read a) ≡ list_read_numbers a
-read_unpacked (ListRead.NotRead why) f =
+read_unpacked (Err why) f =
     let result = refusal_number why in
     let below = (refusal_range why).1 in
     let number : (read_numbers result).number ≡ result = omega arith in
     let base : (read_numbers result).base ≡ 0 = omega arith in
     let reset : (read_numbers result).reset ≡ 0 = omega arith in
     λ j. record { number = number j; base = base j; reset = reset j }
-read_unpacked (ListRead.Read h) f =
+read_unpacked (Ok h) f =
     let result = h.base * 256 + h.reset * 4_294_967_296 in
     let above : result / 2 ^ 8 ≡ h.base + 2 ^ 24 * h.reset = omega arith in
     let higher : result / 2 ^ 32 ≡ h.reset = omega arith in
@@ -52,27 +46,27 @@ read_unpacked (ListRead.Read h) f =
     λ j. record { number = number j; base = base j; reset = reset j }
 
 pub written_unpacked : (a : ListWritten) → written_numbers (packed_written a) ≡ list_written_numbers a
-written_unpacked (ListWritten.NotWritten why) =
+written_unpacked (Err why) =
     let result = refusal_number why in
     let below = (refusal_range why).1 in
     let number : (written_numbers result).number ≡ result = omega arith in
     let length : (written_numbers result).length ≡ 0 = omega arith in
     λ j. record { number = number j; length = length j }
-written_unpacked (ListWritten.Written n) =
+written_unpacked (Ok n) =
     let number : (written_numbers (n * 256)).number ≡ 0 = omega arith in
     let length : (written_numbers (n * 256)).length ≡ n = omega arith in
     λ j. record { number = number j; length = length j }
 
 -- a refusal that is passed on is that of the check; what is 0 is accepted
-pub passed_on : (why : Refusal) (at : ℕ) → Fits (Verdict.Refused why at)
-    → passed_result (packed_verdict (Verdict.Refused why at)) ≡ refusal_number why + at * 256
+pub passed_on : (why : Refusal) (at : ℕ) → Fits (refused_at why at)
+    → passed_result (packed_verdict (refused_at why at)) ≡ refusal_number why + at * 256
 passed_on why at f =
-    let same = verdict_unpacked (Verdict.Refused why at) f in
+    let same = verdict_unpacked (refused_at why at) f in
     rw (ap (λ n. n.number) same, ap (λ n. n.offset) same)
 
-pub accepted_zero : (v : Verdict) → packed_verdict v ≡ 0 → v ≡ Verdict.Accepted
-accepted_zero Verdict.Accepted e = refl
-accepted_zero (Verdict.Refused why at) e = absurd (omega (arith, (refusal_range why).0))
+pub accepted_zero : (v : Verdict) → packed_verdict v ≡ 0 → v ≡ Ok tt
+accepted_zero (Ok _) e = refl
+accepted_zero (Err r) e = absurd (omega (arith, (refusal_range r.why).0))
 
 -- a number with another above it: which one it is, is told by the low byte
 module _ (why : Refusal) (at : ℕ) where
@@ -95,23 +89,23 @@ count_above : (n : ℕ) → n * 256 / 2 ^ 8 ≡ n
 count_above n = omega arith
 
 pub printed_unpacked : (a : Printed) → printed_numbers (packed_printed a) ≡ page_printed_numbers a
-printed_unpacked (Printed.NotPrinted why at) = rw (refused_low why at, refused_above why at, refused_so why at)
-printed_unpacked (Printed.Rows n) = rw (count_low n, count_above n)
+printed_unpacked (Err r) = rw (refused_low r.why r.offset, refused_above r.why r.offset, refused_so r.why r.offset)
+printed_unpacked (Ok n) = rw (count_low n, count_above n)
 
 pub located_unpacked : (a : Located) → located_numbers (packed_located a) ≡ addresses_located_numbers a
-located_unpacked (Located.NotLocated why at) = rw (refused_low why at, refused_above why at, refused_so why at)
-located_unpacked (Located.MarksRead n) = rw (count_low n, count_above n)
+located_unpacked (Err r) = rw (refused_low r.why r.offset, refused_above r.why r.offset, refused_so r.why r.offset)
+located_unpacked (Ok n) = rw (count_low n, count_above n)
 
 pub built_unpacked : (a : TestResult) → built_number (packed_built a) ≡ packed_built a
-built_unpacked (TestResult.Failed why) = omega (arith, (refusal_range why).1)
-built_unpacked TestResult.Passed = refl
+built_unpacked (Err why) = omega (arith, (refusal_range why).1)
+built_unpacked (Ok _) = refl
 
 end_below : (end : End) → end_number end < 256
-end_below End.Done = omega arith
-end_below (End.AtStop stop) = omega (arith, (stop_range stop).1)
+end_below None = omega arith
+end_below (Some stop) = omega (arith, (stop_range stop).1)
 
 pub run_unpacked : (a : RunAnswer) → RunFits a → run_numbers (packed_run a) ≡ answer_numbers a
-run_unpacked (RunAnswer.NotRun why) f =
+run_unpacked (Err why) f =
     let result = refusal_number why in
     let below = (refusal_range why).1 in
     let refusal : (run_numbers result).refusal ≡ result = omega arith in
@@ -119,13 +113,13 @@ run_unpacked (RunAnswer.NotRun why) f =
     let steps : (run_numbers result).steps ≡ 0 = omega arith in
     let calls : (run_numbers result).calls ≡ 0 = omega arith in
     λ j. record { refusal = refusal j; end = end j; steps = steps j; calls = calls j }
-run_unpacked (RunAnswer.Ended stopped taken called) f =
-    let result = 256 * end_number stopped + 65_536 * taken + 1_099_511_627_776 * called in
-    let below = end_below stopped in
-    let above : result / 2 ^ 8 ≡ end_number stopped + 2 ^ 8 * (taken + 2 ^ 24 * called) = omega arith in
-    let higher : result / 2 ^ 16 ≡ taken + 2 ^ 24 * called = omega arith in
+run_unpacked (Ok e) f =
+    let result = 256 * end_number e.end + 65_536 * e.steps + 1_099_511_627_776 * e.calls in
+    let below = end_below e.end in
+    let above : result / 2 ^ 8 ≡ end_number e.end + 2 ^ 8 * (e.steps + 2 ^ 24 * e.calls) = omega arith in
+    let higher : result / 2 ^ 16 ≡ e.steps + 2 ^ 24 * e.calls = omega arith in
     let refusal : (run_numbers result).refusal ≡ 0 = omega arith in
-    let end : (run_numbers result).end ≡ end_number stopped = rw above (omega arith) in
-    let steps : (run_numbers result).steps ≡ taken = rw higher (omega arith) in
-    let calls : (run_numbers result).calls ≡ called = omega arith in
+    let end : (run_numbers result).end ≡ end_number e.end = rw above (omega arith) in
+    let steps : (run_numbers result).steps ≡ e.steps = rw higher (omega arith) in
+    let calls : (run_numbers result).calls ≡ e.calls = omega arith in
     λ j. record { refusal = refusal j; end = end j; steps = steps j; calls = calls j }

@@ -1,15 +1,10 @@
 -- The answers of the C interface as numbers: how an answer is packed into a result, and the numbers that the
 -- functions of include/m7700.h take out of a result. That these are the numbers of the answer: proofs/Unpacked.antt.
 -- Assumes nothing.
-use Rattle.std.specs.Prelude.{ℕ, ◌+◌, ◌*◌, ◌/◌, ◌%◌, ◌^◌, ◌≤◌, ◌<◌, eqb}
+use Rattle.std.specs.Prelude.{ℕ, ◌+◌, ◌*◌, ◌/◌, ◌%◌, ◌^◌, ◌≤◌, ◌<◌, eqb, Result, Ok, Err}
+use Rattle.types.specs.declared.refusals.Refused.{Refused}
 use Rattle.prelude.specs.Choice.{pick}
-use Rattle.types.specs.declared.rules.Verdict.{Verdict}
-use Rattle.types.specs.declared.lists.ListRead.{ListRead}
-use Rattle.types.specs.declared.lists.ListWritten.{ListWritten}
-use Rattle.types.specs.declared.pages.Printed.{Printed}
-use Rattle.types.specs.declared.probes.Located.{Located}
-use Rattle.types.specs.declared.refusals.TestResult.{TestResult}
-use Rattle.types.specs.declared.runs.RunAnswer.{RunAnswer}
+use Rattle.types.specs.Answers.{Verdict, ListRead, ListWritten, Printed, Located, TestResult, RunAnswer}
 use Rattle.types.specs.Addresses.{address_limit}
 use Rattle.types.specs.Refusals.{refusal_number}
 use Rattle.types.specs.Runs.{step_limit, end_number}
@@ -17,21 +12,21 @@ use Rattle.types.specs.Runs.{step_limit, end_number}
 -- ---- the check: the number in the upper 16 bits, the offset in the lower; 0 is accepted
 
 abbrev pub packed_verdict : Verdict → ℕ
-packed_verdict Verdict.Accepted = 0
-packed_verdict (Verdict.Refused why offset) = refusal_number why * 65_536 + offset
+packed_verdict (Ok _) = 0
+packed_verdict (Err r) = refusal_number r.why * 65_536 + r.offset
 
 -- an answer that fits so
 abbrev pub Fits : Verdict → Type 0
-Fits Verdict.Accepted = Unit {0}
-Fits (Verdict.Refused why offset) = offset < 65_536
+Fits (Ok _) = Unit {0}
+Fits (Err r) = r.offset < 65_536
 
 pub record CheckNumbers : Type 0 where
   pub number : ℕ
   pub offset : ℕ
 
 abbrev pub verdict_numbers : Verdict → CheckNumbers
-verdict_numbers Verdict.Accepted = record { number = 0; offset = 0 }
-verdict_numbers (Verdict.Refused why offset) = record { number = refusal_number why; offset = offset }
+verdict_numbers (Ok _) = record { number = 0; offset = 0 }
+verdict_numbers (Err r) = record { number = refusal_number r.why; offset = r.offset }
 
 -- as `m7700_check_image` takes them
 abbrev pub check_numbers : ℕ → CheckNumbers
@@ -41,12 +36,12 @@ check_numbers result = record { number = result / 2 ^ 16; offset = result % 2 ^ 
 -- 32 to 55
 
 abbrev pub packed_read : ListRead → ℕ
-packed_read (ListRead.NotRead why) = refusal_number why
-packed_read (ListRead.Read h) = h.base * 256 + h.reset * 4_294_967_296
+packed_read (Err why) = refusal_number why
+packed_read (Ok h) = h.base * 256 + h.reset * 4_294_967_296
 
 abbrev pub ReadFits : ListRead → Type 0
-ReadFits (ListRead.NotRead why) = Unit {0}
-ReadFits (ListRead.Read h) = (h.base < address_limit) × (h.reset < address_limit)
+ReadFits (Err why) = Unit {0}
+ReadFits (Ok h) = (h.base < address_limit) × (h.reset < address_limit)
 
 pub record ReadNumbers : Type 0 where
   pub number : ℕ
@@ -54,8 +49,8 @@ pub record ReadNumbers : Type 0 where
   pub reset : ℕ
 
 abbrev pub list_read_numbers : ListRead → ReadNumbers
-list_read_numbers (ListRead.NotRead why) = record { number = refusal_number why; base = 0; reset = 0 }
-list_read_numbers (ListRead.Read h) = record { number = 0; base = h.base; reset = h.reset }
+list_read_numbers (Err why) = record { number = refusal_number why; base = 0; reset = 0 }
+list_read_numbers (Ok h) = record { number = 0; base = h.base; reset = h.reset }
 
 -- as `m7700_read_mark_list` takes them
 abbrev pub read_numbers : ℕ → ReadNumbers
@@ -68,34 +63,42 @@ read_numbers result = record {
 -- ---- the writer: the number in bits 0 to 7; where that is 0, the list's length in bits 8 to 63
 
 abbrev pub packed_written : ListWritten → ℕ
-packed_written (ListWritten.NotWritten why) = refusal_number why
-packed_written (ListWritten.Written n) = n * 256
+packed_written (Err why) = refusal_number why
+packed_written (Ok n) = n * 256
 
 abbrev pub WrittenFits : ListWritten → Type 0
-WrittenFits (ListWritten.NotWritten why) = Unit {0}
-WrittenFits (ListWritten.Written n) = n < 72_057_594_037_927_936
+WrittenFits (Err why) = Unit {0}
+WrittenFits (Ok n) = n < 72_057_594_037_927_936
 
 pub record WrittenNumbers : Type 0 where
   pub number : ℕ
   pub length : ℕ
 
 abbrev pub list_written_numbers : ListWritten → WrittenNumbers
-list_written_numbers (ListWritten.NotWritten why) = record { number = refusal_number why; length = 0 }
-list_written_numbers (ListWritten.Written n) = record { number = 0; length = n }
+list_written_numbers (Err why) = record { number = refusal_number why; length = 0 }
+list_written_numbers (Ok n) = record { number = 0; length = n }
 
 -- as `m7700_write_mark_list` takes them
 abbrev pub written_numbers : ℕ → WrittenNumbers
 written_numbers result = record { number = result % 2 ^ 8; length = result / 2 ^ 8 }
 
--- ---- the printed page: the number in bits 0 to 7; above it the length of the rows where that is 0, else the offset
+-- ---- a count: the number in bits 0 to 7; above it the count where that is 0, else the offset
+
+abbrev pub packed_count : Result ℕ Refused → ℕ
+packed_count (Err r) = refusal_number r.why + r.offset * 256
+packed_count (Ok n) = n * 256
+
+abbrev pub CountFits : Result ℕ Refused → Type 0
+CountFits (Err r) = r.offset < 65_536
+CountFits (Ok n) = n < 72_057_594_037_927_936
+
+-- ---- the printed page: so, with the length of the rows
 
 abbrev pub packed_printed : Printed → ℕ
-packed_printed (Printed.NotPrinted why offset) = refusal_number why + offset * 256
-packed_printed (Printed.Rows n) = n * 256
+packed_printed = packed_count
 
 abbrev pub PrintedFits : Printed → Type 0
-PrintedFits (Printed.NotPrinted why offset) = offset < 65_536
-PrintedFits (Printed.Rows n) = n < 72_057_594_037_927_936
+PrintedFits = CountFits
 
 pub record PrintedNumbers : Type 0 where
   pub number : ℕ
@@ -103,9 +106,9 @@ pub record PrintedNumbers : Type 0 where
   pub length : ℕ
 
 abbrev pub page_printed_numbers : Printed → PrintedNumbers
-page_printed_numbers (Printed.NotPrinted why offset) = record
-    { number = refusal_number why; offset = offset; length = 0 }
-page_printed_numbers (Printed.Rows n) = record { number = 0; offset = 0; length = n }
+page_printed_numbers (Err r) = record
+    { number = refusal_number r.why; offset = r.offset; length = 0 }
+page_printed_numbers (Ok n) = record { number = 0; offset = 0; length = n }
 
 -- the check's refusal as the printer gives it, of the numbers in the check's result
 abbrev pub passed_result : ℕ → ℕ
@@ -119,16 +122,13 @@ printed_numbers result = record {
   length = pick (eqb (result % 2 ^ 8) 0) (result / 2 ^ 8) 0;
 }
 
--- ---- the places of addresses: the number in bits 0 to 7; above it the number of marks read where that is 0, else the
--- offset
+-- ---- the places of addresses: so, with the number of marks read
 
 abbrev pub packed_located : Located → ℕ
-packed_located (Located.NotLocated why offset) = refusal_number why + offset * 256
-packed_located (Located.MarksRead n) = n * 256
+packed_located = packed_count
 
 abbrev pub LocatedFits : Located → Type 0
-LocatedFits (Located.NotLocated why offset) = offset < 65_536
-LocatedFits (Located.MarksRead n) = n < 72_057_594_037_927_936
+LocatedFits = CountFits
 
 pub record LocatedNumbers : Type 0 where
   pub number : ℕ
@@ -136,9 +136,9 @@ pub record LocatedNumbers : Type 0 where
   pub read : ℕ
 
 abbrev pub addresses_located_numbers : Located → LocatedNumbers
-addresses_located_numbers (Located.NotLocated why offset) =
-    record { number = refusal_number why; offset = offset; read = 0 }
-addresses_located_numbers (Located.MarksRead n) = record { number = 0; offset = 0; read = n }
+addresses_located_numbers (Err r) =
+    record { number = refusal_number r.why; offset = r.offset; read = 0 }
+addresses_located_numbers (Ok n) = record { number = 0; offset = 0; read = n }
 
 -- as `m7700_locate_addresses` takes them
 abbrev pub located_numbers : ℕ → LocatedNumbers
@@ -158,8 +158,8 @@ place_kind place = place / 2 ^ 24
 -- ---- marks built from a routine list: the number in bits 0 to 7, and nothing above it
 
 abbrev pub packed_built : TestResult → ℕ
-packed_built (TestResult.Failed why) = refusal_number why
-packed_built TestResult.Passed = 0
+packed_built (Err why) = refusal_number why
+packed_built (Ok _) = 0
 
 -- as `m7700_build_image_marks` takes it
 abbrev pub built_number : ℕ → ℕ
@@ -169,12 +169,12 @@ built_number result = result % 2 ^ 8
 -- calls in bits 40 to 63
 
 abbrev pub packed_run : RunAnswer → ℕ
-packed_run (RunAnswer.NotRun why) = refusal_number why
-packed_run (RunAnswer.Ended end steps calls) = 256 * end_number end + 65_536 * steps + 1_099_511_627_776 * calls
+packed_run (Err why) = refusal_number why
+packed_run (Ok e) = 256 * end_number e.end + 65_536 * e.steps + 1_099_511_627_776 * e.calls
 
 abbrev pub RunFits : RunAnswer → Type 0
-RunFits (RunAnswer.NotRun why) = Unit {0}
-RunFits (RunAnswer.Ended end steps calls) = (steps ≤ step_limit) × (calls ≤ step_limit)
+RunFits (Err why) = Unit {0}
+RunFits (Ok e) = (e.steps ≤ step_limit) × (e.calls ≤ step_limit)
 
 pub record RunNumbers : Type 0 where
   pub refusal : ℕ
@@ -183,9 +183,9 @@ pub record RunNumbers : Type 0 where
   pub calls : ℕ
 
 abbrev pub answer_numbers : RunAnswer → RunNumbers
-answer_numbers (RunAnswer.NotRun why) = record { refusal = refusal_number why; end = 0; steps = 0; calls = 0 }
-answer_numbers (RunAnswer.Ended end steps calls) =
-    record { refusal = 0; end = end_number end; steps = steps; calls = calls }
+answer_numbers (Err why) = record { refusal = refusal_number why; end = 0; steps = 0; calls = 0 }
+answer_numbers (Ok e) =
+    record { refusal = 0; end = end_number e.end; steps = e.steps; calls = e.calls }
 
 -- as `m7700_unpacked_run` takes them
 abbrev pub run_numbers : ℕ → RunNumbers

@@ -4,18 +4,14 @@
 
 ghost use Rattle.std.specs.Prelude.{◌≡◌};
 ghost use Rattle.types.specs.Runs.{end_number};
-ghost use Rattle.types.specs.Runs.{stop_number};
 ghost use Rattle.packing.specs.Packed.{packed_verdict, Fits, packed_read, ReadFits, packed_written, WrittenFits};
-ghost use Rattle.packing.specs.Packed.{passed_result, packed_printed, PrintedFits, packed_located, LocatedFits};
-ghost use Rattle.packing.specs.Packed.{packed_built, packed_run, RunFits};
+ghost use Rattle.packing.specs.Packed.{passed_result, packed_count, CountFits, packed_built, packed_run, RunFits};
 
-use types::lists::{ListRead, ListWritten};
+use types::lists::Header;
 use types::machine::Stop;
-use types::pages::Printed;
-use types::probes::Located;
-use types::refusals::{TestResult, refusal_number};
+use types::refusals::{Refusal, Refused};
 use types::rules::Verdict;
-use types::runs::{End, RunAnswer};
+use types::runs::Ended;
 
 // The check's answer: the number above the offset, 0 where the image is accepted.
 pub fn pack(answer: Verdict) -> u32
@@ -23,30 +19,30 @@ pub fn pack(answer: Verdict) -> u32
     ensures { result ≡ packed_verdict answer }
 {
     match answer {
-        Verdict::Accepted => 0,
-        Verdict::Refused { why, offset } => refusal_number(why) as u32 * 65_536 + offset,
+        Ok(()) => 0,
+        Err(refused) => u8::from(refused.why) as u32 * 65_536 + refused.offset,
     }
 }
 
 // The reader's answer: the refusal's number, or base and reset above a byte that is 0.
-pub fn pack_read(answer: ListRead) -> u64
+pub fn pack_read(answer: Result<Header, Refusal>) -> u64
     requires { ReadFits answer }
     ensures { result ≡ packed_read answer }
 {
     match answer {
-        ListRead::NotRead(why) => refusal_number(why) as u64,
-        ListRead::Read(h) => h.base as u64 * 256 + h.reset as u64 * 4_294_967_296,
+        Err(unread) => u8::from(unread) as u64,
+        Ok(h) => h.base as u64 * 256 + h.reset as u64 * 4_294_967_296,
     }
 }
 
 // The writer's answer: the refusal's number, or the length above a byte that is 0.
-pub fn pack_written(answer: ListWritten) -> u64
+pub fn pack_written(answer: Result<usize, Refusal>) -> u64
     requires { WrittenFits answer }
     ensures { result ≡ packed_written answer }
 {
     match answer {
-        ListWritten::NotWritten(why) => refusal_number(why) as u64,
-        ListWritten::Written(length) => length as u64 * 256,
+        Err(unwritten) => u8::from(unwritten) as u64,
+        Ok(length) => length as u64 * 256,
     }
 }
 
@@ -58,74 +54,49 @@ pub fn pass_on(refusal: u32) -> u64
     (refusal / 65_536) as u64 + (refusal % 65_536) as u64 * 256
 }
 
-// The printer's answer: the refusal's number with the offset above it, or the length above a byte that is 0.
-pub fn pack_printed(answer: Printed) -> u64
-    requires { PrintedFits answer }
-    ensures { result ≡ packed_printed answer }
+// A count, of the printer the length of the rows and of the locator the marks read: the refusal's number with the
+// offset above it, or the count above a byte that is 0.
+pub fn pack_count(answer: Result<usize, Refused>) -> u64
+    requires { CountFits answer }
+    ensures { result ≡ packed_count answer }
 {
     match answer {
-        Printed::NotPrinted { why, offset } => refusal_number(why) as u64 + offset as u64 * 256,
-        Printed::Rows(length) => length as u64 * 256,
-    }
-}
-
-// The locator's answer: the refusal's number with the offset above it, or the number of marks read above a byte that is
-// 0.
-pub fn pack_located(answer: Located) -> u64
-    requires { LocatedFits answer }
-    ensures { result ≡ packed_located answer }
-{
-    match answer {
-        Located::NotLocated { why, offset } => refusal_number(why) as u64 + offset as u64 * 256,
-        Located::MarksRead(count) => count as u64 * 256,
+        Err(refused) => u8::from(refused.why) as u64 + refused.offset as u64 * 256,
+        Ok(count) => count as u64 * 256,
     }
 }
 
 // The answer of the builder of marks: the refusal's number, or 0.
-pub fn pack_built(answer: TestResult) -> u64
+pub fn pack_built(answer: Result<(), Refusal>) -> u64
     ensures { result ≡ packed_built answer }
 {
-    match answer {
-        TestResult::Failed(why) => refusal_number(why) as u64,
-        TestResult::Passed => 0,
+    if let Err(why) = answer {
+        return u8::from(why) as u64;
     }
-}
-
-// The paper's number of a stop.
-fn stop_number(stop: Stop) -> u8
-    ensures { result ≡ stop_number stop }
-{
-    match stop {
-        Stop::Outside => 20,
-        Stop::Uncarried => 21,
-        Stop::Halt => 22,
-        Stop::Unmapped => 23,
-        Stop::Astray => 24,
-        Stop::Deep => 25,
-        Stop::ImageStore => 26,
-        Stop::Decimal => 27,
-    }
+    0
 }
 
 // The number of an end: 0, or the stop's.
-fn end_number(end: End) -> u8
+fn end_number(end: Option<Stop>) -> u8
     ensures { result ≡ end_number end }
 {
     match end {
-        End::Done => 0,
-        End::AtStop(stop) => stop_number(stop),
+        None => 0,
+        Some(stop) => u8::from(stop),
     }
 }
 
 // A run's answer: the refusal's number; or the end, the steps and the calls, each in its bits.
-pub fn pack_run(answer: RunAnswer) -> u64
+pub fn pack_run(answer: Result<Ended, Refusal>) -> u64
     requires { RunFits answer }
     ensures { result ≡ packed_run answer }
 {
     match answer {
-        RunAnswer::NotRun(why) => refusal_number(why) as u64,
-        RunAnswer::Ended { end, steps, calls } => {
-            256 * end_number(end) as u64 + 65_536 * steps as u64 + 1_099_511_627_776 * calls as u64
+        Err(why) => u8::from(why) as u64,
+        Ok(run) => {
+            256 * end_number(run.end) as u64
+                + 65_536 * run.steps as u64
+                + 1_099_511_627_776 * run.calls as u64
         }
     }
 }

@@ -1,15 +1,15 @@
 -- The answer and the page by the verdict. The rows of an accepted image have 36 bytes a start, which is what the room
 -- is tested against.
 -- Assumes nothing.
+use Rattle.std.specs.Prelude.{Ok}
 use mathlib.Core.Path.{◌≡◌, refl}
 use mathlib.Core.List.{List, ◌++◌}
 use Prim.Native.Nat.{ℕ, ◌≤◌, ◌<◌}
 use native.Mathlib.Omega.{arith}
 use borrow.Author.Tests.{le-leb, lt-leb}
 use lib.ListN.{length, drop}
-use Rattle.types.specs.declared.pages.Printed.{Printed}
+use Rattle.types.specs.Answers.{Printed, refused_at, Verdict}
 use Rattle.types.specs.declared.refusals.Refusal.{Refusal}
-use Rattle.types.specs.declared.rules.Verdict.{Verdict}
 use Rattle.acceptance.specs.Image.{start_count}
 use Rattle.acceptance.specs.Verdict.{verdict}
 use Rattle.reports.specs.PrintedPage.{page_text, printed_by, printed, page_after, page_printed}
@@ -18,7 +18,7 @@ use Rattle.reports.proofs.PageReading.{pages_tell}
 use Rattle.acceptance.proofs.Verdict.{accepts_exactly}
 use Rattle.printer.specs.Printable.{Printable}
 
-pub printable : (image marks : List ℕ) (base reset starts : ℕ) → verdict image marks base reset ≡ Verdict.Accepted
+pub printable : (image marks : List ℕ) (base reset starts : ℕ) → verdict image marks base reset ≡ Ok tt
     → starts ≡ start_count marks → Printable image marks base starts
 printable image marks base reset starts accepted counted =
     let rules = (accepts_exactly image marks base reset).0 accepted in
@@ -32,14 +32,14 @@ printable image marks base reset starts accepted counted =
 -- by the room
 module _ (text page : List ℕ) (size : ℕ) (is-size : size ≡ length text) where
   pub short_page : length page < size
-      → (Printed.NotPrinted Refusal.Page 0 ≡ printed_by Verdict.Accepted (length text) (length page))
-      × (page ≡ page_after (Printed.NotPrinted Refusal.Page 0) text page)
+      → (refused_at Refusal.Page 0 ≡ printed_by (Ok tt) (length text) (length page))
+      × (page ≡ page_after (refused_at Refusal.Page 0) text page)
   unfolding printed_by page_after
   short_page short = (rw (← is-size, lt-leb size (length page) short), refl)
 
   pub rows_printed : size ≤ length page → (now : List ℕ) → now ≡ text ++ drop (length text) page
-      → (Printed.Rows size ≡ printed_by Verdict.Accepted (length text) (length page))
-      × (now ≡ page_after (Printed.Rows size) text page)
+      → (Ok size ≡ printed_by (Ok tt) (length text) (length page))
+      × (now ≡ page_after (Ok size) text page)
   unfolding printed_by page_after
   rows_printed long now got = (rw (← is-size, le-leb size (length page) long), rw is-size got)
 
@@ -52,8 +52,8 @@ module _ (image marks : List ℕ) (base reset : ℕ) (page : List ℕ) where
   unfolding printed page_printed
   judged_page v now a is-verdict answer left = (rw is-verdict answer, rw (is-verdict, ← answer) left)
 
-  pub refused_page : (why : Refusal) (offset : ℕ) → verdict image marks base reset ≡ Verdict.Refused why offset
-      → (Printed.NotPrinted why offset ≡ printed image marks base reset page)
+  pub refused_page : (why : Refusal) (offset : ℕ) → verdict image marks base reset ≡ refused_at why offset
+      → (refused_at why offset ≡ printed image marks base reset page)
       × (page ≡ page_printed image marks base reset page)
   unfolding printed_by page_after
-  refused_page why offset e = judged_page (Verdict.Refused why offset) page (Printed.NotPrinted why offset) e refl refl
+  refused_page why offset e = judged_page (refused_at why offset) page (refused_at why offset) e refl refl

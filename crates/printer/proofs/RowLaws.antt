@@ -1,5 +1,7 @@
 -- The parts of a row, each of a size of its own, joined; the row of a place by the layout there.
 -- Assumes nothing.
+use Rattle.types.specs.declared.code.Undecoded.{Undecoded}
+use Rattle.std.specs.Prelude.{Ok, Err}
 use mathlib.Core.Path.{◌≡◌, refl, sym, ap, ◌∙◌}
 use mathlib.Core.Bool.{true, false}
 use mathlib.Core.List.{List, [], ◌∷◌, ◌++◌, append_assoc}
@@ -132,27 +134,27 @@ module _ (image marks : List ℕ) (base at : ℕ) where
       unfolding row_at
       by_layout = rw (started, is-layout, decoded_layout (drop at image) (mark_m mark) (mark_x mark))
 
-      pub whole_row : (f : Layout) → layout-here ≡ LayoutRead.Fits f
+      pub whole_row : (f : Layout) → layout-here ≡ Ok f
           → row_at image marks base at ≡ row (base + at) (take f.length (drop at image)) (unpacked f.number) mark
       unfolding row_of
       whole_row f e = rw e at by_layout
 
       -- its size, and the page where it was put
-      pub whole_size : (f : Layout) → layout-here ≡ LayoutRead.Fits f → row_size ≡ length (row_at image marks base at)
+      pub whole_size : (f : Layout) → layout-here ≡ Ok f → row_size ≡ length (row_at image marks base at)
       whole_size f e =
           rw (whole_row f e) (sym (length_row (base + at) (take f.length (drop at image)) (unpacked f.number) mark
           (word_short f.number)))
 
-      pub whole_put : (f : Layout) → layout-here ≡ LayoutRead.Fits f → (there size : ℕ) (page given : List ℕ)
+      pub whole_put : (f : Layout) → layout-here ≡ Ok f → (there size : ℕ) (page given : List ℕ)
           → there ≡ mark → size ≡ f.length
           → page ≡ row (base + at) (take size (drop at image)) (unpacked f.number) there ++ drop row_size given
           → page ≡ row_at image marks base at ++ drop row_size given
       whole_put f e there size page given e-mark e-size got = rw (whole_row f e) (rw (e-mark, e-size) at got)
 
-      pub uncarried_row : layout-here ≡ LayoutRead.Uncarried → row_at image marks base at ≡ []
+      pub uncarried_row : layout-here ≡ Err Undecoded.NotCarried → row_at image marks base at ≡ []
       unfolding row_of
       uncarried_row e = rw e at by_layout
 
-      pub short_row : layout-here ≡ LayoutRead.Short → row_at image marks base at ≡ []
+      pub short_row : layout-here ≡ Err Undecoded.CutOff → row_at image marks base at ≡ []
       unfolding row_of
       short_row e = rw e at by_layout

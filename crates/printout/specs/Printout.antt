@@ -1,8 +1,7 @@
 -- 02, R-1, of files: what the program print writes for the bytes of an image file and a list file.
 -- Assumes nothing.
-use Rattle.std.specs.Prelude.{ℕ, ◌*◌, ◌/◌, List, length}
-use Rattle.types.specs.declared.lists.ListRead.{ListRead}
-use Rattle.types.specs.declared.pages.Printed.{Printed}
+use Rattle.std.specs.Prelude.{ℕ, ◌*◌, ◌/◌, List, length, Ok, Err}
+use Rattle.types.specs.Answers.{ListRead, refused_at, Printed}
 use Rattle.lists.specs.MarkList.{is_old, address_digits, header_shown, marks_of, read_as}
 use Rattle.reports.specs.PrintedPage.{row_size, page_text, printed}
 use Rattle.answer.specs.declared.answers.FileAnswer.{FileAnswer}
@@ -16,7 +15,7 @@ files_page image text =
 -- 'From accepted image and marks, print ..'; for others the line of the program check
 unfoldable pub printout_by : FileAnswer → List ℕ → List ℕ → List ℕ
 printout_by (FileAnswer.Accepted count) image text = files_page image text
-printout_by (FileAnswer.Refused why offset) image text = answer_line image text
+printout_by (Err r) image text = answer_line image text
 printout_by FileAnswer.Unread image text = answer_line image text
 
 -- what is written for the bytes of an image file and of a list file
@@ -30,8 +29,8 @@ page_limit = row_size * (list_limit / 15)
 -- what printing by a list is answered with: the list is read for as many marks as the image has bytes, and where it is
 -- refused nothing is printed
 unfoldable pub printed_as : ListRead → List ℕ → List ℕ → List ℕ → Printed
-printed_as (ListRead.NotRead why) image text page = Printed.NotPrinted why 0
-printed_as (ListRead.Read h) image text page =
+printed_as (Err why) image text page = refused_at why 0
+printed_as (Ok h) image text page =
     printed image (marks_of (address_digits text) h text) h.base h.reset page
 
 unfoldable pub files_printed : List ℕ → List ℕ → List ℕ → Printed

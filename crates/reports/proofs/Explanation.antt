@@ -3,6 +3,8 @@
 -- start's own (a call of itself) or the target's, on which what a call requires hangs: the start is then read, and its
 -- requirement met, all the same, unless it calls the address behind it.
 -- Assumes nothing.
+use Rattle.types.specs.declared.code.Undecoded.{Undecoded}
+use Rattle.std.specs.Prelude.{Ok, Err}
 use mathlib.Core.Path.{◌≡◌, refl, ◌∙◌}
 use mathlib.Core.Logic.{◌⊎◌, inl, inr}
 use mathlib.Core.Bool.{Bool, true, false}
@@ -19,11 +21,10 @@ use Rattle.types.specs.declared.code.Flow.{Flow}
 use Rattle.types.specs.declared.code.WidthEffect.{WidthEffect}
 use Rattle.types.specs.declared.code.Entry.{Entry}
 use Rattle.types.specs.declared.code.Instruction.{Instruction}
-use Rattle.types.specs.declared.code.Decoded.{Decoded}
+use Rattle.types.specs.Answers.{Decoded, refused_at, Verdict}
 use Rattle.types.specs.declared.refusals.Refusal.{Refusal}
 use Rattle.types.specs.declared.rules.Requirement.{Requirement}
 use Rattle.types.specs.declared.rules.Requirements.{Requirements}
-use Rattle.types.specs.declared.rules.Verdict.{Verdict}
 use Rattle.types.specs.Refusals.{refusal_number}
 use Rattle.types.specs.Addresses.{address_limit}
 use Rattle.prelude.specs.Choice.{pick}
@@ -75,9 +76,9 @@ start_first address bytes e rest = (_, append_assoc (address_text address) (pair
 decoded_first : (address : ℕ) (bytes : List ℕ) (mark : ℕ) (rest : Instruction → List ℕ) (d : Decoded)
     → Begins address (start_detail address bytes mark rest d)
 unfolding start_detail code_text cut_off_text
-decoded_first address bytes mark rest Decoded.NotCarried = start_first address _ _ _
-decoded_first address bytes mark rest (Decoded.Whole i) = start_first address _ _ _
-decoded_first address bytes mark rest Decoded.CutOff = by (ltb (prefix_of bytes) (length bytes))
+decoded_first address bytes mark rest (Err Undecoded.NotCarried) = start_first address _ _ _
+decoded_first address bytes mark rest (Ok i) = start_first address _ _ _
+decoded_first address bytes mark rest (Err Undecoded.CutOff) = by (ltb (prefix_of bytes) (length bytes))
   where
     by : (b : Bool) → Begins address (pick b
         (start_text address bytes (code_entry bytes) ++ (decimal (missing bytes mark) ++ ascii " missing"))
@@ -110,7 +111,7 @@ module _ (image marks : List ℕ) (base reset : ℕ) where
   abbrev said : ℕ → Refusal → List ℕ
   said at why = detail image marks base reset at (refusal_number why)
 
-  line_said : (why : Refusal) (at : ℕ) → verdict image marks base reset ≡ Verdict.Refused why at
+  line_said : (why : Refusal) (at : ℕ) → verdict image marks base reset ≡ refused_at why at
       → explanation image marks base reset ≡ refused_line (refusal_number why) (said at why)
   unfolding explanation line_by
   line_said why at h = rw h
@@ -150,7 +151,7 @@ module _ (image marks : List ℕ) (base reset : ℕ) where
   unfolding refused_line
   heading_first number text = starts_append (heading number) (text ++ (line_end ∷ []))
 
-  shows : (why : Refusal) (at : ℕ) → verdict image marks base reset ≡ Verdict.Refused why at
+  shows : (why : Refusal) (at : ℕ) → verdict image marks base reset ≡ refused_at why at
       → ShowsVerdict image marks base reset why at
   shows why at h = record {
     number = rw (line_said why at h) (heading_first (refusal_number why) (said at why));
@@ -254,7 +255,7 @@ kept_same operand mark s f =
 -- ---- one requirement mended
 
 module _ (image marks : List ℕ) (base at : ℕ) (i : Instruction)
-    (whole : instruction_at image marks at ≡ Decoded.Whole i) (low : base + at < address_limit)
+    (whole : instruction_at image marks at ≡ Ok i) (low : base + at < address_limit)
     (start : start_at marks at ≡ true) (formed : is_formed (get_or marks at 0) ≡ true) where
   abbrev own : ℕ
   own = get_or marks at 0
@@ -427,7 +428,7 @@ module _ (image marks : List ℕ) (base reset at : ℕ) where
   line = explanation image marks base reset
 
   -- what is said of an instruction that is whole
-  whole_said : (number : ℕ) (i : Instruction) → 4 < number → instruction_at image marks at ≡ Decoded.Whole i
+  whole_said : (number : ℕ) (i : Instruction) → 4 < number → instruction_at image marks at ≡ Ok i
       → detail image marks base reset at number
       ≡ start_text (base + at) (take i.length (drop at image)) i.entry ++ whole_detail marks base at number i
   unfolding start_detail

@@ -2,6 +2,7 @@
 -- and addresses that climb lie at or behind the mark that is read next, so that none is passed over. The rest is what
 -- the tests of a call show.
 -- Assumes nothing.
+use Rattle.std.specs.Prelude.{Ok, Err}
 use mathlib.Core.Path.{◌≡◌, refl, sym, ap, ◌∙◌}
 use mathlib.Core.Logic.{◌↔◌}
 use mathlib.Core.Bool.{Bool, true, false, true≢false, ◌&&◌}
@@ -14,9 +15,7 @@ use lib.Dec.{eqb, ltb, leb}
 use lib.ListN.{length, get_or, drop, length-map, get_or-append}
 use lib.Seq.{drop-cons}
 use Rattle.types.specs.declared.refusals.Refusal.{Refusal}
-use Rattle.types.specs.declared.refusals.TestResult.{TestResult}
-use Rattle.types.specs.declared.rules.Verdict.{Verdict}
-use Rattle.types.specs.declared.probes.Located.{Located}
+use Rattle.types.specs.Answers.{TestResult, refused_at, Verdict, Located}
 use Rattle.types.specs.Refusals.{Tests, first_refusal}
 use Rattle.prelude.specs.Choice.{pick}
 use Rattle.prelude.specs.First.{first_from, last_before}
@@ -224,26 +223,26 @@ module _ (image marks : List ℕ) (base reset : ℕ) (addresses places : List �
 
   -- a call that is not refused
   pub record Done (read : ℕ) : Type 0 where
-    pub accepted : verdict image marks base reset ≡ Verdict.Accepted
+    pub accepted : verdict image marks base reset ≡ Ok tt
     pub fit : addresses_fit base (length image) addresses ≡ true
     pub room : leb (length addresses) (length places) ≡ true
     pub reads : read ≡ (pass_over image marks base addresses).read
 
-  refused_reads : (why : Refusal) (at read : ℕ) → Located.NotLocated why at ≡ Located.MarksRead read → ⊥
+  refused_reads : (why : Refusal) (at read : ℕ) → ◌≡◌ {A = Located} (refused_at why at) (Ok read) → ⊥
   refused_reads why at read e = let z : ◌≡◌ {A = ℕ} 0 1 = cc in absurd (omega arith)
 
-  same_read : (one other : ℕ) → Located.MarksRead one ≡ Located.MarksRead other → other ≡ one
+  same_read : (one other : ℕ) → ◌≡◌ {A = Located} (Ok one) (Ok other) → other ≡ one
   same_read one other e = cc
 
-  pub is_done : (read : ℕ) → located image marks base reset addresses places ≡ Located.MarksRead read → Done read
+  pub is_done : (read : ℕ) → located image marks base reset addresses places ≡ Ok read → Done read
   unfolding located located_by
   is_done read e = by (verdict image marks base reset) refl e
     where
       by : (v : Verdict) → verdict image marks base reset ≡ v
-          → located_by v (first_refusal tests) (pass_over image marks base addresses).read ≡ Located.MarksRead read
+          → located_by v (first_refusal tests) (pass_over image marks base addresses).read ≡ Ok read
           → Done read
-      by Verdict.Accepted v told =
-          let all = all_passed (first_refusal tests) (λ why. Located.NotLocated why 0)
+      by (Ok _) v told =
+          let all = all_passed (first_refusal tests) (λ why. refused_at why 0)
           (λ why f. refused_reads why 0 read f) told in
           let held = shown tests all.0 in
           record {
@@ -252,28 +251,28 @@ module _ (image marks : List ℕ) (base reset : ℕ) (addresses places : List �
             room = held.1.0;
             reads = same_read (pass_over image marks base addresses).read read all.1;
           }
-      by (Verdict.Refused why at) v told = absurd (refused_reads why at read told)
+      by (Err r) v told = absurd (refused_reads r.why r.offset read told)
 
-  pub done_is : verdict image marks base reset ≡ Verdict.Accepted → addresses_fit base (length image) addresses ≡ true
+  pub done_is : verdict image marks base reset ≡ Ok tt → addresses_fit base (length image) addresses ≡ true
       → leb (length addresses) (length places) ≡ true
       → located image marks base reset addresses places
-      ≡ Located.MarksRead (pass_over image marks base addresses).read
+      ≡ Ok (pass_over image marks base addresses).read
   unfolding located located_by
   done_is accepted fit room = rw (accepted, none_fails tests (fit, (room, tt)))
 
-  pub located_refused : (why : Refusal) (at : ℕ) → verdict image marks base reset ≡ Verdict.Refused why at
-      → located image marks base reset addresses places ≡ Located.NotLocated why at
+  pub located_refused : (why : Refusal) (at : ℕ) → verdict image marks base reset ≡ refused_at why at
+      → located image marks base reset addresses places ≡ refused_at why at
   unfolding located located_by
   located_refused why at e = rw e
 
   -- what a call leaves of the places
   pub refused_leaves : (why : Refusal) (at : ℕ)
-      → located image marks base reset addresses places ≡ Located.NotLocated why at
+      → located image marks base reset addresses places ≡ refused_at why at
       → places_located image marks base reset addresses places ≡ places
   unfolding places_located places_after
   refused_leaves why at e = rw e refl
 
-  pub done_leaves : (read : ℕ) → located image marks base reset addresses places ≡ Located.MarksRead read
+  pub done_leaves : (read : ℕ) → located image marks base reset addresses places ≡ Ok read
       → places_located image marks base reset addresses places
       ≡ map place_number (map (place_of image marks base) addresses) ++ drop (length addresses) places
   unfolding places_located places_after
@@ -286,8 +285,8 @@ module _ (image marks : List ℕ) (base reset : ℕ) (addresses places : List �
 -- ---- small numbers
 
 abbrev offset_in : Located → ℕ
-offset_in (Located.NotLocated why at) = at
-offset_in (Located.MarksRead n) = 0
+offset_in (Err r) = r.offset
+offset_in (Ok n) = 0
 
 reads_most : (image : List ℕ) (base at : ℕ) (last : Last) (marks addresses : List ℕ)
     → (pass image base at last marks addresses).read ≤ length marks
@@ -302,7 +301,7 @@ reads_most image base at last (mark ∷ marks) (a ∷ rest) =
 
 module _ (image marks : List ℕ) (base reset : ℕ) (addresses places : List ℕ) where
   -- no more marks are read than an image has
-  pub read_few : (read : ℕ) → located image marks base reset addresses places ≡ Located.MarksRead read
+  pub read_few : (read : ℕ) → located image marks base reset addresses places ≡ Ok read
       → read ≤ image_limit
   read_few read e =
       let done = is_done image marks base reset addresses places read e in
@@ -312,7 +311,7 @@ module _ (image marks : List ℕ) (base reset : ℕ) (addresses places : List �
 
   -- an offset fits 16 bits
   pub offset_small : (why : Refusal) (at : ℕ)
-      → located image marks base reset addresses places ≡ Located.NotLocated why at → at < 65_536
+      → located image marks base reset addresses places ≡ refused_at why at → at < 65_536
   unfolding located located_by
   offset_small why at e =
       by (verdict image marks base reset)
@@ -320,9 +319,9 @@ module _ (image marks : List ℕ) (base reset : ℕ) (addresses places : List �
     where
       by : (v : Verdict) (so : TestResult) → verdict image marks base reset ≡ v
           → offset_in (located_by v so (pass_over image marks base addresses).read) ≡ at → at < 65_536
-      by Verdict.Accepted TestResult.Passed v told = omega arith
-      by Verdict.Accepted (TestResult.Failed why) v told = omega arith
-      by (Verdict.Refused why place) so v told = omega (arith, refused_small image marks base reset place why v)
+      by (Ok _) (Ok _) v told = omega arith
+      by (Ok _) (Err why) v told = omega arith
+      by (Err r) so v told = omega (arith, refused_small image marks base reset r.offset r.why v)
 
 -- ---- an address of many, and by a call of its own
 
@@ -352,7 +351,7 @@ one_fits base size addresses k h inside =
 
 -- the place of an address of a call that is not refused
 pub place_at : (image marks : List ℕ) (base reset : ℕ) (addresses places : List ℕ) (read k : ℕ)
-    → located image marks base reset addresses places ≡ Located.MarksRead read → k < length addresses
+    → located image marks base reset addresses places ≡ Ok read → k < length addresses
     → get_or (places_located image marks base reset addresses places) k 0
     ≡ place_number (place_of image marks base (get_or addresses k 0))
 place_at image marks base reset addresses places read k e inside =
@@ -377,7 +376,7 @@ locates_as_alone image marks base reset addresses places read e =
           let reads : (pass_over image marks base (a ∷ [])).read ≡ a - base + 1 =
           omega (arith, (passed image marks base (a ∷ []) same fits).1) in
           let alone = done_is image marks base reset (a ∷ []) one done.accepted fits (le-leb 1 (length one) room)
-          ∙ ap Located.MarksRead reads in (
+          ∙ ap Ok reads in (
             alone,
             place_at image marks base reset (a ∷ []) one (a - base + 1) 0 alone (omega arith)
                 ∙ sym (place_at image marks base reset addresses places read k e inside),

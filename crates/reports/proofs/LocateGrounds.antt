@@ -1,6 +1,7 @@
 -- The locator refuses by the first ground that holds: each of its tests is turned into its ground, and the law of
 -- FirstGround.antt does the rest.
 -- Assumes nothing.
+use Rattle.std.specs.Prelude.{Ok}
 use mathlib.Core.Logic.{◌⊎◌, inl, inr}
 use mathlib.Core.Bool.{true≢false, ◌&&◌}
 use mathlib.Core.List.{List, [], ◌∷◌}
@@ -9,13 +10,14 @@ use Prim.Native.Nat.{ℕ, zero, suc, ◌≤◌, ◌+◌, ◌<◌}
 use native.Mathlib.Omega.{arith}
 use lib.Dec.{ltb, leb}
 use lib.ListN.{length}
-use Rattle.types.specs.declared.probes.Located.{Located}
+use Rattle.types.specs.Answers.{Located, refused_at}
 use Rattle.reports.specs.LocateGrounds.{Unordered, HoldsOutside, WrongAddresses, locate_grounds, LocateAnswers}
 use Rattle.reports.specs.Locate.{is_ascending, all_inside, address_count, addresses_fit, pass_over, locate_tests}
 use Rattle.reports.specs.Locate.{located_by, located}
 use Rattle.acceptance.proofs.Grounds.{FailsOn, either, not_below, above, of_three}
 use Rattle.acceptance.proofs.Verdict.{accepts_exactly}
 use Rattle.acceptance.proofs.FirstGround.{answers_by}
+use Rattle.types.proofs.TestResults.{same_refused}
 
 -- ---- 16
 
@@ -64,9 +66,9 @@ pub locate_answers : LocateAnswers
 unfolding located located_by
 locate_answers image marks base reset addresses places rules =
     rw ((accepts_exactly image marks base reset).1 rules)
-    (answers_by (λ why. Located.NotLocated why 0) (Located.MarksRead (pass_over image marks base addresses).read)
+    (answers_by (λ why. refused_at why 0) (Ok (pass_over image marks base addresses).read)
     (record {
-      one = λ why other e. cc;
+      one = λ why other e. (same_refused e).0;
       none = λ why e. let z : ◌≡◌ {A = ℕ} 0 1 = cc in absurd (omega arith);
     })
     (locate_grounds base (length image) addresses (length places))

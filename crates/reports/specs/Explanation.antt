@@ -2,19 +2,18 @@
 -- of the line, docs/requests/explain.md, whose words are quoted here. The values are the check's own: the verdict, the
 -- instruction at a start, what that owes.
 -- Assumes nothing.
-use Rattle.std.specs.Prelude.{◌≡◌, ℕ, zero, suc, ◌+◌, ◌-◌, ◌≤◌, ◌<◌, Bool, true, false, not, ◌&&◌, List, [], ◌∷◌, ◌++◌}
+use Rattle.types.specs.declared.code.Undecoded.{Undecoded}
+use Rattle.std.specs.Prelude.{◌≡◌, ℕ, zero, suc, ◌+◌, ◌-◌, ◌≤◌, ◌<◌, Bool, true, false, not, ◌&&◌, List, [], ◌∷◌, ◌++◌, Ok, Err}
 use Rattle.std.specs.Prelude.{eqb, ltb, leb, length, get_or, set, take, drop}
 use Prim.Native.Char.{code}
 use Prim.Native.String.{String, len, char_at}
 use Rattle.types.specs.declared.code.Flow.{Flow}
 use Rattle.types.specs.declared.code.Entry.{Entry}
 use Rattle.types.specs.declared.code.Instruction.{Instruction}
-use Rattle.types.specs.declared.code.Decoded.{Decoded}
+use Rattle.types.specs.Answers.{Decoded, refused_at, Verdict, Printed}
 use Rattle.types.specs.declared.refusals.Refusal.{Refusal}
 use Rattle.types.specs.declared.rules.Requirement.{Requirement}
 use Rattle.types.specs.declared.rules.Requirements.{Requirements}
-use Rattle.types.specs.declared.rules.Verdict.{Verdict}
-use Rattle.types.specs.declared.pages.Printed.{Printed}
 use Rattle.types.specs.Refusals.{refusal_number}
 use Rattle.prelude.specs.Choice.{pick}
 use Rattle.prelude.specs.Concat.{concat_from}
@@ -230,9 +229,9 @@ whole_detail marks base at number i =
 
 -- 5 to 10, by what is decoded at the start
 unfoldable pub start_detail : ℕ → List ℕ → ℕ → (Instruction → List ℕ) → Decoded → List ℕ
-start_detail address bytes mark rest Decoded.NotCarried = code_text address bytes
-start_detail address bytes mark rest Decoded.CutOff = cut_off_text address bytes mark
-start_detail address bytes mark rest (Decoded.Whole i) = start_text address (take i.length bytes) i.entry ++ rest i
+start_detail address bytes mark rest (Err Undecoded.NotCarried) = code_text address bytes
+start_detail address bytes mark rest (Err Undecoded.CutOff) = cut_off_text address bytes mark
+start_detail address bytes mark rest (Ok i) = start_text address (take i.length bytes) i.entry ++ rest i
 
 -- what is said of a refusal at an offset, by its number
 unfoldable pub detail : List ℕ → List ℕ → ℕ → ℕ → ℕ → ℕ → List ℕ
@@ -259,9 +258,9 @@ refused_line number said = heading number ++ (said ++ (line_end ∷ []))
 
 -- 'An accepted image gets the line `accepted`.'
 unfoldable pub line_by : Verdict → List ℕ → List ℕ → ℕ → ℕ → List ℕ
-line_by Verdict.Accepted image marks base reset = ascii "accepted" ++ (line_end ∷ [])
-line_by (Verdict.Refused why at) image marks base reset =
-    refused_line (refusal_number why) (detail image marks base reset at (refusal_number why))
+line_by (Ok _) image marks base reset = ascii "accepted" ++ (line_end ∷ [])
+line_by (Err r) image marks base reset =
+    refused_line (refusal_number r.why) (detail image marks base reset r.offset (refusal_number r.why))
 
 unfoldable pub explanation : List ℕ → List ℕ → ℕ → ℕ → List ℕ
 explanation image marks base reset = line_by (verdict image marks base reset) image marks base reset
@@ -298,7 +297,7 @@ pub record CallsNext (i : Instruction) (address : ℕ) : Type 0 where
 
 -- with other marks a start is read as it was, and a requirement of it holds
 pub record Mended (image marks : List ℕ) (base at : ℕ) (i : Instruction) (k : ℕ) : Type 0 where
-  pub whole : instruction_at image marks at ≡ Decoded.Whole i
+  pub whole : instruction_at image marks at ≡ Ok i
   pub met : Met marks base (requirement_at (owed_there marks base at i) k)
 
 module _ (image marks : List ℕ) (base reset : ℕ) where
@@ -327,13 +326,13 @@ module _ (image marks : List ℕ) (base reset : ℕ) where
 
     -- 'for 8 the named address has no marked start'
     pub record NamesNoStart : Type 0 where
-      pub whole : instruction_at image marks at ≡ Decoded.Whole i
+      pub whole : instruction_at image marks at ≡ Ok i
       pub no_start : Named (is_start_at marks base) owed k
       pub said : says Refusal.Flow (flow_text named.address (is_inside marks base named.address))
 
     -- 'for 9, with the named mark put at the named address that requirement of the start holds'
     pub record NamesMark : Type 0 where
-      pub whole : instruction_at image marks at ≡ Decoded.Whole i
+      pub whole : instruction_at image marks at ≡ Ok i
       pub start_there : is_start_at marks base named ≡ true
       pub other_mark : Named (has_mark_at marks base) owed k
       pub said : says Refusal.Widths
@@ -348,14 +347,14 @@ module _ (image marks : List ℕ) (base reset : ℕ) where
 abbrev pub ShowsVerdicts : Type 0
 ShowsVerdicts =
     (image marks : List ℕ) (base reset : ℕ) (why : Refusal) (at : ℕ)
-    → verdict image marks base reset ≡ Verdict.Refused why at → ShowsVerdict image marks base reset why at
+    → verdict image marks base reset ≡ refused_at why at → ShowsVerdict image marks base reset why at
 
 abbrev pub ExplainsFlow : Type 0
 ExplainsFlow =
-    (image marks : List ℕ) (base reset at : ℕ) → verdict image marks base reset ≡ Verdict.Refused Refusal.Flow at
+    (image marks : List ℕ) (base reset at : ℕ) → verdict image marks base reset ≡ refused_at Refusal.Flow at
     → (i : Instruction) × (k : ℕ) × NamesNoStart image marks base reset at i k
 
 abbrev pub ExplainsWidths : Type 0
 ExplainsWidths =
-    (image marks : List ℕ) (base reset at : ℕ) → verdict image marks base reset ≡ Verdict.Refused Refusal.Widths at
+    (image marks : List ℕ) (base reset at : ℕ) → verdict image marks base reset ≡ refused_at Refusal.Widths at
     → (i : Instruction) × (k : ℕ) × NamesMark image marks base reset at i k

@@ -1,12 +1,10 @@
 -- 02, R-4, 'Many addresses in one reading': where an address lies, asked alone; the one pass over the marks that places
 -- many; the answer; and what the pass has to do with asking alone.
 -- Assumes nothing.
-use Rattle.std.specs.Prelude.{◌≡◌, ◌↔◌, ℕ, zero, suc, ◌+◌, ◌-◌, ◌*◌, max, ◌≤◌, ◌<◌, Bool, true, ◌&&◌, List, [], ◌∷◌}
+use Rattle.std.specs.Prelude.{◌≡◌, ◌↔◌, ℕ, zero, suc, ◌+◌, ◌-◌, ◌*◌, max, ◌≤◌, ◌<◌, Bool, true, ◌&&◌, List, [], ◌∷◌, Ok, Err}
 use Rattle.std.specs.Prelude.{◌++◌, map, eqb, ltb, leb, length, get_or, drop}
 use Rattle.types.specs.declared.refusals.Refusal.{Refusal}
-use Rattle.types.specs.declared.refusals.TestResult.{TestResult}
-use Rattle.types.specs.declared.rules.Verdict.{Verdict}
-use Rattle.types.specs.declared.probes.Located.{Located}
+use Rattle.types.specs.Answers.{TestResult, refused_at, Verdict, Located}
 use Rattle.types.specs.Addresses.{address_limit}
 use Rattle.types.specs.Refusals.{Tests, first_refusal, answered}
 use Rattle.prelude.specs.Choice.{pick}
@@ -118,9 +116,9 @@ locate_tests base size addresses room =
 
 -- 'tested after the check's own refusals'; 'the number of marks read in it is reported'
 unfoldable pub located_by : Verdict → TestResult → ℕ → Located
-located_by (Verdict.Refused why offset) tested read = Located.NotLocated why offset
-located_by Verdict.Accepted tested read =
-    answered tested (λ why. Located.NotLocated why 0) (Located.MarksRead read)
+located_by (Err r) tested read = refused_at r.why r.offset
+located_by (Ok _) tested read =
+    answered tested (λ why. refused_at why 0) (Ok read)
 
 unfoldable pub located : List ℕ → List ℕ → ℕ → ℕ → List ℕ → List ℕ → Located
 located image marks base reset addresses places =
@@ -130,8 +128,8 @@ located image marks base reset addresses places =
 
 -- the places of the addresses stand in front, the others stay as given; 01: 'A refusal leaves every buffer .. as given'
 unfoldable pub places_after : Located → List ℕ → List ℕ → List ℕ
-places_after (Located.NotLocated why offset) found places = places
-places_after (Located.MarksRead n) found places = found ++ drop (length found) places
+places_after (Err r) found places = places
+places_after (Ok n) found places = found ++ drop (length found) places
 
 unfoldable pub places_located : List ℕ → List ℕ → ℕ → ℕ → List ℕ → List ℕ → List ℕ
 places_located image marks base reset addresses places =
@@ -159,14 +157,14 @@ module _ (image marks : List ℕ) (base reset : ℕ) where
     -- 'each address's result equals that of asking it alone', by a call of its own
     pub own_call : (k : ℕ) (one : List ℕ) → k < length addresses → 1 ≤ length one
         → (located image marks base reset (get_or addresses k 0 ∷ []) one
-        ≡ Located.MarksRead (get_or addresses k 0 - base + 1))
+        ≡ Ok (get_or addresses k 0 - base + 1))
         × (get_or (places_located image marks base reset (get_or addresses k 0 ∷ []) one) 0 0
         ≡ get_or (places_located image marks base reset addresses places) k 0)
 
 abbrev pub LocatesAsAlone : Type 0
 LocatesAsAlone =
     (image marks : List ℕ) (base reset : ℕ) (addresses places : List ℕ) (read : ℕ)
-    → located image marks base reset addresses places ≡ Located.MarksRead read
+    → located image marks base reset addresses places ≡ Ok read
     → AsAlone image marks base reset addresses places read
 
 -- an address of an accepted image lies within an instruction exactly where an instruction covers its byte

@@ -1,8 +1,8 @@
 -- 02, R-4: on which grounds a list of addresses is refused. Nothing here says how a ground is tested.
 -- Assumes nothing.
-use Rattle.std.specs.Prelude.{List, [], ◌∷◌, ◌⊎◌, ℕ, suc, ◌≤◌, ◌<◌, ◌+◌, length, get_or}
+use Rattle.std.specs.Prelude.{List, [], ◌∷◌, ◌⊎◌, ℕ, suc, ◌≤◌, ◌<◌, ◌+◌, length, get_or, Ok}
 use Rattle.types.specs.declared.refusals.Refusal.{Refusal}
-use Rattle.types.specs.declared.probes.Located.{Located}
+use Rattle.types.specs.Answers.{Located, refused_at}
 use Rattle.reports.specs.Locate.{address_count, pass_over, located}
 use Rattle.acceptance.specs.Grounds.{Grounds, AnswersBy}
 use Rattle.lists.specs.ListGrounds.{WrongPage}
@@ -35,6 +35,6 @@ locate_grounds base size addresses room =
 abbrev pub LocateAnswers : Type 0
 LocateAnswers =
     (image marks : List ℕ) (base reset : ℕ) (addresses places : List ℕ) → Accepts image marks base reset
-    → AnswersBy (locate_grounds base (length image) addresses (length places)) (λ why. Located.NotLocated why 0)
-    (Located.MarksRead (pass_over image marks base addresses).read)
+    → AnswersBy (locate_grounds base (length image) addresses (length places)) (λ why. refused_at why 0)
+    (Ok (pass_over image marks base addresses).read)
     (located image marks base reset addresses places)

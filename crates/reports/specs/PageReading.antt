@@ -1,9 +1,10 @@
 -- 02, R-1: 'Joining the byte columns of all rows restores exactly the bytes covered by instructions.' What a page tells
 -- a reader who knows its columns alone, and what an image and its marks have to be told.
 -- Assumes nothing.
-use Rattle.std.specs.Prelude.{◌≡◌, ℕ, zero, suc, ◌+◌, ◌*◌, ◌/◌, ◌<◌, Bool, true, ◌&&◌, List, [], ◌∷◌, eqb, ltb, leb}
+use Rattle.types.specs.declared.code.Undecoded.{Undecoded}
+use Rattle.std.specs.Prelude.{◌≡◌, ℕ, zero, suc, ◌+◌, ◌*◌, ◌/◌, ◌<◌, Bool, true, ◌&&◌, List, [], ◌∷◌, eqb, ltb, leb, Ok, Err}
 use Rattle.std.specs.Prelude.{length, get_or, take, drop}
-use Rattle.types.specs.declared.code.Decoded.{Decoded}
+use Rattle.types.specs.Answers.{Decoded}
 use Rattle.prelude.specs.Bytes.{AllBytes}
 use Rattle.prelude.specs.Choice.{pick}
 use Rattle.prelude.specs.Concat.{concat_from}
@@ -57,9 +58,9 @@ starts_on_page = page_shows (λ text. row_start text ∷ [])
 
 -- how many bytes an instruction has
 abbrev pub bytes_of : Decoded → ℕ
-bytes_of (Decoded.Whole i) = i.length
-bytes_of Decoded.NotCarried = 0
-bytes_of Decoded.CutOff = 0
+bytes_of (Ok i) = i.length
+bytes_of (Err Undecoded.NotCarried) = 0
+bytes_of (Err Undecoded.CutOff) = 0
 
 -- the instruction that starts at a place covers another place
 abbrev pub covers : List ℕ → List ℕ → ℕ → ℕ → Bool

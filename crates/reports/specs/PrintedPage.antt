@@ -1,11 +1,10 @@
 -- 02, R-1, 'A printed page of the image': the rows, the page and the answer.
 -- Assumes nothing.
-use Rattle.std.specs.Prelude.{ℕ, ◌+◌, List, [], ◌∷◌, ◌++◌, ltb, leb, length, get_or, take, drop}
-use Rattle.types.specs.declared.code.Decoded.{Decoded}
+use Rattle.types.specs.declared.code.Undecoded.{Undecoded}
+use Rattle.std.specs.Prelude.{ℕ, ◌+◌, List, [], ◌∷◌, ◌++◌, ltb, leb, length, get_or, take, drop, Ok, Err}
+use Rattle.types.specs.Answers.{Decoded, refused_at, Verdict, Printed}
 use Rattle.types.specs.declared.code.Entry.{Entry}
 use Rattle.types.specs.declared.refusals.Refusal.{Refusal}
-use Rattle.types.specs.declared.rules.Verdict.{Verdict}
-use Rattle.types.specs.declared.pages.Printed.{Printed}
 use Rattle.prelude.specs.Choice.{pick}
 use Rattle.prelude.specs.Concat.{concat_from}
 use Rattle.text.specs.Digits.{digit, digits}
@@ -45,9 +44,9 @@ row address bytes e mark =
 
 -- the row of what bytes begin with; in an accepted image each start has a whole instruction
 unfoldable pub row_of : ℕ → List ℕ → ℕ → Decoded → List ℕ
-row_of address bytes mark (Decoded.Whole i) = row address (take i.length bytes) i.entry mark
-row_of address bytes mark Decoded.NotCarried = []
-row_of address bytes mark Decoded.CutOff = []
+row_of address bytes mark (Ok i) = row address (take i.length bytes) i.entry mark
+row_of address bytes mark (Err Undecoded.NotCarried) = []
+row_of address bytes mark (Err Undecoded.CutOff) = []
 
 -- 'for each start'
 unfoldable pub row_at : List ℕ → List ℕ → ℕ → ℕ → List ℕ
@@ -60,12 +59,12 @@ page_text image marks base = concat_from (row_at image marks base) 0 (length mar
 
 -- a text of a size, where a page has room for it: 'a short buffer 15'
 abbrev pub by_room : ℕ → ℕ → Printed
-by_room size room = pick (leb size room) (Printed.Rows size) (Printed.NotPrinted Refusal.Page 0)
+by_room size room = pick (leb size room) (Ok size) (refused_at Refusal.Page 0)
 
 -- 'An unaccepted image gets the check's own refusal, then a short buffer 15'
 unfoldable pub printed_by : Verdict → ℕ → ℕ → Printed
-printed_by (Verdict.Refused why offset) size room = Printed.NotPrinted why offset
-printed_by Verdict.Accepted size room = by_room size room
+printed_by (Err r) size room = refused_at r.why r.offset
+printed_by (Ok _) size room = by_room size room
 
 unfoldable pub printed : List ℕ → List ℕ → ℕ → ℕ → List ℕ → Printed
 printed image marks base reset page =
@@ -73,8 +72,8 @@ printed image marks base reset page =
 
 -- 'bytes past the rows stay as given'; 01: 'A refusal leaves every buffer .. as given'
 unfoldable pub page_after : Printed → List ℕ → List ℕ → List ℕ
-page_after (Printed.NotPrinted why offset) text page = page
-page_after (Printed.Rows n) text page = text ++ drop n page
+page_after (Err r) text page = page
+page_after (Ok n) text page = text ++ drop n page
 
 unfoldable pub page_printed : List ℕ → List ℕ → ℕ → ℕ → List ℕ → List ℕ
 page_printed image marks base reset page =

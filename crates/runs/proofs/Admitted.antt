@@ -1,5 +1,6 @@
 -- What a run that is taken up may count on, and that what is left of it as bytes is the definition's.
 -- Assumes nothing.
+use Rattle.std.specs.Prelude.{Ok, Err}
 use mathlib.Core.Path.{◌≡◌, refl}
 use mathlib.Core.Bool.{Bool, true, ◌&&◌}
 use mathlib.Core.List.{List}
@@ -9,8 +10,7 @@ use lib.ListN.{length}
 use borrow.Author.Tests.{leb-true, eqb-true}
 use Rattle.types.specs.declared.machine.Core.{Core}
 use Rattle.types.specs.declared.refusals.Refusal.{Refusal}
-use Rattle.types.specs.declared.refusals.TestResult.{TestResult}
-use Rattle.types.specs.declared.runs.RunAnswer.{RunAnswer}
+use Rattle.types.specs.Answers.{TestResult, RunAnswer}
 use Rattle.types.specs.Refusals.{first_refusal}
 use Rattle.semantics.specs.Memory.{Memory}
 use Rattle.semantics.specs.Step.{call_limit}
@@ -44,12 +44,12 @@ module _ (m : Memory) (bytes : List ℕ) (asked : ℕ) (c : Core) (calls : List 
   same_fits : taken ≡ bytes_fit bytes
   same_fits = rw (← same_state) is-taken
 
-  pub run_refused : (why : Refusal) → a ≡ TestResult.Failed why
-      → ran_bytes m bytes asked ≡ record { answer = RunAnswer.NotRun why; state = bytes; ram = m.ram }
+  pub run_refused : (why : Refusal) → a ≡ Err why
+      → ran_bytes m bytes asked ≡ record { answer = Err why; state = bytes; ram = m.ram }
   unfolding ran_bytes
   run_refused why e = rw (← same_fits, ← is-admission, e) refl
 
-  pub run_taken : a ≡ TestResult.Passed → (r : Ran) → r ≡ executed m (state c calls) asked
+  pub run_taken : a ≡ Ok tt → (r : Ran) → r ≡ executed m (state c calls) asked
       → ran_bytes m bytes asked ≡ as_bytes r
   unfolding ran_bytes
   run_taken e r is-run = rw (← same_fits, ← is-admission, e, is-run, same_state) refl

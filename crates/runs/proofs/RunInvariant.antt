@@ -1,16 +1,17 @@
 -- A run is what is left of it at each step: a step that completes is one less to do, a step that stops ends it and
 -- leaves registers, open calls and RAM as they were.
 -- Assumes nothing.
+use Rattle.types.specs.declared.machine.Completion.{Completion}
+use Rattle.std.specs.Prelude.{Ok, Err, None}
 use mathlib.Core.Path.{◌≡◌, refl, sym, ap, ap₂, ◌∙◌}
 use mathlib.Core.Bool.{Bool, true, false}
 use mathlib.Core.List.{List}
 use Prim.Native.Nat.{ℕ, suc, ◌+◌, ◌-◌, ◌/◌, ◌%◌, ◌≤◌, ◌<◌}
 use native.Mathlib.Omega.{arith}
 use lib.ListN.{length}
-use Rattle.types.specs.declared.machine.StepAnswer.{StepAnswer}
+use Rattle.types.specs.Answers.{StepAnswer, End}
 use Rattle.types.specs.declared.machine.Core.{Core}
 use Rattle.types.specs.declared.machine.State.{State}
-use Rattle.types.specs.declared.runs.End.{End}
 use Rattle.types.specs.Addresses.{bank_size}
 use Rattle.semantics.specs.Memory.{Memory, memory}
 use Rattle.prelude.specs.Choice.{bit}
@@ -35,10 +36,10 @@ made_of given place file e e' e'' =
 module _ (m : Memory) (s : State) where
   -- the run ends so
   stop_ends : (n steps made : ℕ) → (a : StepAnswer) → (step m s).answer ≡ a → is_completed a ≡ false
-      → further steps made (executed m s (suc n)) ≡ ended (end_after a End.Done) steps made s m.ram
-  stop_ends n steps made StepAnswer.Completed e h = absurd (completed_stops h)
-  stop_ends n steps made StepAnswer.Called e h = absurd (completed_stops h)
-  stop_ends n steps made (StepAnswer.Stopped stop) e h = run_stops m s n steps made stop e
+      → further steps made (executed m s (suc n)) ≡ ended (end_after a None) steps made s m.ram
+  stop_ends n steps made (Ok Completion.Ordinary) e h = absurd (completed_stops h)
+  stop_ends n steps made (Ok Completion.Call) e h = absurd (completed_stops h)
+  stop_ends n steps made (Err stop) e h = run_stops m s n steps made stop e
 
 module _ (image : List ℕ) (base : ℕ) (calls₀ ram₀ : List ℕ) (given : Core) (asked : ℕ) where
   abbrev whole : Ran
@@ -81,7 +82,7 @@ module _ (image : List ℕ) (base : ℕ) (calls₀ ram₀ : List ℕ) (given : C
     s = state (core_at place depth file) calls
 
     pub ends : asked ≤ steps → (core : Core) → core ≡ core_at place depth file
-        → left_by (record { end = End.Done; steps = steps; calls = made; core = core }) calls ram ≡ whole
+        → left_by (record { end = None; steps = steps; calls = made; core = core }) calls ram ≡ whole
     ends h core e =
         let none : asked - steps ≡ 0 = omega arith in
         let last = rw none at g.goes in
@@ -114,7 +115,7 @@ module _ (image : List ℕ) (base : ℕ) (calls₀ ram₀ : List ℕ) (given : C
           by false = omega (arith, g.counted)
 
       pub stops_so : is_completed step_result.answer ≡ false → (end : End)
-          → end ≡ end_after step_result.answer End.Done
+          → end ≡ end_after step_result.answer None
           → (core : Core) → core ≡ core_at step_result.place step_result.depth file'
           → left_by (record { end = end; steps = steps; calls = made; core = core }) calls' ram' ≡ whole
       stops_so c end e core e' =

@@ -2,10 +2,10 @@
 -- Assumes nothing.
 use Rattle.std.specs.Prelude.{ℕ, List}
 use Rattle.runs.specs.declared.steps.RunResult.{RunResult}
-use Rattle.types.specs.declared.runs.RunAnswer.{RunAnswer}
+use Rattle.types.specs.Answers.{RunAnswer, ended_by}
 use Rattle.execution.specs.Run.{Ran}
 use Rattle.machine.specs.StepResults.{state}
 
 abbrev pub left_by : RunResult → List ℕ → List ℕ → Ran
 left_by t calls ram =
-    record { answer = RunAnswer.Ended t.end t.steps t.calls; state = state t.core calls; ram = ram }
+    record { answer = ended_by t.end t.steps t.calls; state = state t.core calls; ram = ram }

@@ -1,6 +1,7 @@
 -- An operation keeps every register within its width and stores bytes: what it puts into a register is cut to a width,
 -- is another register, or is data, and data that is read from bytes has two at most.
 -- Assumes nothing.
+use Rattle.std.specs.Prelude.{Some, None, Option}
 use mathlib.Core.Bool.{Bool, true, false}
 use mathlib.Core.List.{List}
 use Prim.Native.Nat.{ℕ, ◌+◌, ◌-◌, ◌<◌}
@@ -20,7 +21,6 @@ use Rattle.types.specs.declared.machine.Status.{Status}
 use Rattle.types.specs.declared.machine.Data.{Data}
 use Rattle.types.specs.declared.machine.OperandUse.{OperandUse}
 use Rattle.types.specs.declared.machine.OperandPlace.{OperandPlace}
-use Rattle.types.specs.declared.machine.ByteRead.{ByteRead}
 use Rattle.types.specs.declared.machine.Store.{Store}
 use Rattle.prelude.specs.Choice.{pick}
 use Rattle.prelude.specs.Bytes.{AllBytes}
@@ -51,9 +51,9 @@ abbrev pub Comes : {A : Type 0} → (A → Type 0) → Outcome A → Type 0
 Comes P (done v) = P v
 Comes P unmapped = Unit {0}
 
-abbrev ByteOnly : ByteRead → Type 0
-ByteOnly (ByteRead.Byte b) = b < 256
-ByteOnly ByteRead.Unmapped = Unit {0}
+abbrev ByteOnly : Option ℕ → Type 0
+ByteOnly (Some b) = b < 256
+ByteOnly None = Unit {0}
 
 module _ (m : Memory) (ram_bytes : AllBytes m.ram) (in_image : AllBytes m.image) where
   byte_read : (at : ℕ) → ByteOnly (byte_at m at)
@@ -61,8 +61,8 @@ module _ (m : Memory) (ram_bytes : AllBytes m.ram) (in_image : AllBytes m.image)
   byte_read at = by (in_ram m at) (is_in_image m at)
     where
       by : (b c : Bool)
-          → ByteOnly (pick b (ByteRead.Byte (get_or m.ram at 0))
-          (pick c (ByteRead.Byte (get_or m.image (at - m.base) 0)) ByteRead.Unmapped))
+          → ByteOnly (pick b (Some (get_or m.ram at 0))
+          (pick c (Some (get_or m.image (at - m.base) 0)) None))
       by true c = ram_bytes at
       by false true = in_image (at - m.base)
       by false false = tt
@@ -71,10 +71,10 @@ module _ (m : Memory) (ram_bytes : AllBytes m.ram) (in_image : AllBytes m.image)
   comes P (ret v) y = y
   comes P (load at more) y = by (byte_at m at) (byte_read at) (λ b small. comes P (more b) (y b small))
     where
-      by : (b : ByteRead) → ByteOnly b → ((byte : ℕ) → byte < 256 → Comes P (evaluate m (more byte)))
+      by : (b : Option ℕ) → ByteOnly b → ((byte : ℕ) → byte < 256 → Comes P (evaluate m (more byte)))
           → Comes P (on_byte b (λ byte. evaluate m (more byte)))
-      by (ByteRead.Byte b) small on = on b small
-      by ByteRead.Unmapped small on = tt
+      by (Some b) small on = on b small
+      by None small on = tt
 
 abbrev pub SmallData : Data → Type 0
 SmallData d = d.value < 65_536

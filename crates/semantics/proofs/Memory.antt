@@ -1,6 +1,7 @@
 -- The byte at an address and whether a store there is served, by the parts of memory; and what an action comes to that
 -- is made of two.
 -- Assumes nothing.
+use Rattle.std.specs.Prelude.{Ok, Err, Some, None, Option}
 use mathlib.Core.Path.{◌≡◌, refl, ap}
 use mathlib.Core.Bool.{◌&&◌}
 use mathlib.Core.List.{List, [], ◌∷◌}
@@ -9,9 +10,8 @@ use native.Mathlib.Nat.{not-suc-le-zero, le_of_suc-le-suc}
 use lib.Dec.{ltb, leb}
 use lib.ListN.{length, get_or, set}
 use borrow.Author.Tests.{lt-ltb, le-ltb, le-leb, lt-leb}
-use Rattle.types.specs.declared.machine.ByteRead.{ByteRead}
 use Rattle.types.specs.declared.machine.Stop.{Stop}
-use Rattle.types.specs.declared.machine.Served.{Served}
+use Rattle.types.specs.Answers.{Served}
 use Rattle.prelude.specs.Choice.{pick}
 use Rattle.semantics.specs.Memory.{Memory, memory, byte_at, served_at, Act, ret, load, ◌>>=◌, Outcome, done}
 use Rattle.semantics.specs.Memory.{unmapped, on_byte, evaluate, and_then}
@@ -40,39 +40,39 @@ module _ (ram image : List ℕ) (base address : ℕ) where
   abbrev m : Memory
   m = memory ram image base
 
-  pub byte_in_ram : address < length ram → byte_at m address ≡ ByteRead.Byte (get_or ram address 0)
+  pub byte_in_ram : address < length ram → byte_at m address ≡ Some (get_or ram address 0)
   unfolding byte_at
   byte_in_ram = ram_bytes _ _ _
 
-  pub byte_under_image : length ram ≤ address → address < base → byte_at m address ≡ ByteRead.Unmapped
+  pub byte_under_image : length ram ≤ address → address < base → byte_at m address ≡ None
   unfolding byte_at
   byte_under_image = under_image _ _ _
 
   pub byte_in_image : length ram ≤ address → base ≤ address → address - base < length image
-      → byte_at m address ≡ ByteRead.Byte (get_or image (address - base) 0)
+      → byte_at m address ≡ Some (get_or image (address - base) 0)
   unfolding byte_at
   byte_in_image = in_image _ _ _
 
   pub byte_past_image : length ram ≤ address → base ≤ address → length image ≤ address - base
-      → byte_at m address ≡ ByteRead.Unmapped
+      → byte_at m address ≡ None
   unfolding byte_at
   byte_past_image = past_image _ _ _
 
-  pub served_in_ram : address < length ram → served_at m address ≡ Served.All
+  pub served_in_ram : address < length ram → served_at m address ≡ Ok tt
   unfolding served_at
   served_in_ram = ram_bytes _ _ _
 
-  pub served_under_image : length ram ≤ address → address < base → served_at m address ≡ Served.Unserved Stop.Unmapped
+  pub served_under_image : length ram ≤ address → address < base → served_at m address ≡ Err Stop.Unmapped
   unfolding served_at
   served_under_image = under_image _ _ _
 
   pub served_in_image : length ram ≤ address → base ≤ address → address - base < length image
-      → served_at m address ≡ Served.Unserved Stop.ImageStore
+      → served_at m address ≡ Err Stop.ImageStore
   unfolding served_at
   served_in_image = in_image _ _ _
 
   pub served_past_image : length ram ≤ address → base ≤ address → length image ≤ address - base
-      → served_at m address ≡ Served.Unserved Stop.Unmapped
+      → served_at m address ≡ Err Stop.Unmapped
   unfolding served_at
   served_past_image = past_image _ _ _
 
@@ -87,16 +87,16 @@ pub evaluate_bind : {A B : Type 0} (m : Memory) (a : Act A) (f : A → Act B)
 evaluate_bind m (ret v) f = refl
 evaluate_bind {A} {B} m (load at more) f = by (byte_at m at) (λ byte. evaluate_bind m (more byte) f)
   where
-    by : (b : ByteRead)
+    by : (b : Option ℕ)
         → ((byte : ℕ) → evaluate m (more byte >>= f) ≡ on_done (evaluate m (more byte)) (λ v. evaluate m (f v)))
         → on_byte b (λ byte. evaluate m (more byte >>= f))
         ≡ on_done (on_byte b (λ byte. evaluate m (more byte))) (λ v. evaluate m (f v))
-    by (ByteRead.Byte byte) step = step byte
-    by ByteRead.Unmapped step = refl
+    by (Some byte) step = step byte
+    by None step = refl
 
-pub and_then_all : (s : Served) → and_then s Served.All ≡ s
-and_then_all Served.All = refl
-and_then_all (Served.Unserved stop) = refl
+pub and_then_all : (s : Served) → and_then s (Ok tt) ≡ s
+and_then_all (Ok _) = refl
+and_then_all (Err stop) = refl
 
 -- a store past the end changes nothing
 pub set_past : (l : List ℕ) (i v : ℕ) → length l ≤ i → set l i v ≡ l

@@ -1,5 +1,6 @@
 -- SEP and CLP as steps: both numbers as stacks of bits, joined bit by bit.
 -- Assumes nothing.
+use Rattle.std.specs.Prelude.{Ok}
 use mathlib.Core.Path.{◌≡◌, refl, sym, ap, ap₂, ◌∙◌}
 use mathlib.Core.Bool.{Bool, true, false, not, ◌&&◌, ◌||◌}
 use mathlib.Core.List.{List, [], ◌∷◌}
@@ -11,7 +12,7 @@ use lib.Dec.{eqb, T}
 use lib.ListN.{length, get_or}
 use Rattle.types.specs.declared.code.Operation.{Operation}
 use Rattle.types.specs.declared.code.Instruction.{Instruction}
-use Rattle.types.specs.declared.code.Decoded.{Decoded}
+use Rattle.types.specs.Answers.{Decoded}
 use Rattle.types.specs.declared.machine.Status.{Status}
 use Rattle.types.specs.declared.machine.State.{State}
 use Rattle.types.specs.declared.machine.OperandPlace.{OperandPlace}
@@ -184,7 +185,7 @@ by_entry i page code operation same is one =
       behind = rw same (data_behind page code operation is' one);
     }
 
-by_code : (m : Memory) (s : State) (i : Instruction) (operation : Operation) → fetched m s.core ≡ Decoded.Whole i
+by_code : (m : Memory) (s : State) (i : Instruction) (operation : Operation) → fetched m s.core ≡ Ok i
     → i.entry.operation ≡ operation → is_in (Operation.SEP ∷ Operation.CLP ∷ []) operation ≡ true → By i operation
 by_code m s i operation fetches is one =
     let bytes = bytes_from m (place_of s.core) (length m.image) in

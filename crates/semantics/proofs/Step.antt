@@ -2,6 +2,8 @@
 -- the 24-bit addresses, so that they wrap only behind its last byte, where no image byte lies. And the order of a
 -- step's stops.
 -- Assumes nothing.
+use Rattle.types.specs.declared.code.Undecoded.{Undecoded}
+use Rattle.std.specs.Prelude.{Ok, Err}
 use mathlib.Core.Path.{◌≡◌, refl, sym, ap, ap₂, ◌∙◌}
 use mathlib.Core.Logic.{◌⊎◌, inl, inr}
 use mathlib.Core.Bool.{Bool, true, false}
@@ -16,13 +18,12 @@ use borrow.Author.Tests.{lt-ltb, le-ltb, le-leb, lt-leb, ltb-true, ltb-false}
 use Rattle.types.specs.declared.code.Kind.{Kind}
 use Rattle.types.specs.declared.code.Flow.{Flow}
 use Rattle.types.specs.declared.code.Instruction.{Instruction}
-use Rattle.types.specs.declared.code.Decoded.{Decoded}
+use Rattle.types.specs.Answers.{Decoded, Served}
 use Rattle.types.specs.declared.machine.Registers.{Registers}
 use Rattle.types.specs.declared.machine.Core.{Core}
 use Rattle.types.specs.declared.machine.State.{State}
 use Rattle.types.specs.declared.machine.Store.{Store}
 use Rattle.types.specs.declared.machine.Stop.{Stop}
-use Rattle.types.specs.declared.machine.Served.{Served}
 use Rattle.types.specs.declared.machine.CallChange.{CallChange}
 use Rattle.types.specs.declared.machine.Data.{Data}
 use Rattle.prelude.specs.Choice.{pick, bit}
@@ -112,7 +113,7 @@ module _ (m : Memory) where
 
 -- what is fetched under the image, and from the base on
 module _ (ram image : List ℕ) (base : ℕ) (c : Core) (place : ℕ) (there : place ≡ place_of c) where
-  pub fetched_under : place < base → Decoded.CutOff ≡ fetched (memory ram image base) c
+  pub fetched_under : place < base → Err Undecoded.CutOff ≡ fetched (memory ram image base) c
   fetched_under h =
       rw (← there, none_outside (memory ram image base) place (length image) (rw (lt-leb base place h) refl))
       (decode_nothing [] _ _ refl)
@@ -126,18 +127,18 @@ module _ (ram image : List ℕ) (base : ℕ) (c : Core) (place : ℕ) (there : p
 -- ---- the order of stops, as laws of the definition
 
 -- 20, then 21, before all else: what is fetched decides
-pub cut_off_first : (m : Memory) (s : State) → fetched m s.core ≡ Decoded.CutOff
+pub cut_off_first : (m : Memory) (s : State) → fetched m s.core ≡ Err Undecoded.CutOff
     → step m s ≡ stopped Stop.Outside m s
 unfolding step_within
 cut_off_first m s h = rw h refl
 
-pub uncarried_first : (m : Memory) (s : State) → fetched m s.core ≡ Decoded.NotCarried
+pub uncarried_first : (m : Memory) (s : State) → fetched m s.core ≡ Err Undecoded.NotCarried
     → step m s ≡ stopped Stop.Uncarried m s
 unfolding step_within
 uncarried_first m s h = rw h refl
 
 -- then 22, of STP and WIT alone
-pub halt_first : (m : Memory) (s : State) (i : Instruction) → fetched m s.core ≡ Decoded.Whole i
+pub halt_first : (m : Memory) (s : State) (i : Instruction) → fetched m s.core ≡ Ok i
     → i.entry.flow ≡ Flow.Halt → step m s ≡ stopped Stop.Halt m s
 unfolding step_within plan_by_within
 halt_first m s i h flow = rw (h, flow) refl
@@ -162,8 +163,8 @@ deep_first m c i open-call kind h = rw h refl
 
 -- the first store that can't be served decides
 pub first_unserved : (m : Memory) (a : Store) (rest : List Store) (stop : Stop)
-    → served_at m a.address ≡ Served.Unserved stop
-    → served m (a ∷ rest) ≡ Served.Unserved stop
+    → served_at m a.address ≡ Err stop
+    → served m (a ∷ rest) ≡ Err stop
 first_unserved m a rest stop h = rw h refl
 
 -- a word goes low byte first, a push high byte first
@@ -246,8 +247,8 @@ depth_kept {limit} m s h = by (fetched m s.core)
   where
     serves_so : (i : Instruction) (d : Change) (v : Served) → Opens limit d.calls s.core.depth
         → (on_served v i d m s).state.core.depth ≤ limit
-    serves_so i d Served.All o = depth_after_lem limit d.calls s.core.depth o h
-    serves_so i d (Served.Unserved stop) o = h
+    serves_so i d (Ok _) o = depth_after_lem limit d.calls s.core.depth o h
+    serves_so i d (Err stop) o = h
 
     plans_so : (i : Instruction) (p : Plan) → PlanOpens limit p s.core.depth
         → (finish p i m s).state.core.depth ≤ limit
@@ -255,9 +256,9 @@ depth_kept {limit} m s h = by (fetched m s.core)
     plans_so i (changes d) o = serves_so i d (served m d.stores) o
 
     by : (d : Decoded) → (on_decoded_within limit d m s).state.core.depth ≤ limit
-    by Decoded.CutOff = h
-    by Decoded.NotCarried = h
-    by (Decoded.Whole i) =
+    by (Err Undecoded.CutOff) = h
+    by (Err Undecoded.NotCarried) = h
+    by (Ok i) =
         plans_so i (plan_within limit m s i) (opens_below limit s.core i m (last_opened s) i.entry.flow)
 
 -- a stop leaves state and RAM as given
@@ -280,8 +281,8 @@ module _ (m : Memory) (s : State) where
     where
       served_so : (i : Instruction) (d : Change) (v : Served) → is_completed (on_served v i d m s).answer ≡ false
           → ((on_served v i d m s).state ≡ s) × ((on_served v i d m s).ram ≡ m.ram)
-      served_so i d Served.All e = absurd (completed_stops (sym (changes_complete d.calls) ∙ e))
-      served_so i d (Served.Unserved stop) e = (refl, refl)
+      served_so i d (Ok _) e = absurd (completed_stops (sym (changes_complete d.calls) ∙ e))
+      served_so i d (Err stop) e = (refl, refl)
 
       planned_so : (i : Instruction) (p : Plan) → is_completed (finish p i m s).answer ≡ false
           → ((finish p i m s).state ≡ s) × ((finish p i m s).ram ≡ m.ram)
@@ -290,6 +291,6 @@ module _ (m : Memory) (s : State) where
 
       by : (d : Decoded) → is_completed (on_decoded d m s).answer ≡ false
           → ((on_decoded d m s).state ≡ s) × ((on_decoded d m s).ram ≡ m.ram)
-      by Decoded.CutOff e = (refl, refl)
-      by Decoded.NotCarried e = (refl, refl)
-      by (Decoded.Whole i) e = planned_so i (plan m s i) e
+      by (Err Undecoded.CutOff) e = (refl, refl)
+      by (Err Undecoded.NotCarried) e = (refl, refl)
+      by (Ok i) e = planned_so i (plan m s i) e

@@ -2,11 +2,10 @@
 -- Nothing else is mapped.' What a step reads is an action, which names its addresses in their order; what it stores is
 -- a list.
 -- Assumes nothing.
-use Rattle.std.specs.Prelude.{ℕ, ◌+◌, ◌-◌, ◌*◌, Bool, true, false, ◌&&◌, List, [], ◌∷◌, ltb, leb, length, get_or, set}
-use Rattle.types.specs.declared.machine.ByteRead.{ByteRead}
+use Rattle.std.specs.Prelude.{ℕ, ◌+◌, ◌-◌, ◌*◌, Bool, true, false, ◌&&◌, List, [], ◌∷◌, ltb, leb, length, get_or, set, Ok, Err, Some, None, Option}
 use Rattle.types.specs.declared.machine.Store.{Store}
 use Rattle.types.specs.declared.machine.Stop.{Stop}
-use Rattle.types.specs.declared.machine.Served.{Served}
+use Rattle.types.specs.Answers.{Served}
 use Rattle.prelude.specs.Choice.{pick}
 use Rattle.types.specs.Addresses.{bank_size}
 
@@ -25,11 +24,11 @@ abbrev pub is_in_image : Memory → ℕ → Bool
 is_in_image m address = leb m.base address && ltb (address - m.base) (length m.image)
 
 -- the byte at an address
-unfoldable pub byte_at : Memory → ℕ → ByteRead
+unfoldable pub byte_at : Memory → ℕ → Option ℕ
 byte_at m address =
-    pick (in_ram m address) (ByteRead.Byte (get_or m.ram address 0))
-    (pick (is_in_image m address) (ByteRead.Byte (get_or m.image (address - m.base) 0))
-    ByteRead.Unmapped)
+    pick (in_ram m address) (Some (get_or m.ram address 0))
+    (pick (is_in_image m address) (Some (get_or m.image (address - m.base) 0))
+    None)
 
 -- An action that reads bytes one after another and comes to a value: each further read may hang on the bytes before it.
 pub data Act (A : Type 0) : Type 0 where
@@ -46,9 +45,9 @@ pub data Outcome (A : Type 0) : Type 0 where
   done : A → Outcome A
   unmapped : Outcome A
 
-abbrev pub on_byte : {A : Type 0} → ByteRead → (ℕ → Outcome A) → Outcome A
-on_byte (ByteRead.Byte b) more = more b
-on_byte ByteRead.Unmapped more = unmapped
+abbrev pub on_byte : {A : Type 0} → Option ℕ → (ℕ → Outcome A) → Outcome A
+on_byte (Some b) more = more b
+on_byte None more = unmapped
 
 -- what an action comes to
 abbrev pub evaluate : {A : Type 0} → Memory → Act A → Outcome A
@@ -89,15 +88,15 @@ read_data short at = data_from short at (at + 1)
 -- 23 and 26 of a store; 'a word low byte first, a push as pushed; the first that cannot be served decides'
 unfoldable pub served_at : Memory → ℕ → Served
 served_at m address =
-    pick (in_ram m address) Served.All
-    (pick (is_in_image m address) (Served.Unserved Stop.ImageStore) (Served.Unserved Stop.Unmapped))
+    pick (in_ram m address) (Ok tt)
+    (pick (is_in_image m address) (Err Stop.ImageStore) (Err Stop.Unmapped))
 
 abbrev pub and_then : Served → Served → Served
-and_then Served.All more = more
-and_then (Served.Unserved stop) more = Served.Unserved stop
+and_then (Ok _) more = more
+and_then (Err stop) more = Err stop
 
 abbrev pub served : Memory → List Store → Served
-served m [] = Served.All
+served m [] = Ok tt
 served m (s ∷ rest) = and_then (served_at m s.address) (served m rest)
 
 -- RAM with the bytes stored

@@ -2,12 +2,14 @@
 -- 26. .. A stop undoes its whole step.' A step is defined within any limit of open calls (`.._within limit`); at the end
 -- stands the machine's own, within `call_limit`.
 -- Assumes nothing.
-use Rattle.std.specs.Prelude.{Bool, false, ◌&&◌, true, List, [], ◌∷◌, ℕ, zero, suc, ◌+◌, ◌-◌, ◌*◌, ◌/◌, ◌%◌, eqb, ltb}
+use Rattle.types.specs.declared.machine.Completion.{Completion}
+use Rattle.types.specs.declared.code.Undecoded.{Undecoded}
+use Rattle.std.specs.Prelude.{Bool, false, ◌&&◌, true, List, [], ◌∷◌, ℕ, zero, suc, ◌+◌, ◌-◌, ◌*◌, ◌/◌, ◌%◌, eqb, ltb, Ok, Err}
 use Rattle.std.specs.Prelude.{length, get_or, set}
 use Rattle.types.specs.declared.code.Kind.{Kind}
 use Rattle.types.specs.declared.code.Flow.{Flow}
 use Rattle.types.specs.declared.code.Instruction.{Instruction}
-use Rattle.types.specs.declared.code.Decoded.{Decoded}
+use Rattle.types.specs.Answers.{Decoded, Served, StepAnswer}
 use Rattle.types.specs.declared.machine.Registers.{Registers}
 use Rattle.types.specs.declared.machine.Core.{Core}
 use Rattle.types.specs.declared.machine.State.{State}
@@ -15,9 +17,7 @@ use Rattle.types.specs.declared.machine.Stop.{Stop}
 use Rattle.types.specs.declared.machine.OperandUse.{OperandUse}
 use Rattle.types.specs.declared.machine.Data.{Data}
 use Rattle.types.specs.declared.machine.Store.{Store}
-use Rattle.types.specs.declared.machine.Served.{Served}
 use Rattle.types.specs.declared.machine.CallChange.{CallChange}
-use Rattle.types.specs.declared.machine.StepAnswer.{StepAnswer}
 use Rattle.prelude.specs.Choice.{pick, bit}
 use Rattle.types.specs.Addresses.{bank_size}
 use Rattle.instructions.specs.Decode.{decode}
@@ -187,7 +187,7 @@ stepped answer s ram = record { answer = answer; state = s; ram = ram }
 
 -- 'A stop undoes its whole step.'
 abbrev pub stopped : Stop → Memory → State → Stepped
-stopped stop m s = stepped (StepAnswer.Stopped stop) s m.ram
+stopped stop m s = stepped (Err stop) s m.ram
 
 -- the open calls after a step: a record changes only when a call is opened in it
 abbrev pub depth_after : CallChange → ℕ → ℕ
@@ -201,9 +201,9 @@ calls_after (CallChange.Open address kind) depth calls = set calls depth (call_r
 calls_after CallChange.Close depth calls = calls
 
 abbrev pub answer_of : CallChange → StepAnswer
-answer_of CallChange.Keep = StepAnswer.Completed
-answer_of (CallChange.Open address kind) = StepAnswer.Called
-answer_of CallChange.Close = StepAnswer.Completed
+answer_of CallChange.Keep = Ok Completion.Ordinary
+answer_of (CallChange.Open address kind) = Ok Completion.Call
+answer_of CallChange.Close = Ok Completion.Ordinary
 
 -- the widths after an instruction, whatever its operation left in the status
 abbrev pub widths_after : Instruction → Registers → Registers → Registers
@@ -232,17 +232,17 @@ state_after i s d = record {
 
 -- 23 and 26 of the stores, then all of them
 abbrev pub on_served : Served → Instruction → Change → Memory → State → Stepped
-on_served Served.All i d m s = stepped (answer_of d.calls) (state_after i s d) (stored d.stores m.ram)
-on_served (Served.Unserved stop) i d m s = stopped stop m s
+on_served (Ok _) i d m s = stepped (answer_of d.calls) (state_after i s d) (stored d.stores m.ram)
+on_served (Err stop) i d m s = stopped stop m s
 
 abbrev pub finish : Plan → Instruction → Memory → State → Stepped
 finish (stops stop) i m s = stopped stop m s
 finish (changes d) i m s = on_served (served m d.stores) i d m s
 
 abbrev pub on_decoded_within : ℕ → Decoded → Memory → State → Stepped
-on_decoded_within limit Decoded.CutOff m s = stopped Stop.Outside m s
-on_decoded_within limit Decoded.NotCarried m s = stopped Stop.Uncarried m s
-on_decoded_within limit (Decoded.Whole i) m s = finish (plan_within limit m s i) i m s
+on_decoded_within limit (Err Undecoded.CutOff) m s = stopped Stop.Outside m s
+on_decoded_within limit (Err Undecoded.NotCarried) m s = stopped Stop.Uncarried m s
+on_decoded_within limit (Ok i) m s = finish (plan_within limit m s i) i m s
 
 -- the step of a state
 unfoldable pub step_within : ℕ → Memory → State → Stepped
@@ -267,12 +267,12 @@ step m s = step_within call_limit m s
 
 -- 'A step is completed when it meets no stop'
 abbrev pub is_completed : StepAnswer → Bool
-is_completed StepAnswer.Completed = true
-is_completed StepAnswer.Called = true
-is_completed (StepAnswer.Stopped stop) = false
+is_completed (Ok Completion.Ordinary) = true
+is_completed (Ok Completion.Call) = true
+is_completed (Err stop) = false
 
 -- 'completed steps whose code is a JSR, long or not'
 abbrev pub is_call : StepAnswer → Bool
-is_call StepAnswer.Completed = false
-is_call StepAnswer.Called = true
-is_call (StepAnswer.Stopped stop) = false
+is_call (Ok Completion.Ordinary) = false
+is_call (Ok Completion.Call) = true
+is_call (Err stop) = false

@@ -9,7 +9,7 @@ ghost use Rattle.types.specs.Addresses.{address_limit, bank_size};
 ghost use Rattle.instructions.specs.Successors as successors;
 
 use types::addresses::{ADDRESS_LIMIT, in_bank_of, low_long, low_word};
-use types::code::{Kind, Target};
+use types::code::Target;
 
 // The address after n bytes more.
 pub fn next_address(address: u32, n: u8) -> u32
@@ -63,15 +63,5 @@ pub fn target_of(target: Target, address: u32, n: u8, operand: u64) -> u32
         Target::Offset16 => offset_by(32_768, next_address(address, n), low_word(operand)),
         Target::Address16 => in_bank_after(address, n, low_word(operand)),
         Target::Address24 => low_long(operand),
-    }
-}
-
-// The kind as a mark has it.
-pub fn kind_number(kind: Kind) -> u8
-    ensures { result ≡ successors.kind_number kind }
-{
-    match kind {
-        Kind::ByRts => 1,
-        Kind::ByRtl => 2,
     }
 }

@@ -1,9 +1,9 @@
 -- 01, 'Numbers': why a call is refused, the number of each refusal, and that of tests in an order the first that fails
 -- decides. Which tests a call makes, and in which order, stands with that call.
 -- Assumes nothing.
-use Rattle.std.specs.Prelude.{ℕ, Bool, true, false, List, [], ◌∷◌}
+use Rattle.std.specs.Prelude.{ℕ, Bool, true, false, List, [], ◌∷◌, Ok, Err}
 use Rattle.types.specs.declared.refusals.Refusal.{Refusal}
-use Rattle.types.specs.declared.refusals.TestResult.{TestResult}
+use Rattle.types.specs.Answers.{TestResult}
 
 -- the table's numbers, by its words; 02, R-4: 'Answers: 16', R-6: 'Answers: 17'
 abbrev pub refusal_number : Refusal → ℕ
@@ -31,16 +31,16 @@ Tests = List (Bool × Refusal)
 
 -- 'the first such number'
 unfoldable pub first_refusal : Tests → TestResult
-first_refusal [] = TestResult.Passed
+first_refusal [] = Ok tt
 first_refusal ((true, why) ∷ rest) = first_refusal rest
-first_refusal ((false, why) ∷ rest) = TestResult.Failed why
+first_refusal ((false, why) ∷ rest) = Err why
 
 -- whether a test failed
 abbrev pub is_failed : TestResult → Bool
-is_failed TestResult.Passed = false
-is_failed (TestResult.Failed why) = true
+is_failed (Ok _) = false
+is_failed (Err why) = true
 
 -- an answer by its tests: refused, or what is answered where all pass
 abbrev pub answered : {A : Type 0} → TestResult → (Refusal → A) → A → A
-answered TestResult.Passed refused done = done
-answered (TestResult.Failed why) refused done = refused why
+answered (Ok _) refused done = done
+answered (Err why) refused done = refused why

@@ -1,8 +1,8 @@
 -- 01, 'Numbers': the numbers of stops and of a run's end, and the most steps that a run is asked for.
 -- Assumes nothing.
-use Rattle.std.specs.Prelude.{ℕ}
+use Rattle.std.specs.Prelude.{ℕ, Some, None}
 use Rattle.types.specs.declared.machine.Stop.{Stop}
-use Rattle.types.specs.declared.runs.End.{End}
+use Rattle.types.specs.Answers.{End}
 
 -- the numbers of the stops
 abbrev pub stop_number : Stop → ℕ
@@ -20,5 +20,5 @@ abbrev pub step_limit : ℕ
 step_limit = 1_000_000
 
 abbrev pub end_number : End → ℕ
-end_number End.Done = 0
-end_number (End.AtStop stop) = stop_number stop
+end_number None = 0
+end_number (Some stop) = stop_number stop

@@ -1,5 +1,8 @@
 // The parts of a code map entry: what the manual and document 01 say of a code, whatever the image.
 
+ghost use Rattle.std.specs.Prelude.{◌≡◌};
+ghost use Rattle.types.specs.Kinds.{kind_number};
+
 // The manual's 103 instructions by mnemonic (4.2), and what stands at a code that it leaves unassigned.
 #[derive(Clone, Copy)]
 pub enum Operation {
@@ -153,8 +156,17 @@ pub enum Accumulator {
 // How a routine returns: mark kinds 1 and 2 of document 01.
 #[derive(Clone, Copy)]
 pub enum Kind {
-    ByRts,
-    ByRtl,
+    ByRts = 1,
+    ByRtl = 2,
+}
+
+// The kind as a mark has it.
+impl From<Kind> for u8 {
+    ghost from_gives = { λ kind number. number ≡ kind_number kind };
+
+    fn from(kind: Kind) -> u8 {
+        kind as u8
+    }
 }
 
 // Where control goes: to the next instruction; there or to the target; to the target alone; into a
@@ -231,11 +243,13 @@ pub struct Instruction {
     pub operand: u64,
 }
 
-// What stands at a place of an image: an instruction; a code that is not carried; or too few bytes
-// to tell (a code, the code behind a prefix or an operand byte lies past the end).
+// Why no instruction is read at a place of an image: the code there is not carried; or too few bytes are left to tell
+// (a code, the code behind a prefix or an operand byte lies past the end).
 #[derive(Clone, Copy)]
-pub enum Decoded {
-    Whole(Instruction),
+pub enum Undecoded {
     NotCarried,
     CutOff,
 }
+
+// What stands at a place of an image.
+pub type Decoded = Result<Instruction, Undecoded>;

@@ -6,8 +6,6 @@ pub mod addresses;
 pub mod code;
 pub mod lists;
 pub mod machine;
-pub mod pages;
-pub mod probes;
 pub mod refusals;
 pub mod rules;
 pub mod runs;

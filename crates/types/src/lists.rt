@@ -1,5 +1,4 @@
-// What the reader and the writer of mark lists answer.
-use crate::refusals::Refusal;
+// What a mark list says beside its marks.
 
 // The first line of a list.
 #[derive(Clone, Copy)]
@@ -7,18 +6,4 @@ pub struct Header {
     pub base: u32,
     pub length: u32,
     pub reset: u32,
-}
-
-// The reader's answer; what it read beside the marks is the first line.
-#[derive(Clone, Copy)]
-pub enum ListRead {
-    NotRead(Refusal),
-    Read(Header),
-}
-
-// The writer's answer; a written list has its length in bytes.
-#[derive(Clone, Copy)]
-pub enum ListWritten {
-    NotWritten(Refusal),
-    Written(usize),
 }

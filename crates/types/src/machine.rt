@@ -1,6 +1,7 @@
 // What the stepping machine works on: document 01, 'The machine'.
 
 ghost use Rattle.std.specs.Prelude.{◌≡◌, ◌≤◌};
+ghost use Rattle.types.specs.Runs.{stop_number};
 ghost use Rattle.types.specs.Status.{status_of, number_of};
 ghost use Rattle.prelude.specs.Choice.{bit};
 
@@ -44,11 +45,13 @@ impl Status {
     pub const N: u16 = 128;
 
     pub const LEVEL: u16 = 256;
+}
 
-    // The status of a number.
-    pub fn from_number(n: u16) -> Status
-        ensures { result ≡ status_of n }
-    {
+// The status of a number.
+impl From<u16> for Status {
+    ghost from_gives = { λ number status. status ≡ status_of number };
+
+    fn from(n: u16) -> Status {
         Status {
             carry: n / Status::C % 2 == 1,
             zero: n / Status::Z % 2 == 1,
@@ -61,20 +64,22 @@ impl Status {
             level: (n / Status::LEVEL) as u8,
         }
     }
+}
 
-    // The number of a status.
-    pub fn number(self) -> u16
-        ensures { result ≡ number_of self }
-    {
-        Status::C * bit_of(self.carry) as u16
-            + Status::Z * bit_of(self.zero) as u16
-            + Status::I * bit_of(self.disable) as u16
-            + Status::D * bit_of(self.decimal) as u16
-            + Status::X * bit_of(self.x) as u16
-            + Status::M * bit_of(self.m) as u16
-            + Status::V * bit_of(self.overflow) as u16
-            + Status::N * bit_of(self.negative) as u16
-            + Status::LEVEL * self.level as u16
+// The number of a status.
+impl From<Status> for u16 {
+    ghost from_gives = { λ status number. number ≡ number_of status };
+
+    fn from(status: Status) -> u16 {
+        Status::C * bit_of(status.carry) as u16
+            + Status::Z * bit_of(status.zero) as u16
+            + Status::I * bit_of(status.disable) as u16
+            + Status::D * bit_of(status.decimal) as u16
+            + Status::X * bit_of(status.x) as u16
+            + Status::M * bit_of(status.m) as u16
+            + Status::V * bit_of(status.overflow) as u16
+            + Status::N * bit_of(status.negative) as u16
+            + Status::LEVEL * status.level as u16
     }
 }
 
@@ -117,7 +122,7 @@ pub struct State {
 // Why a step stopped: numbers 20 to 27 of document 01.
 #[derive(Clone, Copy)]
 pub enum Stop {
-    Outside,
+    Outside = 20,
     Uncarried,
     Halt,
     Unmapped,
@@ -125,6 +130,15 @@ pub enum Stop {
     Deep,
     ImageStore,
     Decimal,
+}
+
+// The paper's number of a stop.
+impl From<Stop> for u8 {
+    ghost from_gives = { λ stop number. number ≡ stop_number stop };
+
+    fn from(stop: Stop) -> u8 {
+        stop as u8
+    }
 }
 
 // What an operation asks of memory before it works: the data that its addressing mode names, if any; the same, to be
@@ -160,20 +174,6 @@ pub struct Store {
     pub byte: u8,
 }
 
-// A byte of memory.
-#[derive(Clone, Copy)]
-pub enum ByteRead {
-    Byte(u8),
-    Unmapped,
-}
-
-// Whether stores can be served.
-#[derive(Clone, Copy)]
-pub enum Served {
-    All,
-    Unserved(Stop),
-}
-
 // What a step does to the open calls.
 #[derive(Clone, Copy)]
 pub enum CallChange {
@@ -182,10 +182,12 @@ pub enum CallChange {
     Close,
 }
 
-// How a step ended: completed, completed as a call, or stopped.
+// A step that met no stop: whether it was a call.
 #[derive(Clone, Copy)]
-pub enum StepAnswer {
-    Completed,
-    Called,
-    Stopped(Stop),
+pub enum Completion {
+    Ordinary,
+    Call,
 }
+
+// How a step ended.
+pub type StepAnswer = Result<Completion, Stop>;

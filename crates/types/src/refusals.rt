@@ -5,7 +5,7 @@ ghost use Rattle.types.specs.Refusals as spec;
 // By the papers' words.
 #[derive(Clone, Copy)]
 pub enum Refusal {
-    Length,
+    Length = 1,
     Base,
     Reset,
     Mark,
@@ -25,33 +25,17 @@ pub enum Refusal {
 }
 
 // The papers' number of a refusal.
-pub fn refusal_number(why: Refusal) -> u8
-    ensures { result ≡ spec.refusal_number why }
-{
-    match why {
-        Refusal::Length => 1,
-        Refusal::Base => 2,
-        Refusal::Reset => 3,
-        Refusal::Mark => 4,
-        Refusal::Code => 5,
-        Refusal::CutOff => 6,
-        Refusal::Overlap => 7,
-        Refusal::Flow => 8,
-        Refusal::Widths => 9,
-        Refusal::Return => 10,
-        Refusal::Ram => 11,
-        Refusal::State => 12,
-        Refusal::Steps => 13,
-        Refusal::List => 14,
-        Refusal::Page => 15,
-        Refusal::Addresses => 16,
-        Refusal::Routines => 17,
+impl From<Refusal> for u8 {
+    ghost from_gives = { λ why number. number ≡ spec.refusal_number why };
+
+    fn from(why: Refusal) -> u8 {
+        why as u8
     }
 }
 
-// What tests come to: all passed, or the refusal of the first that failed.
+// A refusal, and the offset that it is about: the instruction whose rule is broken, or 0.
 #[derive(Clone, Copy)]
-pub enum TestResult {
-    Passed,
-    Failed(Refusal),
+pub struct Refused {
+    pub why: Refusal,
+    pub offset: u32,
 }

@@ -1,5 +1,5 @@
 // What the rules of acceptance speak of: what a start owes its successors, and the check's answer.
-use crate::refusals::Refusal;
+use crate::refusals::Refused;
 
 // At an address stands a start with this mark.
 #[derive(Clone, Copy)]
@@ -16,9 +16,5 @@ pub enum Requirements {
     Two(Requirement, Requirement),
 }
 
-// The check's answer: the first rule that is broken, and its offset.
-#[derive(Clone, Copy)]
-pub enum Verdict {
-    Accepted,
-    Refused { why: Refusal, offset: u32 },
-}
+// The check's answer: accepted, or the first rule that is broken, and its offset.
+pub type Verdict = Result<(), Refused>;

@@ -1,17 +1,11 @@
 // What a run of the stepping machine answers: document 01, 'A run takes ..'.
 use crate::machine::Stop;
-use crate::refusals::Refusal;
 
-// How a run ended: all asked steps are done, or one stopped.
+// How a run ended: at a stop, or, with none, because all asked steps are done. And the steps completed, and the calls
+// among them.
 #[derive(Clone, Copy)]
-pub enum End {
-    Done,
-    AtStop(Stop),
-}
-
-// A run's answer: the refusal, or the end, the steps completed and the calls among them.
-#[derive(Clone, Copy)]
-pub enum RunAnswer {
-    NotRun(Refusal),
-    Ended { end: End, steps: u32, calls: u32 },
+pub struct Ended {
+    pub end: Option<Stop>,
+    pub steps: u32,
+    pub calls: u32,
 }

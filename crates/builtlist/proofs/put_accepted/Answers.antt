@@ -13,5 +13,5 @@ pub returns : goal.returns
 returns c =
     let args = c.args in
     let done = page_written_lem args.marks.now args.base args.reset c.requires.0 args.page.now
-    c.requires.1 _ (rw c.write_list-written.ensures.answer at c.in-Written.is) in
+    c.requires.1 _ (rw c.write_list-written.ensures.answer at c.in-Ok.is) in
     (done.0, c.write_list-written.ensures.page ∙ done.1)

@@ -10,13 +10,13 @@ pub offset_of-offset-requires : goal.offset_of-offset-requires
 offset_of-offset-requires c =
     let args = c.args in
     tests_small args.image.now args.marks.now args.base args.reset _
-    (sym c.test_marks-tested.ensures ∙ c.in-Failed.is)
+    (sym c.test_marks-tested.ensures ∙ c.in-Err.is)
 
-pub returns-in-Failed : goal.returns-in-Failed
+pub returns-in-Err : goal.returns-in-Err
 unfolding verdict
-returns-in-Failed c = rw (
+returns-in-Err c = rw (
   ← c.test_marks-tested.ensures,
-  c.in-Failed.is,
+  c.in-Err.is,
   c.offset_of-offset.ensures,
 )
 

@@ -23,13 +23,13 @@ pub overflow_cast-offset : goal.overflow_cast-offset
 overflow_cast-offset c =
     omega (arith, c.requires.1, c.loop-i-test.true)
 
-pub returns-in-Failed : goal.returns-in-Failed
+pub returns-in-Err : goal.returns-in-Err
 unfolding bad_start
-returns-in-Failed c =
+returns-in-Err c =
     let args = c.args in
     let i = c.loop-i.i in
     let failed = step_result_lem args.image.now args.marks.now args.base i c.step_at-step.result
-    c.step_at-step.ensures c.in-Failed.is in
+    c.step_at-step.ensures c.in-Err.is in
     let here = passed_to (spec.broken_at args.image.now args.marks.now args.base) 0 i
     (length args.marks.now) c.loop-i.invariant.0 (omega (arith, c.loop-i-test.true)) (rw failed refl) in
     stopped_at args.image.now args.marks.now args.base i _ here failed

@@ -6,13 +6,13 @@ pub instruction_at-requires : goal.instruction_at-requires
 instruction_at-requires c =
     let args = c.args in
     fits_at args.image.now args.at args.m args.x c.layout_at.result c.layout_at.ensures _
-    c.in-Fits.is
+    c.in-Ok.is
 
-pub returns-in-Fits : goal.returns-in-Fits
-returns-in-Fits c =
+pub returns-in-Ok : goal.returns-in-Ok
+returns-in-Ok c =
     let args = c.args in
     decoded_fits args.image.now args.at args.m args.x c.layout_at.result
-    c.layout_at.ensures _ c.instruction_at.result c.in-Fits.is
+    c.layout_at.ensures _ c.instruction_at.result c.in-Ok.is
     c.instruction_at.ensures
 
 pub returns-in-Uncarried : goal.returns-in-Uncarried

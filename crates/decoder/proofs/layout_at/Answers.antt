@@ -1,4 +1,6 @@
 -- The code decides, with the widths.
+use Rattle.types.specs.declared.code.Undecoded.{Undecoded}
+use Rattle.std.specs.Prelude.{Err}
 use Rattle.decoder.proofs.Layouts.{layout_past, layout_at_lem}
 use Rattle.decoder.specs.declared.LayoutRead.{LayoutRead}
 use mathlib.Core.Path.{refl}
@@ -17,12 +19,12 @@ returns-in-Code c =
 pub returns-in-Uncarried : goal.returns-in-Uncarried
 returns-in-Uncarried c =
     let args = c.args in
-    layout_at_lem args.image.now args.at c.code_at.result args.m args.x LayoutRead.Uncarried
+    layout_at_lem args.image.now args.at c.code_at.result args.m args.x (Err Undecoded.NotCarried)
     c.code_at.ensures (rw c.in-Uncarried.is refl)
 
 pub returns-in-Short : goal.returns-in-Short
 returns-in-Short c =
     let args = c.args in
-    layout_at_lem args.image.now args.at c.code_at.result args.m args.x LayoutRead.Short
+    layout_at_lem args.image.now args.at c.code_at.result args.m args.x (Err Undecoded.CutOff)
     c.code_at.ensures
     (rw c.in-Short.is refl)

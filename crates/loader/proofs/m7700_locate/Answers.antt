@@ -1,6 +1,7 @@
 -- What the check refuses is passed on; what it accepts is located in, and every answer fits its packing.
+use Rattle.std.specs.Prelude.{Ok}
 use mathlib.Core.Path.{◌≡◌, sym, ap, ◌∙◌}
-use Rattle.types.specs.declared.rules.Verdict.{Verdict}
+use Rattle.types.specs.Answers.{Verdict}
 use Rattle.acceptance.specs.Verdict.{verdict}
 use Rattle.loader.proofs.Answers.{located_fits}
 use Rattle.checker.proofs.Packing.{when_refused}
@@ -21,14 +22,14 @@ returns-then-refusal-ne0 c =
 pub locate-requires : goal.locate-requires
 locate-requires c =
     let args = c.args in
-    let accepted : verdict args.image.now args.marks.now args.base args.reset ≡ Verdict.Accepted =
+    let accepted : verdict args.image.now args.marks.now args.base args.reset ≡ Ok tt =
     accepted_zero _ (sym c.m7700_check-refusal.ensures ∙ c.if-refusal-ne0.false) in
     (args.reset, accepted)
 
 pub pack_located-requires : goal.pack_located-requires
 pack_located-requires c =
     let args = c.args in
-    let accepted : verdict args.image.now args.marks.now args.base args.reset ≡ Verdict.Accepted =
+    let accepted : verdict args.image.now args.marks.now args.base args.reset ≡ Ok tt =
     accepted_zero _ (sym c.m7700_check-refusal.ensures ∙ c.if-refusal-ne0.false) in
     let done = c.locate.ensures args.reset accepted in
     rw done.0
@@ -38,7 +39,7 @@ pack_located-requires c =
 pub returns : goal.returns
 returns c =
     let args = c.args in
-    let accepted : verdict args.image.now args.marks.now args.base args.reset ≡ Verdict.Accepted =
+    let accepted : verdict args.image.now args.marks.now args.base args.reset ≡ Ok tt =
     accepted_zero _ (sym c.m7700_check-refusal.ensures ∙ c.if-refusal-ne0.false) in
     let done = c.locate.ensures args.reset accepted in
     record { answer = c.pack_located.ensures ∙ ap packed_located done.0; places = done.1 }

@@ -1,6 +1,7 @@
 -- What the check refuses is passed on; what it accepts is printed, and every answer fits its packing.
+use Rattle.std.specs.Prelude.{Ok}
 use mathlib.Core.Path.{◌≡◌, sym, ap, ◌∙◌}
-use Rattle.types.specs.declared.rules.Verdict.{Verdict}
+use Rattle.types.specs.Answers.{Verdict}
 use Rattle.acceptance.specs.Verdict.{verdict}
 use Rattle.loader.proofs.Answers.{printed_fits}
 use Rattle.checker.proofs.Packing.{when_refused}
@@ -21,26 +22,26 @@ returns-then-refusal-ne0 c =
 pub print_accepted-requires : goal.print_accepted-requires
 print_accepted-requires c =
     let args = c.args in
-    let accepted : verdict args.image.now args.marks.now args.base args.reset ≡ Verdict.Accepted =
+    let accepted : verdict args.image.now args.marks.now args.base args.reset ≡ Ok tt =
     accepted_zero _ (sym c.m7700_check-refusal.ensures ∙ c.if-refusal-ne0.false) in
     (args.reset, accepted)
 
 pub pack_printed-requires : goal.pack_printed-requires
 pack_printed-requires c =
     let args = c.args in
-    let accepted : verdict args.image.now args.marks.now args.base args.reset ≡ Verdict.Accepted =
+    let accepted : verdict args.image.now args.marks.now args.base args.reset ≡ Ok tt =
     accepted_zero _ (sym c.m7700_check-refusal.ensures ∙ c.if-refusal-ne0.false) in
     let done = judged_page args.image.now args.marks.now args.base args.reset args.page.now
-    Verdict.Accepted c.print_accepted.new.page c.print_accepted.result
+    (Ok tt) c.print_accepted.new.page c.print_accepted.result
     accepted c.print_accepted.ensures.answer c.print_accepted.ensures.page in
     rw done.0 (printed_fits args.image.now args.marks.now args.base args.reset args.page.now)
 
 pub returns : goal.returns
 returns c =
     let args = c.args in
-    let accepted : verdict args.image.now args.marks.now args.base args.reset ≡ Verdict.Accepted =
+    let accepted : verdict args.image.now args.marks.now args.base args.reset ≡ Ok tt =
     accepted_zero _ (sym c.m7700_check-refusal.ensures ∙ c.if-refusal-ne0.false) in
     let done = judged_page args.image.now args.marks.now args.base args.reset args.page.now
-    Verdict.Accepted c.print_accepted.new.page c.print_accepted.result
+    (Ok tt) c.print_accepted.new.page c.print_accepted.result
     accepted c.print_accepted.ensures.answer c.print_accepted.ensures.page in
     record { answer = c.pack_printed.ensures ∙ ap packed_printed done.0; page = done.1 }

@@ -12,11 +12,11 @@ test_addresses-tested-requires c =
           args.places.now c.requires.1,
     )
 
-pub returns-in-Failed : goal.returns-in-Failed
-returns-in-Failed c reset accepted =
+pub returns-in-Err : goal.returns-in-Err
+returns-in-Err c reset accepted =
     let args = c.args in
     refused_then args.image.now args.marks.now args.base reset args.addresses.now args.places.now
-    accepted c.test_addresses-tested.result c.test_addresses-tested.ensures _ c.in-Failed.is
+    accepted c.test_addresses-tested.result c.test_addresses-tested.ensures _ c.in-Err.is
 
 pub pass_marks-requires : goal.pass_marks-requires
 pass_marks-requires c =

@@ -40,13 +40,13 @@ print_by_list-requires c =
     length-take-le (length c.args.image.now) _
     c.if-image-gt-IMAGE_LIMIT.false
 
-pub returns-in-Rows : goal.returns-in-Rows
+pub returns-in-Ok : goal.returns-in-Ok
 unfolding page_after
-returns-in-Rows c =
+returns-in-Ok c =
     let args = c.args in
     let short : length args.text.now ≤ list_limit = omega arith in
-    let n = c.in-Rows.size in
-    let told = c.in-Rows.is in
+    let n = c.in-Ok.size in
+    let told = c.in-Ok.is in
     let by-list = c.print_by_list.ensures in
     let taken = rows_taken args.image.now args.text.now n args.page.now (rw (← by-list.answer) told) in
     let whole = within_limits args.image.now args.text.now short c.if-image-gt-IMAGE_LIMIT.false
@@ -56,18 +56,18 @@ returns-in-Rows c =
       part = front_part (spec.files_page args.image.now args.text.now) args.page.now _ n taken.1 front;
     }
 
-pub returns-in-NotPrinted : goal.returns-in-NotPrinted
+pub returns-in-Err : goal.returns-in-Err
 unfolding page_after
-returns-in-NotPrinted c =
+returns-in-Err c =
     let args = c.args in
     let short : length args.text.now ≤ list_limit = omega arith in
     let by-list = c.print_by_list.ensures in
-    let answer = c.in-NotPrinted.is in
+    let answer = c.in-Err.is in
     let same = within_limits args.image.now args.text.now short c.if-image-gt-IMAGE_LIMIT.false
     ∙ none_taken args.image.now args.text.now _ _ args.page.now short c.requires
     (rw by-list.answer at answer) in
     let left = rw answer at by-list.page in
     record {
-      text = rw (same, ← left) c.put_answer_line-in-NotPrinted.ensures.line;
-      part = c.put_answer_line-in-NotPrinted.ensures.part;
+      text = rw (same, ← left) c.put_answer_line-in-Err.ensures.line;
+      part = c.put_answer_line-in-Err.ensures.part;
     }

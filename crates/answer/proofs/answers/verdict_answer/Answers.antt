@@ -11,15 +11,15 @@ overflow_cast-result c =
       arith,
       judged.1,
       accepted_few c.args.image.now c.args.marks.now c.args.base c.args.reset
-          (rw (← judged.0) c.in-Accepted.is),
+          (rw (← judged.0) c.in-Ok.is),
     )
 
-pub returns-in-Accepted : goal.returns-in-Accepted
+pub returns-in-Ok : goal.returns-in-Ok
 unfolding spec.verdict_answer spec.answer_by
-returns-in-Accepted c =
+returns-in-Ok c =
     let judged = c.judge-judged.ensures in
-    rw (← judged.0, c.in-Accepted.is, judged.1)
+    rw (← judged.0, c.in-Ok.is, judged.1)
 
-pub returns-in-Refused : goal.returns-in-Refused
+pub returns-in-Err : goal.returns-in-Err
 unfolding spec.verdict_answer spec.answer_by
-returns-in-Refused c = rw (← c.judge-judged.ensures.0, c.in-Refused.is)
+returns-in-Err c = rw (← c.judge-judged.ensures.0, c.in-Err.is)

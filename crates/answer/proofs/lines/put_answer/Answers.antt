@@ -10,16 +10,16 @@ returns-in-Unread c =
     rw c.in-Unread.is (put_within spec.line_limit (omega arith)
     c.put_unread.ensures)
 
-pub returns-in-Accepted : goal.returns-in-Accepted
+pub returns-in-Ok : goal.returns-in-Ok
 unfolding spec.line_for
-returns-in-Accepted c =
-    rw c.in-Accepted.is (put_within spec.line_limit (omega arith)
+returns-in-Ok c =
+    rw c.in-Ok.is (put_within spec.line_limit (omega arith)
     c.put_letter.ensures)
 
-pub returns-in-Refused : goal.returns-in-Refused
+pub returns-in-Err : goal.returns-in-Err
 unfolding spec.line_for
-returns-in-Refused c =
+returns-in-Err c =
     rw (
-      c.in-Refused.is,
+      c.in-Err.is,
       ← c.refusal_number.ensures,
     ) c.put_refused.ensures

@@ -14,14 +14,14 @@ put_owed-requires c =
     let args = c.args in (
       c.requires.1,
       fits_at args.image.now args.at c.mark_m.result c.mark_x.result c.layout_at.result
-          c.layout_at.ensures c.in-Fits.layout c.in-Fits.is,
+          c.layout_at.ensures c.in-Ok.layout c.in-Ok.is,
       c.requires.2,
       c.requires.3,
       c.requires.4,
     )
 
-pub returns-in-Fits : goal.returns-in-Fits
-returns-in-Fits c =
+pub returns-in-Ok : goal.returns-in-Ok
+returns-in-Ok c =
     let there : instruction_at c.args.image.now c.args.marks.now c.args.at
     ≡ decoded_of (drop c.args.at c.args.image.now) c.layout_at.result =
     rw (← c.byte_at-mark.ensures)
@@ -30,7 +30,7 @@ returns-in-Fits c =
     c.layout_at.ensures) in
     let args = c.args in
     let behind = behind_fits args.image.now args.marks.now args.base args.at c.layout_at.result
-    there c.in-Fits.layout c.in-Fits.is in (
+    there c.in-Ok.layout c.in-Ok.is in (
       c.put_owed.ensures.0 ∙ ap (put_owed args.marks.now args.base) (sym behind),
       c.put_owed.ensures.1,
       c.put_owed.ensures.2,

@@ -18,13 +18,13 @@ pub target_listed-requires : goal.target_listed-requires
 target_listed-requires c =
     let args = c.args in (
       fits_at args.image.now args.at c.mark_m.result c.mark_x.result c.layout_at.result
-          c.layout_at.ensures c.in-Fits.layout c.in-Fits.is,
+          c.layout_at.ensures c.in-Ok.layout c.in-Ok.is,
       c.requires.1,
       c.requires.2,
     )
 
-pub returns-in-Fits : goal.returns-in-Fits
-returns-in-Fits c =
+pub returns-in-Ok : goal.returns-in-Ok
+returns-in-Ok c =
     let started : is_start c.args.mark ≡ true =
     rw c.is_start.ensures at c.if-not-is_start.false in
     let there : decode (drop c.args.at c.args.image.now) (mark_m c.args.mark)
@@ -35,7 +35,7 @@ returns-in-Fits c =
     c.layout_at.ensures in
     let args = c.args in
     let bytes = drop args.at args.image.now in
-    rw (started, there ∙ ap (decoded_of bytes) c.in-Fits.is)
+    rw (started, there ∙ ap (decoded_of bytes) c.in-Ok.is)
     (ap not c.target_listed.ensures)
 
 pub returns-in-Uncarried : goal.returns-in-Uncarried

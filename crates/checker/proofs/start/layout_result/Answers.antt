@@ -4,14 +4,14 @@ use Rattle.checker.proofs.start.layout_result.Goals as goal
 
 pub test_whole-requires : goal.test_whole-requires
 test_whole-requires c = (
-  rw c.in-Fits.is at c.requires.0,
+  rw c.in-Ok.is at c.requires.0,
   c.requires.1,
   c.requires.2,
 )
 
-pub returns-in-Fits : goal.returns-in-Fits
+pub returns-in-Ok : goal.returns-in-Ok
 unfolding decoded_result
-returns-in-Fits c = rw (c.in-Fits.is, c.test_whole.ensures)
+returns-in-Ok c = rw (c.in-Ok.is, c.test_whole.ensures)
 
 pub returns-in-Uncarried : goal.returns-in-Uncarried
 unfolding decoded_result

@@ -30,7 +30,7 @@ put_cut_off-requires c =
 pub put_instruction-requires : goal.put_instruction-requires
 put_instruction-requires c = (
   fits_at c.args.image.now c.args.at c.mark_m.result c.mark_x.result
-      c.layout_at.result c.layout_at.ensures _ c.in-Fits.is,
+      c.layout_at.result c.layout_at.ensures _ c.in-Ok.is,
   c.requires.0,
   c.requires.1,
 )
@@ -61,13 +61,13 @@ returns-in-Short c =
     (added_within 69 (omega arith) (rw (part_whole c.args.at c.args.image.now) at
     c.put_cut_off.ensures))
 
-pub returns-in-Fits : goal.returns-in-Fits
+pub returns-in-Ok : goal.returns-in-Ok
 unfolding spec.start_detail
-returns-in-Fits c =
+returns-in-Ok c =
     rw (
       ← c.byte_at-mark.ensures,
       ← c.mark_m.ensures.0,
       ← c.mark_x.ensures.0,
       decoded_by _ _
-          _ c.layout_at.ensures c.in-Fits.is,
+          _ c.layout_at.ensures c.in-Ok.is,
     ) c.put_instruction.ensures

@@ -10,15 +10,15 @@ overflow_add-result c =
     omega (
       arith,
       fits_at args.image.now args.at c.mark_m-m.result c.mark_x-x.result c.layout_at.result
-          c.layout_at.ensures c.in-Fits.layout c.in-Fits.is,
+          c.layout_at.ensures c.in-Ok.layout c.in-Ok.is,
     )
 
-pub returns-in-Fits : goal.returns-in-Fits
-returns-in-Fits c =
+pub returns-in-Ok : goal.returns-in-Ok
+returns-in-Ok c =
     let args = c.args in
     end_fits args.image.now args.at args.mark c.mark_m-m.result c.mark_x-x.result
     c.layout_at.result c.layout_at.ensures c.mark_m-m.ensures.0 c.mark_x-x.ensures.0 _
-    c.in-Fits.is
+    c.in-Ok.is
 
 pub returns-in-Uncarried : goal.returns-in-Uncarried
 returns-in-Uncarried c =

@@ -8,12 +8,12 @@ use Rattle.semantics.specs.Memory.{memory}
 use Rattle.machine.proofs.Finishing.{stops_at_stores, completes}
 use Rattle.machine.proofs.commit.finish.Goals as goal
 
-pub returns-in-Unserved : goal.returns-in-Unserved
-returns-in-Unserved c =
+pub returns-in-Err : goal.returns-in-Err
+returns-in-Err c =
     let a = c.args in
     let m = memory a.ram.now a.image.now a.base in
     let after = (as_effect a.effect (registers_of a.registers.now)).registers in
-    let why = rw c.served_all-served.ensures at c.in-Unserved.is in (
+    let why = rw c.served_all-served.ensures at c.in-Err.is in (
       (λ calls.
           stops_at_stores a.i m a.place a.depth a.registers.now calls after a.to
           CallChange.Keep (listed a.effect.stores) _ c.stopped.result c.stopped.ensures why),

@@ -8,16 +8,16 @@ use Rattle.semantics.specs.Memory.{memory}
 use Rattle.machine.proofs.Calling.{placed, puts_s, stops_pushing, calls_so}
 use Rattle.machine.proofs.flows.calls_to.Goals as goal
 
-pub returns-in-Unserved : goal.returns-in-Unserved
-returns-in-Unserved c = (
+pub returns-in-Err : goal.returns-in-Err
+returns-in-Err c = (
   stops_pushing c.args.i (memory c.args.ram.now c.args.image.now c.args.base)
       c.args.place c.args.depth c.args.registers.now c.args.calls.now
       c.args.kind c.next_address-next.result (get_or c.args.registers.now 4 0)
       c.pushes_return-stores.result c.served_all-served.result c.requires.0
       (omega arith) c.next_address-next.ensures refl
       c.pushes_return-stores.ensures
-      c.served_all-served.ensures _ c.stopped-in-Unserved.result c.stopped-in-Unserved.ensures
-      c.in-Unserved.is,
+      c.served_all-served.ensures _ c.stopped-in-Err.result c.stopped-in-Err.ensures
+      c.in-Err.is,
   c.requires.2,
 )
 

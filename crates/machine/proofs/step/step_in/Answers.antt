@@ -12,11 +12,11 @@ use Rattle.machine.proofs.step.step_in.Goals as goal
 pub perform-requires : goal.perform-requires
 perform-requires c =
     let pre = c.requires in
-    let kept = rw c.in-Whole.is at c.fetch_at-fetched.ensures.1 in
+    let kept = rw c.in-Ok.is at c.fetch_at-fetched.ensures.1 in
     (pre.1, omega arith, kept, pre.5, pre.4)
 
-pub returns-in-Whole : goal.returns-in-Whole
-returns-in-Whole c =
+pub returns-in-Ok : goal.returns-in-Ok
+returns-in-Ok c =
     let args = c.args in
     let m = memory args.ram.now args.image.now args.base in
     let inside : args.place % address_limit < address_limit = omega arith in
@@ -25,7 +25,7 @@ returns-in-Whole c =
     (sym (place_kept (args.place % address_limit) args.depth args.registers.now inside)) refl in
     let so =
     step_whole m args.place args.depth args.registers.now args.calls.now
-    c.fetch_at-fetched.result is-fetched _ _ c.in-Whole.is
+    c.fetch_at-fetched.result is-fetched _ _ c.in-Ok.is
     c.perform.ensures.0 in
     (so, c.perform.ensures.1)
 

@@ -8,13 +8,13 @@ use Rattle.types.proofs.TestResults.{shown}
 use Rattle.marklist.proofs.Reading.{list_headed, refused, is_read, all_marks_lem}
 use Rattle.marklist.proofs.reader.read_list.Goals as goal
 
-pub returns-in-Failed : goal.returns-in-Failed
-returns-in-Failed c =
+pub returns-in-Err : goal.returns-in-Err
+returns-in-Err c =
     let old = c.is_old-old.result in
     let args = c.args in
     let stays = refused args.text.now args.marks.now old c.header_shown-h.result c.is_old-old.ensures
     c.header_shown-h.ensures
-    (sym c.in-Failed.is ∙ c.test_list-tested.ensures) in
+    (sym c.in-Err.is ∙ c.test_list-tested.ensures) in
     record { answer = stays.0; marks = stays.1 }
 
 pub fill_marks-requires : goal.fill_marks-requires

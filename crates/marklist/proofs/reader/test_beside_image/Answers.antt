@@ -8,11 +8,11 @@ use mathlib.Core.Path.{ap}
 use mathlib.Core.Bool.{not}
 use Rattle.marklist.proofs.reader.test_beside_image.Goals as goal
 
-pub returns-in-Failed : goal.returns-in-Failed
-returns-in-Failed c =
+pub returns-in-Err : goal.returns-in-Err
+returns-in-Err c =
     let args = c.args in
     image_fails args.old args.image args.marks args.base c.test_image-tested.ensures
-    c.in-Failed.is
+    c.in-Err.is
 
 pub bank_fits-requires : goal.bank_fits-requires
 bank_fits-requires c =

@@ -8,11 +8,11 @@ use Rattle.marklist.proofs.reader.test_list.Goals as goal
 pub returns-then-not-is_list : goal.returns-then-not-is_list
 returns-then-not-is_list c = fails _ _ c.is_list.ensures (ap not c.if-not-is_list.true)
 
-pub returns-in-Failed : goal.returns-in-Failed
-returns-in-Failed c =
+pub returns-in-Err : goal.returns-in-Err
+returns-in-Err c =
     holds _ _ c.is_list.ensures (ap not c.if-not-is_list.false)
     (ends (list_tests c.args.old c.args.h.length c.args.marks c.args.h.base) _ c.test_beside_image-tested.ensures
-    c.in-Failed.is)
+    c.in-Err.is)
 
 pub reset_shown-requires : goal.reset_shown-requires
 reset_shown-requires c =

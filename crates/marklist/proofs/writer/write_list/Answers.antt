@@ -1,11 +1,12 @@
 -- A refusal leaves the page; nothing is written before the last test, and then the first line and behind it the lines.
+use Rattle.std.specs.Prelude.{Ok}
 use mathlib.Core.Bool.{false}
 use mathlib.Core.List.{List}
 use Prim.Native.Nat.{ℕ, ◌+◌, ◌≤◌}
 use native.Mathlib.Omega.{arith}
 use mathlib.Core.Path.{◌≡◌, sym, ◌∙◌}
 use lib.ListN.{length}
-use Rattle.types.specs.declared.refusals.TestResult.{TestResult}
+use Rattle.types.specs.Answers.{TestResult}
 use Rattle.types.specs.Addresses.{image_limit}
 use Rattle.lists.specs.MarkList.{new_digits}
 use Rattle.types.specs.Refusals.{first_refusal}
@@ -20,18 +21,18 @@ use Rattle.marklist.proofs.Writing.{list_put}
 use Rattle.marklist.proofs.writer.write_list.Goals as goal
 
 few_marks : (marks : List ℕ) (base reset : ℕ)
-    → TestResult.Passed ≡ first_refusal (marks_tests (length marks) marks base reset) → length marks ≤ image_limit
+    → Ok tt ≡ first_refusal (marks_tests (length marks) marks base reset) → length marks ≤ image_limit
 few_marks marks base reset passed =
     (right_length (length marks) (length marks) (shown (marks_tests (length marks) marks base reset)
     (sym passed)).0).few
 
-pub returns-in-Failed : goal.returns-in-Failed
-returns-in-Failed c =
+pub returns-in-Err : goal.returns-in-Err
+returns-in-Err c =
     let args = c.args in
     let stays =
     ends (marks_tests (length args.marks.now) args.marks.now args.base args.reset) _
-    c.test_marks-tested.ensures c.in-Failed.is in
-    let said = refused args.marks.now args.base args.reset args.page.now (sym c.in-Failed.is ∙ stays) in
+    c.test_marks-tested.ensures c.in-Err.is in
+    let said = refused args.marks.now args.base args.reset args.page.now (sym c.in-Err.is ∙ stays) in
     record { answer = said.0; page = said.1 }
 
 pub overflow_cast-length : goal.overflow_cast-length

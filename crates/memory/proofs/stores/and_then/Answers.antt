@@ -2,5 +2,5 @@
 use mathlib.Core.Path.{refl}
 use Rattle.memory.proofs.stores.and_then.Goals as goal
 
-pub returns-in-Unserved : goal.returns-in-Unserved
-returns-in-Unserved c = rw c.in-Unserved.is refl
+pub returns-in-Err : goal.returns-in-Err
+returns-in-Err c = rw c.in-Err.is refl

@@ -19,7 +19,7 @@ slice_bounds-put_row-end c =
     let mark = get_or args.marks.now args.at 0 in
     let fits =
     fits_at args.image.now args.at (mark_m mark) (mark_x mark) c.layout_at.result c.layout_at.ensures
-    c.in-Fits.layout c.in-Fits.is in
+    c.in-Ok.layout c.in-Ok.is in
     omega (arith, fits)
 
 pub put_row-requires : goal.put_row-requires
@@ -29,21 +29,21 @@ put_row-requires c =
     rw (c.is_start.ensures, c.byte_at-mark.ensures) at c.if-not-is_start.false in
     let size =
     whole_size args.image.now args.marks.now args.base args.at started c.layout_at.result c.layout_at.ensures
-    c.in-Fits.layout c.in-Fits.is in
+    c.in-Ok.layout c.in-Ok.is in
     omega (arith, c.requires.2, size)
 
-pub returns-in-Fits : goal.returns-in-Fits
-returns-in-Fits c =
+pub returns-in-Ok : goal.returns-in-Ok
+returns-in-Ok c =
     let args = c.args in
-    let f = c.in-Fits.layout in
+    let f = c.in-Ok.layout in
     let started : is_start (get_or args.marks.now args.at 0) ≡ true =
     rw (c.is_start.ensures, c.byte_at-mark.ensures) at c.if-not-is_start.false in
     let size =
     whole_size args.image.now args.marks.now args.base args.at started c.layout_at.result c.layout_at.ensures f
-    c.in-Fits.is in (
+    c.in-Ok.is in (
       size,
       whole_put args.image.now args.marks.now args.base args.at started c.layout_at.result c.layout_at.ensures f
-          c.in-Fits.is c.byte_at-mark.result (args.at + f.length - args.at) c.put_row.new.page args.page.now
+          c.in-Ok.is c.byte_at-mark.result (args.at + f.length - args.at) c.put_row.new.page args.page.now
           c.byte_at-mark.ensures (omega arith) c.put_row.ensures,
     )
 

@@ -7,13 +7,13 @@ use lib.ListN.{length}
 use mathlib.Core.Path.{sym, ap, ◌∙◌}
 use Rattle.runs.proofs.bytes.run.Goals as goal
 
-pub returns-in-Failed : goal.returns-in-Failed
-returns-in-Failed c =
+pub returns-in-Err : goal.returns-in-Err
+returns-in-Err c =
     let a = c.args in
     let e =
     sym (run_refused (memory a.ram.now a.image.now a.base) a.bytes.now a.asked c.core_of-core.result
     c.calls_of-calls.result c.core_of-core.ensures c.calls_of-calls.ensures c.fits-taken.result
-    c.fits-taken.ensures c.test_run-tested.result c.test_run-tested.ensures _ c.in-Failed.is) in
+    c.fits-taken.ensures c.test_run-tested.result c.test_run-tested.ensures _ c.in-Err.is) in
     record { answer = ap (λ r. r.answer) e; state = ap (λ r. r.state) e; ram = ap (λ r. r.ram) e }
 
 pub run_steps-steps-requires : goal.run_steps-steps-requires

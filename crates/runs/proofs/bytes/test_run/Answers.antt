@@ -11,10 +11,10 @@ use mathlib.Core.Path.{ap}
 use mathlib.Core.Bool.{not}
 use Rattle.runs.proofs.bytes.test_run.Goals as goal
 
-pub returns-in-Failed : goal.returns-in-Failed
-returns-in-Failed c = ends
+pub returns-in-Err : goal.returns-in-Err
+returns-in-Err c = ends
     (image_tests (length c.args.image.now) (length c.args.image.now) c.args.base) _ c.test_image-tested.ensures
-    c.in-Failed.is
+    c.in-Err.is
 
 pub returns-then-not-ram_fits : goal.returns-then-not-ram_fits
 returns-then-not-ram_fits c = goes_on

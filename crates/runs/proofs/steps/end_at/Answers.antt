@@ -2,5 +2,5 @@
 use mathlib.Core.Path.{refl}
 use Rattle.runs.proofs.steps.end_at.Goals as goal
 
-pub returns-in-Stopped : goal.returns-in-Stopped
-returns-in-Stopped c = rw c.in-Stopped.is refl
+pub returns-in-Err : goal.returns-in-Err
+returns-in-Err c = rw c.in-Err.is refl

@@ -9,5 +9,5 @@ returns-in-Completed c = rw c.in-Completed.is (omega arith)
 pub returns-in-Called : goal.returns-in-Called
 returns-in-Called c = rw c.in-Called.is refl
 
-pub returns-in-Stopped : goal.returns-in-Stopped
-returns-in-Stopped c = rw c.in-Stopped.is (omega arith)
+pub returns-in-Err : goal.returns-in-Err
+returns-in-Err c = rw c.in-Err.is (omega arith)
