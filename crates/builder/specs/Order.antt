@@ -1,7 +1,8 @@
 -- How marks are worked out from those of the listed routines: starts are put one after another, the place of each at
 -- the end of an order, and the order is gone through from its first to its last, also to those that are put meanwhile.
 -- Assumes nothing.
-use Rattle.std.specs.Prelude.{◌≡◌, ℕ, ◌-◌, ◌≤◌, ◌<◌, Bool, true, not, ◌&&◌, List, ltb, leb, length, get_or, set, Ok, Err}
+use Rattle.std.specs.Prelude.{◌≡◌, ℕ, ◌-◌, ◌≤◌, ◌<◌, Bool, true, not, ◌&&◌, List, ltb, leb, length, get_or, set}
+use Rattle.std.specs.Prelude.{Ok, Err}
 use Rattle.types.specs.Answers.{Decoded}
 use Rattle.types.specs.declared.rules.Requirements.{Requirements}
 use Rattle.prelude.specs.Choice.{pick}

@@ -30,6 +30,7 @@ pub struct Code {
 }
 
 // The entry of a code of a page.
+#[tactic(auto, using(codepages::proofs::Unpacked::unpacked_at))]
 pub fn entry_at(page: usize, code: u8) -> Entry
     requires { page < 3 }
     ensures { result ≡ entry_at page code }
@@ -65,6 +66,7 @@ pub fn length_at(entry: Entry, m: u8, x: u8) -> u8
 }
 
 // The length of the code that a number keeps. Two bits stand for the rules that add a byte; its own rule takes one.
+#[tactic(auto, using(crate::proofs::Lengths::length_by_bits))]
 pub fn length_of(number: u32, m: u8, x: u8) -> u8
     ensures { result ≡ length_at (unpacked number) m x }
 {
@@ -120,6 +122,7 @@ fn code_behind_prefix(image: &[u8], at: usize) -> Result<Code, Undecoded>
 }
 
 // The code at a place. Most stand on the first page, where no prefix is a carried code.
+#[tactic(auto, using(crate::proofs::Layouts::coded_plain))]
 fn code_at(image: &[u8], at: usize) -> Result<Code, Undecoded>
     requires { at < length image.now }
     ensures { result ≡ code_read (drop at image.now) }
@@ -132,6 +135,7 @@ fn code_at(image: &[u8], at: usize) -> Result<Code, Undecoded>
 }
 
 // The layout of what stands at a place of an image, at the widths m and x.
+#[tactic(auto, using(crate::proofs::Layouts::layout_past, crate::proofs::Layouts::layout_at_lem))]
 pub fn layout_at(image: &[u8], at: usize, m: u8, x: u8) -> Result<Layout, Undecoded>
     ensures { result ≡ layout_read (drop at image.now) m x }
 {
@@ -145,7 +149,8 @@ pub fn layout_at(image: &[u8], at: usize, m: u8, x: u8) -> Result<Layout, Undeco
 // as one that is read there does, so that no byte is tested.
 pub fn operand_at(image: &[u8], at: usize, layout: Layout) -> u64
     requires { Fitting (length image.now - at) layout }
-    ensures { (result ≡ spec.operand_of (drop at image.now) layout.prefix layout.length) × (result < 1_099_511_627_776) }
+    ensures { (result ≡ spec.operand_of (drop at image.now) layout.prefix layout.length)
+        × (result < 1_099_511_627_776) }
 {
     let prefix = layout.prefix;
     let length = layout.length;
@@ -170,6 +175,7 @@ fn instruction_at(image: &[u8], at: usize, layout: Layout) -> Instruction
 }
 
 // What stands at a place of an image, at the widths m and x.
+#[tactic(auto, using(crate::proofs::Layouts::decoded_layout))]
 pub fn decode_at(image: &[u8], at: usize, m: u8, x: u8) -> Decoded
     ensures { result ≡ spec.decode (drop at image.now) m x }
 {

@@ -27,7 +27,8 @@ use types::code::{
     Accumulator, DataWidth, Entry, Flow, Kind, LengthRule, Mode, Target, WidthEffect,
 };
 
-// The mode of a number, in the order of the definition's list; any other number gives the first, here and below.
+// The mode of a number, in the order of the definition's list; any other number gives the first, here and below. These
+// are no From: the number is a field of a packed entry, and no other form of the value.
 fn mode_at(n: u32) -> Mode
     ensures { result ≡ get_or modes n Mode.Implied }
 {
@@ -141,6 +142,7 @@ fn width_at(n: u32) -> DataWidth
 }
 
 // Single fields of the entry that a number keeps, for those who need not have all of it.
+#[tactic(auto, unfolding(codepages::specs::Packing::unpacked))]
 pub fn mode_of(n: u32) -> Mode
     ensures { result ≡ (unpacked n).mode }
 {
@@ -148,6 +150,7 @@ pub fn mode_of(n: u32) -> Mode
 }
 
 // The accumulator that the syntax names.
+#[tactic(auto, unfolding(codepages::specs::Packing::unpacked))]
 pub fn accumulator_of(n: u32) -> Accumulator
     ensures { result ≡ (unpacked n).accumulator }
 {
@@ -155,6 +158,7 @@ pub fn accumulator_of(n: u32) -> Accumulator
 }
 
 // Whether the code is carried.
+#[tactic(auto, unfolding(codepages::specs::Packing::unpacked))]
 pub fn is_carried(n: u32) -> bool
     ensures { result ≡ (unpacked n).carried }
 {
@@ -162,6 +166,7 @@ pub fn is_carried(n: u32) -> bool
 }
 
 // Where control goes from the instruction.
+#[tactic(auto, unfolding(codepages::specs::Packing::unpacked))]
 pub fn flow_of(n: u32) -> Flow
     ensures { result ≡ (unpacked n).flow }
 {
@@ -169,6 +174,7 @@ pub fn flow_of(n: u32) -> Flow
 }
 
 // How the operand names the target.
+#[tactic(auto, unfolding(codepages::specs::Packing::unpacked))]
 pub fn target_form_of(n: u32) -> Target
     ensures { result ≡ (unpacked n).target }
 {
@@ -176,6 +182,7 @@ pub fn target_form_of(n: u32) -> Target
 }
 
 // What the instruction does to m and x.
+#[tactic(auto, unfolding(codepages::specs::Packing::unpacked))]
 pub fn effect_of(n: u32) -> WidthEffect
     ensures { result ≡ (unpacked n).effect }
 {
@@ -190,6 +197,7 @@ pub fn keeps_widths(n: u32) -> bool
 }
 
 // The bytes at m=1 and x=1.
+#[tactic(auto, unfolding(codepages::specs::Packing::unpacked))]
 pub fn bytes_of(n: u32) -> u8
     ensures { (result ≡ (unpacked n).bytes) × (result ≤ 7) }
 {
@@ -197,6 +205,7 @@ pub fn bytes_of(n: u32) -> u8
 }
 
 // Which width adds a byte.
+#[tactic(auto, unfolding(codepages::specs::Packing::unpacked))]
 pub fn rule_of(n: u32) -> LengthRule
     ensures { result ≡ (unpacked n).rule }
 {
@@ -204,6 +213,7 @@ pub fn rule_of(n: u32) -> LengthRule
 }
 
 // Which width the data has.
+#[tactic(auto, unfolding(codepages::specs::Packing::unpacked))]
 pub fn width_of(n: u32) -> DataWidth
     ensures { result ≡ (unpacked n).width }
 {

@@ -130,14 +130,14 @@ const WORDS: [[u8; 64]; 8] = [
 ];
 
 // The operation that an entry's number keeps.
+#[tactic(auto, unfolding(codepages::specs::Packing::unpacked))]
 pub fn operation_of(n: u32) -> Operation
     ensures { result ≡ (unpacked n).operation }
 {
     let k = (n % 128) as usize;
-    if k < COUNT {
-        OPERATIONS[k]
-    } else {
-        Operation::Unassigned
+    match OPERATIONS.get(k) {
+        Some(operation) => *operation,
+        None => Operation::Unassigned,
     }
 }
 

@@ -8,7 +8,8 @@ use Rattle.reports.specs.Locate.{is_ascending, all_inside}
 -- ---- in order
 
 all_ascend : (addresses : List ℕ)
-    → ((k : ℕ) → k + 1 < length addresses → true ≡ ltb (slice_index_or addresses k 0) (slice_index_or addresses (k + 1) 0))
+    → ((k : ℕ) → k + 1 < length addresses
+    → true ≡ ltb (slice_index_or addresses k 0) (slice_index_or addresses (k + 1) 0))
     → true ≡ is_ascending addresses
 unfolding is_ascending
 all_ascend [] each = refl

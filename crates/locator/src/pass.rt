@@ -28,10 +28,10 @@ fn read_mark(state: Passing, at: usize, mark: u8) -> Passing
         return state;
     }
     Passing {
-        served: state.served,
         start: at,
         mark,
         end: 0,
+        ..state
     }
 }
 
@@ -97,9 +97,8 @@ fn serve(
     places[k] = place_number(state, end, base, at);
     Passing {
         served: k + 1,
-        start: state.start,
-        mark: state.mark,
         end,
+        ..state
     }
 }
 
@@ -127,6 +126,7 @@ pub(crate) fn pass_marks(
         mark: 0,
         end: 0,
     };
+    // The pass ends with the last address, wherever that lies, so no range counts the marks.
     let mut i = 0;
     while state.served < addresses.len() {
         state = read_mark(state, i, marks[i]);

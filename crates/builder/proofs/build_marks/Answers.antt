@@ -14,7 +14,8 @@ pub returns-in_err-test_form : goal.returns-in_err-test_form
 returns-in_err-test_form c =
     let args = c.args in
     let said =
-    form_fails args.image.now args.base args.reset args.routines.now args.marks.now _ _ c.in_err-test_form.ensures refl in
+    form_fails args.image.now args.base args.reset args.routines.now args.marks.now _ _
+    c.in_err-test_form.ensures refl in
     let p = err_from_is_err_and c.from_residual.result c.from_residual.ensures.1 in
     record { answer = rw (p.1, p.2) said.0; marks = said.1 }
 
