@@ -111,7 +111,7 @@ module _ (c : Core) (i : Instruction) where
   called : (kind : Kind) (place address : ℕ) (stores : Stores) → c.depth < call_limit → place ≡ spec.target c i
       → address ≡ spec.next c i → listed stores ≡ spec.pushes_return c i kind
       → changes
-      (change (with_s (pushed_at r (return_bytes kind)) r) place (CallChange.Open address (kind_number kind))
+      (change (with_s (pushed_at r (return_bytes kind)) r) place (CallChange.Open address kind)
       (listed stores))
       ≡ spec.calls c i kind
   unfolding spec.calls_within
@@ -186,7 +186,7 @@ module _ (i : Fetched) (m : Memory) (place depth : ℕ) (file calls : List ℕ) 
         after = with_s (pushed_at here (return_bytes kind)) here
 
         opened_so : (to : ℕ) → to ≡ target_address (instruction i) place
-            → finished (changes (change after to (CallChange.Open next (kind_number kind)) (listed stores))) i m place
+            → finished (changes (change after to (CallChange.Open next kind) (listed stores))) i m place
             depth file calls
             ≡ finished (spec.calls core (instruction i) kind) i m place depth file calls
         opened_so to e =
@@ -200,7 +200,7 @@ module _ (i : Fetched) (m : Memory) (place depth : ℕ) (file calls : List ℕ) 
             → left t file calls m.ram ≡ finished (spec.calls core (instruction i) kind) i m place depth file calls
         stops_pushing stop t e e' =
             stops_at_stores i m place depth file calls after (target_address (instruction i) place)
-            (CallChange.Open next (kind_number kind)) (listed stores) stop t e (sym tested ∙ e')
+            (CallChange.Open next kind) (listed stores) stop t e (sym tested ∙ e')
             ∙ opened_so (target_address (instruction i) place) refl
 
         pub calls_so : (to entry : ℕ) (file' ram' : List ℕ) → to ≡ target_address (instruction i) place → w ≡ Ok tt
@@ -209,7 +209,7 @@ module _ (i : Fetched) (m : Memory) (place depth : ℕ) (file calls : List ℕ) 
             → left (step_result (Ok Completion.Call) to (depth + 1)) file' (set calls depth entry) ram'
             ≡ finished (spec.calls core (instruction i) kind) i m place depth file calls
         calls_so to entry file' ram' is-to all is-entry same is-ram =
-            completes i m place depth file calls after to (CallChange.Open next (kind_number kind)) (listed stores)
+            completes i m place depth file calls after to (CallChange.Open next kind) (listed stores)
             file'
             (set calls depth entry) ram' (sym tested ∙ all) same (ap (set calls depth) is-entry) is-ram
             ∙ opened_so to is-to
