@@ -9,8 +9,8 @@ use crate::header::{header_shown, header_size, is_header, is_old};
 use crate::lines::{first_address, line_size, mark_shown};
 use image::test_image;
 use types::addresses::BANK_SIZE;
-use types::lists::{Header, ListRead};
-use types::refusals::{Refusal, TestResult};
+use types::lists::Header;
+use types::refusals::Refusal;
 
 // Where a text goes on behind its lines from a place on, for so many addresses in turn.
 fn lines_end(text: &[u8], at: usize, old: bool, address: u32, count: u32) -> usize
@@ -58,17 +58,14 @@ fn bank_fits(old: bool, base: u32, n: usize) -> bool
 
 // 1, 2: what is tested of a list, of marks or of routines, beside an image of so many bytes at a base, for so many
 // marks.
-pub fn test_beside_image(old: bool, image: usize, marks: usize, base: u32) -> TestResult
+pub fn test_beside_image(old: bool, image: usize, marks: usize, base: u32) -> Result<(), Refusal>
     ensures { result ≡ first_refusal (spec.list_tests old image marks base) }
 {
-    let tested = test_image(image, marks, base);
-    if let TestResult::Failed(_) = tested {
-        return tested;
-    }
+    test_image(image, marks, base)?;
     if !bank_fits(old, base, image) {
-        return TestResult::Failed(Refusal::Base);
+        return Err(Refusal::Base);
     }
-    TestResult::Passed
+    Ok(())
 }
 
 // Number 3: among the marks that a list shows stands the required start at its reset address.
@@ -110,33 +107,27 @@ pub fn fill_marks(text: &[u8], at: usize, old: bool, address: u32, marks: &mut [
 }
 
 // 14, 1, 2, 3: what is tested of a text that shows a first line, for so many marks.
-fn test_list(text: &[u8], old: bool, h: Header, marks: usize) -> TestResult
+fn test_list(text: &[u8], old: bool, h: Header, marks: usize) -> Result<(), Refusal>
     ensures { result ≡ first_refusal (spec.read_tests old h text.now marks) }
 {
     if !is_list(text, old, h) {
-        return TestResult::Failed(Refusal::List);
+        return Err(Refusal::List);
     }
-    let tested = test_beside_image(old, h.length as usize, marks, h.base);
-    if let TestResult::Failed(_) = tested {
-        return tested;
-    }
+    test_beside_image(old, h.length as usize, marks, h.base)?;
     if !reset_shown(text, old, h) {
-        return TestResult::Failed(Refusal::Reset);
+        return Err(Refusal::Reset);
     }
-    TestResult::Passed
+    Ok(())
 }
 
 // Reads a list: its first line, and its marks into the lent ones.
-pub fn read_list(text: &[u8], marks: &mut [u8]) -> ListRead
+pub fn read_list(text: &[u8], marks: &mut [u8]) -> Result<Header, Refusal>
     ensures answer { result ≡ spec.read_list text.now marks.old }
     ensures marks { marks.new ≡ spec.marks_read text.now marks.old }
 {
     let old = is_old(text);
     let h = header_shown(text);
-    let tested = test_list(text, old, h, marks.len());
-    if let TestResult::Failed(why) = tested {
-        return ListRead::NotRead(why);
-    }
+    test_list(text, old, h, marks.len())?;
     fill_marks(
         text,
         header_size(old, h),
@@ -144,5 +135,5 @@ pub fn read_list(text: &[u8], marks: &mut [u8]) -> ListRead
         first_address(old, h.base),
         marks,
     );
-    ListRead::Read(h)
+    Ok(h)
 }

@@ -5,8 +5,8 @@ ghost use Rattle.lists.specs.MarkList as spec;
 use crate::header::{header_size, put_header};
 use crate::lines::{first_address, line_size, put_line};
 use image::test_marks;
-use types::lists::{Header, ListWritten};
-use types::refusals::{Refusal, TestResult};
+use types::lists::Header;
+use types::refusals::Refusal;
 
 // How many bytes the lines of marks have.
 fn lines_size(marks: &[u8]) -> usize
@@ -39,14 +39,11 @@ fn put_lines(page: &mut [u8], address: u32, marks: &[u8])
 }
 
 // Writes a list at the front of a page.
-pub fn write_list(marks: &[u8], base: u32, reset: u32, page: &mut [u8]) -> ListWritten
+pub fn write_list(marks: &[u8], base: u32, reset: u32, page: &mut [u8]) -> Result<usize, Refusal>
     ensures answer { result ≡ spec.write_list marks.now base reset page.old }
     ensures page { page.new ≡ spec.page_written marks.now base reset page.old }
 {
-    let tested = test_marks(marks.len(), marks, base, reset);
-    if let TestResult::Failed(why) = tested {
-        return ListWritten::NotWritten(why);
-    }
+    test_marks(marks.len(), marks, base, reset)?;
     let length = marks.len() as u32;
     let h = Header {
         base,
@@ -56,9 +53,9 @@ pub fn write_list(marks: &[u8], base: u32, reset: u32, page: &mut [u8]) -> ListW
     let first = header_size(false, h);
     let size = first + lines_size(marks);
     if page.len() < size {
-        return ListWritten::NotWritten(Refusal::Page);
+        return Err(Refusal::Page);
     }
     put_header(page, false, h);
     put_lines(&mut page[first..], first_address(false, base), marks);
-    ListWritten::Written(size)
+    Ok(size)
 }

@@ -4,7 +4,8 @@ use mathlib.Core.Bool.{false}
 use mathlib.Core.List.{List}
 use Prim.Native.Nat.{ℕ, ◌+◌, ◌≤◌}
 use native.Mathlib.Omega.{arith}
-use mathlib.Core.Path.{◌≡◌, sym, ◌∙◌}
+use Rattle.std.proofs.lemmas.Result.{err_from_is_err_and}
+use mathlib.Core.Path.{◌≡◌, refl, sym, ◌∙◌}
 use lib.ListN.{length}
 use Rattle.types.specs.Answers.{TestResult}
 use Rattle.types.specs.Addresses.{image_limit}
@@ -26,27 +27,28 @@ few_marks marks base reset passed =
     (right_length (length marks) (length marks) (shown (marks_tests (length marks) marks base reset)
     (sym passed)).0).few
 
-pub returns-in-Err : goal.returns-in-Err
-returns-in-Err c =
+pub returns-in_err-test_marks : goal.returns-in_err-test_marks
+returns-in_err-test_marks c =
     let args = c.args in
     let stays =
     ends (marks_tests (length args.marks.now) args.marks.now args.base args.reset) _
-    c.test_marks-tested.ensures c.in-Err.is in
-    let said = refused args.marks.now args.base args.reset args.page.now (sym c.in-Err.is ∙ stays) in
-    record { answer = said.0; page = said.1 }
+    c.in_err-test_marks.ensures refl in
+    let said = refused args.marks.now args.base args.reset args.page.now stays in
+    let p = err_from_is_err_and c.from_residual.result c.from_residual.ensures.1 in
+    record { answer = rw (p.1, p.2) said.0; page = said.1 }
 
 pub overflow_cast-length : goal.overflow_cast-length
 overflow_cast-length c = omega (
   arith,
   few_marks c.args.marks.now c.args.base c.args.reset
-      (sym c.in_default.is ∙ c.test_marks-tested.ensures),
+      c.in_ok-test_marks.ensures,
 )
 
 pub lines_size-requires : goal.lines_size-requires
 lines_size-requires c = omega (
   arith,
   few_marks c.args.marks.now c.args.base c.args.reset
-      (sym c.in_default.is ∙ c.test_marks-tested.ensures),
+      c.in_ok-test_marks.ensures,
 )
 
 pub overflow_add-size : goal.overflow_add-size
@@ -54,7 +56,7 @@ overflow_add-size c =
     let args = c.args in
     omega (
       arith,
-      few_marks c.args.marks.now c.args.base c.args.reset (sym c.in_default.is ∙ c.test_marks-tested.ensures),
+      few_marks c.args.marks.now c.args.base c.args.reset c.in_ok-test_marks.ensures,
       c.header_size-first.ensures,
       small_header false (first_line args.marks.now args.base args.reset args.page.now),
       c.lines_size.ensures 0,
@@ -68,7 +70,7 @@ returns-then-page-size c =
     list_size args.marks.now args.base args.reset args.page.now c.header_size-first.result
     c.lines_size.result c.header_size-first.ensures c.lines_size.ensures in
     let said = refused args.marks.now args.base args.reset args.page.now
-    (short_page args.marks.now args.base args.reset args.page.now (sym c.in_default.is ∙ c.test_marks-tested.ensures)
+    (short_page args.marks.now args.base args.reset args.page.now c.in_ok-test_marks.ensures
     (c.header_size-first.result + c.lines_size.result) size c.if-page-size.true) in
     record { answer = said.0; page = said.1 }
 
@@ -84,7 +86,7 @@ put_lines-requires c =
       omega (
         arith,
         few_marks c.args.marks.now c.args.base c.args.reset
-            (sym c.in_default.is ∙ c.test_marks-tested.ensures),
+            c.in_ok-test_marks.ensures,
         c.first_address.ensures.1,
       ),
     )
@@ -101,7 +103,7 @@ returns c =
     c.lines_size.result c.header_size-first.ensures c.lines_size.ensures room
     c.put_header.ensures in
     let answer =
-    is_written args.marks.now args.base args.reset args.page.now (sym c.in_default.is ∙ c.test_marks-tested.ensures)
+    is_written args.marks.now args.base args.reset args.page.now c.in_ok-test_marks.ensures
     (c.header_size-first.result + c.lines_size.result) size room in
     let page =
     list_put args.marks.now args.base args.reset args.page.now c.header_size-first.result
