@@ -26,6 +26,14 @@ impl Model for Address {
 }
 
 impl Address {
+    // The address of a number. Asks for one of 24 bits.
+    pub fn new(number: u32) -> Address
+        requires { number < address_limit }
+        ensures { result ≡ number }
+    {
+        Address { number }
+    }
+
     // A number as an address: beyond the last they count on from the first.
     pub fn wrapped(number: u32) -> Address
         ensures { result ≡ number % address_limit }
