@@ -98,7 +98,10 @@ fn reset_fits(marks: &[u8], base: u32, reset: u32) -> bool
 pub fn bad_mark(marks: &[u8]) -> usize
     ensures { result ≡ bad_mark marks.now }
 {
-    marks.iter().position(|mark| !is_formed(*mark)).unwrap_or(marks.len())
+    marks
+        .iter()
+        .position(|mark| !is_formed(*mark))
+        .unwrap_or(marks.len())
 }
 
 // Every mark has the form. The fold goes through all of them, without a branch that hangs on a mark.

@@ -1,10 +1,10 @@
 -- The library's searches of a list say what the first place says: `position` gives that place, `all` that it is the
 -- end.
 -- Assumes nothing.
-use mathlib.Core.Path.{◌≡◌, refl, ◌∙◌}
+use mathlib.Core.Path.{◌≡◌, refl, sym, ◌∙◌}
 use mathlib.Core.Bool.{Bool, true, false, not, cond, ◌&&◌}
 use mathlib.Core.List.{List, [], ◌∷◌}
-use Prim.Native.Nat.{ℕ, suc, ◌+◌, ◌<◌}
+use Prim.Native.Nat.{ℕ, suc, ◌+◌, ◌≤◌, ◌<◌}
 use native.Mathlib.Nat.{add-zero, zero-add}
 use native.Mathlib.Omega.{arith}
 use borrow.Author.Tests.{eq-eqb, ne_eqb}
@@ -14,8 +14,10 @@ use Rattle.std.proofs.lemmas.Iterator.{index_from_first}
 use Rattle.std.specs.List.{AllWithin, HoldsAt, list_all, position_or_len}
 use Rattle.std.specs.Option.{MatchOption, unwrap_or}
 use Rattle.std.specs.declared.option.Option.{Option}
+use Rattle.std.specs.declared.option.Option.TheVariants.{Some, None}
 use Rattle.prelude.specs.Choice.{pick}
 use Rattle.prelude.specs.First.{first_from}
+use Rattle.prelude.proofs.First.{passed_all, passed_to}
 
 -- a test of places is a test of what stands there
 abbrev Reads : (ℕ → Bool) → (ℕ → Bool) → List ℕ → ℕ → Type 0
@@ -71,3 +73,12 @@ module _ (test p : ℕ → Bool) (xs : List ℕ) where
   pub none_by_all : ((k : ℕ) → k < length xs → test k ≡ not (p (get_or xs k 0)))
       → eqb (first_from test 0 (length xs)) (length xs) ≡ list_all p xs
   none_by_all reads = simp zero-add at (all_from test p xs 0 (λ k inside. rw (zero-add k) (reads k inside)))
+
+-- the same of a search over the first numbers
+pub first_in_range : (test : ℕ → Bool) (n : ℕ) (r : Option ℕ)
+    → MatchOption r ((k : ℕ) → 0 ≤ k → k < n → test k ≡ false)
+    (λ i. (0 ≤ i) × (i < n) × (test i ≡ true) × ((k : ℕ) → 0 ≤ k → k < i → test k ≡ false))
+    → first_from test 0 n ≡ unwrap_or r n
+first_in_range test n None none = sym (passed_all test 0 n n (omega arith, none) (omega arith) (omega arith))
+first_in_range test n (Some i) found =
+    sym (passed_to test 0 i n (omega arith, found.3) (omega (arith, found.1)) found.2)

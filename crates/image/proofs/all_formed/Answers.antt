@@ -4,7 +4,6 @@ use Rattle.std.specs.List.{fold}
 use Rattle.prelude.proofs.Searches.{none_by_all}
 use Rattle.acceptance.specs.Image.{is_formed}
 use Rattle.acceptance.specs.Verdict.{bad_mark, unformed_at}
-use Rattle.image.proofs.Form.{no_malformed}
 use Rattle.image.proofs.Forms.{told, all_told}
 use Rattle.image.proofs.all_formed.Goals as goal
 
