@@ -33,7 +33,7 @@ fn try_records<F: Fn(&mut Records) -> Trial>(
 ) -> io::Result<()>
     requires { F.IsAlwaysCallable try_record }
 {
-    let count = records.u32();
+    let count = records.take_u32();
     let mut agreed: u64 = 0;
     for _ in 0..count {
         if let Some(number) = try_record(&mut records)? {

@@ -2,10 +2,10 @@
 use std::alloc::{AllocError, Global};
 
 // A list's length has at most five digits, and no image, page or buffer of the machine's in a record is longer.
-const BYTES: usize = 100_000;
+pub(crate) const BYTES: usize = 100_000;
 
 // More numbers than any list of addresses or places has.
-const WORDS: usize = 4_096;
+pub(crate) const WORDS: usize = 4_096;
 
 // What is left of a vector file. Each method takes a part from its front. Once the file, or the buffer for a part, does
 // not hold it, nothing is left: every part from then on is 0 or empty.
@@ -14,7 +14,7 @@ pub(crate) struct Records<'a> {
     rest: Option<&'a [u8]>,
     // The file has long images and marks.
     long: bool,
-    alloc: Global,
+    pub(crate) alloc: Global,
 }
 
 impl<'a> Records<'a> {
@@ -37,117 +37,110 @@ impl<'a> Records<'a> {
         self.rest.is_some_and(|rest| rest.is_empty())
     }
 
-    // So many times a byte, or as many times as there is room for it.
-    pub(crate) fn bytes_of(&self, byte: u8, size: usize) -> Result<Vec<u8>, AllocError> {
-        vec![in self.alloc; byte; size.min(BYTES)]
-    }
-
-    // Of a number.
-    pub(crate) fn words_of(&self, word: u32, size: usize) -> Result<Vec<u32>, AllocError> {
-        vec![in self.alloc; word; size.min(WORDS)]
-    }
-
     // So many bytes.
     fn take(&mut self, size: usize) -> &'a [u8] {
-        let parts = self.rest.and_then(|rest| rest.split_at_checked(size));
-        self.rest = parts.map(|(_, rest)| rest);
-        parts.map_or(&[], |(part, _)| part)
+        let Some((part, rest)) = self.rest.and_then(|rest| rest.split_at_checked(size)) else {
+            self.rest = None;
+            return &[];
+        };
+        self.rest = Some(rest);
+        part
     }
 
-    fn array<const N: usize>(&mut self) -> [u8; N] {
+    fn take_array<const N: usize>(&mut self) -> [u8; N] {
         self.take(N).first_chunk().copied().unwrap_or([0; N])
     }
 
-    pub(crate) fn u64(&mut self) -> u64 {
-        u64::from_le_bytes(self.array())
+    pub(crate) fn take_u64(&mut self) -> u64 {
+        u64::from_le_bytes(self.take_array())
     }
 
-    pub(crate) fn u32(&mut self) -> u32 {
-        u32::from_le_bytes(self.array())
+    pub(crate) fn take_u32(&mut self) -> u32 {
+        u32::from_le_bytes(self.take_array())
     }
 
-    fn u16(&mut self) -> u16 {
-        u16::from_le_bytes(self.array())
+    fn take_u16(&mut self) -> u16 {
+        u16::from_le_bytes(self.take_array())
     }
 
-    fn u8(&mut self) -> u8 {
-        u8::from_le_bytes(self.array())
+    fn take_u8(&mut self) -> u8 {
+        u8::from_le_bytes(self.take_array())
     }
 
     // Bytes behind their length.
-    pub(crate) fn bytes(&mut self) -> &'a [u8] {
-        let size = self.u32();
+    pub(crate) fn take_bytes(&mut self) -> &'a [u8] {
+        let size = self.take_u32();
         self.take(size as usize)
     }
 
     // So many bytes, which replace those of a buffer from an offset on.
-    pub(crate) fn replace(&mut self, buffer: &mut [u8], offset: usize, size: usize) {
+    pub(crate) fn take_over(&mut self, buffer: &mut [u8], offset: usize, size: usize) {
         let part = self.take(size);
-        match buffer
+        let place = buffer
             .get_mut(offset..)
-            .and_then(|behind| behind.get_mut(..part.len()))
-        {
+            .and_then(|behind| behind.get_mut(..part.len()));
+        match place {
             Some(place) => place.copy_from_slice(part),
             None => self.rest = None,
         }
     }
 
     // Pieces, which replace bytes of a buffer.
-    pub(crate) fn pieces(&mut self, buffer: &mut [u8]) {
-        for _ in 0..self.u16() {
-            let offset = self.u16();
-            let size = self.u16();
-            self.replace(buffer, offset as usize, size as usize);
+    pub(crate) fn take_pieces(&mut self, buffer: &mut [u8]) {
+        for _ in 0..self.take_u16() {
+            let offset = self.take_u16();
+            let size = self.take_u16();
+            self.take_over(buffer, offset as usize, size as usize);
         }
     }
 
     // Fills a buffer with bytes that grow by the same number, modulo 256, and takes pieces.
-    fn fill(&mut self, buffer: &mut [u8]) {
-        let mut byte = self.u8();
-        let by = self.u8();
+    fn take_filled(&mut self, buffer: &mut [u8]) {
+        let mut byte = self.take_u8();
+        let by = self.take_u8();
         for place in buffer.iter_mut() {
             *place = byte;
             byte = byte.wrapping_add(by);
         }
-        self.pieces(buffer);
+        self.take_pieces(buffer);
     }
 
     // A buffer.
-    pub(crate) fn buffer(&mut self) -> Result<Vec<u8>, AllocError> {
-        let size = self.u16();
-        let mut buffer = self.bytes_of(0, size as usize)?;
-        self.fill(&mut buffer);
+    pub(crate) fn take_buffer(&mut self) -> Result<Vec<u8>, AllocError> {
+        let size = self.take_u16();
+        let mut buffer = vec![in self.alloc; 0; size as usize]?;
+        self.take_filled(&mut buffer);
         Ok(buffer)
     }
 
     // An image or marks: bytes behind their length or, in a file of long ones, a long buffer.
-    pub(crate) fn whole(&mut self) -> Result<Vec<u8>, AllocError> {
-        let size = self.u32() as usize;
-        let mut whole = self.bytes_of(0, size)?;
+    pub(crate) fn take_whole(&mut self) -> Result<Vec<u8>, AllocError> {
+        let size = self.take_u32() as usize;
+        let mut whole = vec![in self.alloc; 0; size.min(BYTES)]?;
         if self.long {
-            self.fill(&mut whole);
+            self.take_filled(&mut whole);
         } else {
-            self.replace(&mut whole, 0, size);
+            self.take_over(&mut whole, 0, size);
         }
         Ok(whole)
     }
 
     // Marks that a call must leave: all of them or, in a file of long ones, a long buffer.
-    pub(crate) fn marks_after(&mut self, after: &mut [u8]) {
+    pub(crate) fn take_after(&mut self, after: &mut [u8]) {
         if self.long {
-            let size = after.len().min(self.u32() as usize);
-            self.fill(&mut after[..size]);
+            let size = after.len().min(self.take_u32() as usize);
+            self.take_filled(&mut after[..size]);
         } else {
-            self.replace(after, 0, after.len());
+            self.take_over(after, 0, after.len());
         }
     }
 
     // So many numbers of four bytes, which replace the first of a list.
-    pub(crate) fn words(&mut self, list: &mut [u32], size: usize) {
+    pub(crate) fn take_words(&mut self, list: &mut [u32], size: usize) {
         match list.get_mut(..size) {
             Some(words) => {
                 for word in words {
-                    *word = self.u32();
+                    *word = self.take_u32();
                 }
             }
             None => self.rest = None,

@@ -2,7 +2,7 @@
 // makes the call, and compares the answer and every byte of each lent buffer with what the record says. Where all agree
 // it returns the number of the answer.
 
-use crate::parts::Records;
+use crate::parts::{BYTES, Records, WORDS};
 use loader::{
     m7700_build_marks, m7700_check, m7700_explain, m7700_locate, m7700_print, m7700_read_list,
     m7700_run, m7700_step, m7700_write_list,
@@ -27,11 +27,11 @@ fn number_of(answer: u64) -> usize {
 
 // A check and its answer.
 pub(crate) fn try_check(records: &mut Records) -> Trial {
-    let base = records.u32();
-    let reset = records.u32();
-    let image = records.whole()?;
-    let marks = records.whole()?;
-    let answer = records.u32();
+    let base = records.take_u32();
+    let reset = records.take_u32();
+    let image = records.take_whole()?;
+    let marks = records.take_whole()?;
+    let answer = records.take_u32();
     let agrees = m7700_check(&image, &marks, base, reset) == answer;
     Ok(agrees.then_some((answer / 65_536) as usize))
 }
@@ -56,16 +56,16 @@ where
     F: FnOnce(&[u8], u32, u32, &mut [u8], &mut [u8]) -> Option<u64>,
     requires { F.IsAlwaysCallable machine }
 {
-    let base = records.u32();
-    let steps = records.u32();
-    let image = records.whole()?;
-    let mut state = records.buffer()?;
-    let mut ram = records.buffer()?;
-    let answer = records.u64();
+    let base = records.take_u32();
+    let steps = records.take_u32();
+    let image = records.take_whole()?;
+    let mut state = records.take_buffer()?;
+    let mut ram = records.take_buffer()?;
+    let answer = records.take_u64();
     let mut state_after = state.clone()?;
     let mut ram_after = ram.clone()?;
-    records.pieces(&mut state_after);
-    records.pieces(&mut ram_after);
+    records.take_pieces(&mut state_after);
+    records.take_pieces(&mut ram_after);
     let given = machine(&image, base, steps, &mut state, &mut ram);
     let agrees = given == Some(answer) && state == state_after && ram == ram_after;
     Ok(agrees.then_some(run_number(answer)))
@@ -81,13 +81,13 @@ fn run_number(answer: u64) -> usize {
 
 // A list read, and the marks that it leaves.
 pub(crate) fn try_read(records: &mut Records) -> Trial {
-    let text = records.bytes();
-    let size = records.u32() as usize;
-    let answer = records.u64();
-    let mut marks = records.bytes_of(UNREAD, size)?;
+    let text = records.take_bytes();
+    let size = records.take_u32() as usize;
+    let answer = records.take_u64();
+    let mut marks = vec![in records.alloc; UNREAD; size.min(BYTES)]?;
     let mut after = marks.clone()?;
     if number_of(answer) == 0 {
-        records.marks_after(&mut after);
+        records.take_after(&mut after);
     }
     let given = m7700_read_list(text, &mut marks);
     let agrees = marks.len() == size && given == answer && marks == after;
@@ -96,34 +96,31 @@ pub(crate) fn try_read(records: &mut Records) -> Trial {
 
 // A list written.
 pub(crate) fn try_write(records: &mut Records) -> Trial {
-    let base = records.u32();
-    let reset = records.u32();
-    try_page(
-        records,
-        |marks, page| m7700_write_list(marks, base, reset, page),
-    )
+    let base = records.take_u32();
+    let reset = records.take_u32();
+    try_page(records, |marks, page| {
+        m7700_write_list(marks, base, reset, page)
+    })
 }
 
 // An image printed.
 pub(crate) fn try_print(records: &mut Records) -> Trial {
-    let base = records.u32();
-    let reset = records.u32();
-    let image = records.whole()?;
-    try_page(
-        records,
-        |marks, page| m7700_print(&image, marks, base, reset, page),
-    )
+    let base = records.take_u32();
+    let reset = records.take_u32();
+    let image = records.take_whole()?;
+    try_page(records, |marks, page| {
+        m7700_print(&image, marks, base, reset, page)
+    })
 }
 
 // A refusal explained.
 pub(crate) fn try_explain(records: &mut Records) -> Trial {
-    let base = records.u32();
-    let reset = records.u32();
-    let image = records.whole()?;
-    try_page(
-        records,
-        |marks, page| m7700_explain(&image, marks, base, reset, page),
-    )
+    let base = records.take_u32();
+    let reset = records.take_u32();
+    let image = records.take_whole()?;
+    try_page(records, |marks, page| {
+        m7700_explain(&image, marks, base, reset, page)
+    })
 }
 
 // What is written of marks, and the page that it leaves.
@@ -132,13 +129,13 @@ where
     F: FnOnce(&[u8], &mut [u8]) -> u64,
     requires { F.IsAlwaysCallable write }
 {
-    let marks = records.whole()?;
-    let size = records.u32() as usize;
-    let answer = records.u64();
-    let mut page = records.bytes_of(UNWRITTEN, size)?;
+    let marks = records.take_whole()?;
+    let size = records.take_u32() as usize;
+    let answer = records.take_u64();
+    let mut page = vec![in records.alloc; UNWRITTEN; size.min(BYTES)]?;
     let mut after = page.clone()?;
     if number_of(answer) == 0 {
-        records.replace(&mut after, 0, (answer / 256) as usize);
+        records.take_over(&mut after, 0, (answer / 256) as usize);
     }
     let given = write(&marks, &mut page);
     let agrees = page.len() == size && given == answer && page == after;
@@ -147,19 +144,19 @@ where
 
 // Addresses located, and the places that it leaves.
 pub(crate) fn try_locate(records: &mut Records) -> Trial {
-    let base = records.u32();
-    let reset = records.u32();
-    let image = records.whole()?;
-    let marks = records.whole()?;
-    let count = records.u32() as usize;
-    let mut addresses = records.words_of(0, count)?;
-    records.words(&mut addresses, count);
-    let size = records.u32() as usize;
-    let answer = records.u64();
-    let mut places = records.words_of(UNPLACED, size)?;
+    let base = records.take_u32();
+    let reset = records.take_u32();
+    let image = records.take_whole()?;
+    let marks = records.take_whole()?;
+    let count = records.take_u32() as usize;
+    let mut addresses = vec![in records.alloc; 0; count.min(WORDS)]?;
+    records.take_words(&mut addresses, count);
+    let size = records.take_u32() as usize;
+    let answer = records.take_u64();
+    let mut places = vec![in records.alloc; UNPLACED; size.min(WORDS)]?;
     let mut after = places.clone()?;
     if number_of(answer) == 0 {
-        records.words(&mut after, count);
+        records.take_words(&mut after, count);
     }
     let given = m7700_locate(&image, &marks, base, reset, &addresses, &mut places);
     let agrees = places.len() == size && given == answer && places == after;
@@ -168,15 +165,15 @@ pub(crate) fn try_locate(records: &mut Records) -> Trial {
 
 // Marks built from a routine list, and those that it leaves.
 pub(crate) fn try_build(records: &mut Records) -> Trial {
-    let base = records.u32();
-    let reset = records.u32();
-    let image = records.whole()?;
-    let routines = records.bytes();
-    let mut marks = records.whole()?;
-    let answer = records.u64();
+    let base = records.take_u32();
+    let reset = records.take_u32();
+    let image = records.take_whole()?;
+    let routines = records.take_bytes();
+    let mut marks = records.take_whole()?;
+    let answer = records.take_u64();
     let mut after = marks.clone()?;
     if number_of(answer) == 0 {
-        records.marks_after(&mut after);
+        records.take_after(&mut after);
     }
     let given = m7700_build_marks(&image, base, reset, routines, &mut marks);
     let agrees = given == answer && marks == after;
