@@ -1,4 +1,5 @@
-// Reading the files that a program's arguments name.
+// Reading the files that a program's arguments name. Each program keeps its own few lines over it: a function for all
+// of them would take their limits, and what they make of the files with its contract, and be no plainer.
 #![tactic(auto)]
 
 ghost use Rattle.std.specs.Prelude.{◌≤◌, length, IfSome};

@@ -24,7 +24,7 @@ const NUMBERS: usize = 28;
 const FILE_LIMIT: usize = 65_536;
 
 // Tries the records of a file, as many as it says and then nothing more, counts those that agree by their number, and
-// says how many agree.
+// says how many agree. No count comes near its limit; one that would wrap asks for no proof of that.
 fn try_records<F: Fn(&mut Records) -> Trial>(
     rt: &impl Print,
     mut records: Records,

@@ -9,7 +9,7 @@ pub(crate) const WORDS: usize = 4_096;
 
 // What is left of a vector file. Each method takes a part from its front. Once the file, or the buffer for a part, does
 // not hold it, nothing is left: every part from then on is 0 or empty.
-#[derive(Clone, Copy)]
+#[derive(Drop)]
 pub(crate) struct Records<'a> {
     rest: Option<&'a [u8]>,
     // The file has long images and marks.
@@ -47,10 +47,12 @@ impl<'a> Records<'a> {
         part
     }
 
+    // So many bytes as an array.
     fn take_array<const N: usize>(&mut self) -> [u8; N] {
         self.take(N).first_chunk().copied().unwrap_or([0; N])
     }
 
+    // Numbers, the low byte first.
     pub(crate) fn take_u64(&mut self) -> u64 {
         u64::from_le_bytes(self.take_array())
     }
@@ -138,11 +140,7 @@ impl<'a> Records<'a> {
     // So many numbers of four bytes, which replace the first of a list.
     pub(crate) fn take_words(&mut self, list: &mut [u32], size: usize) {
         match list.get_mut(..size) {
-            Some(words) => {
-                for word in words {
-                    *word = self.take_u32();
-                }
-            }
+            Some(words) => words.fill_with(|| self.take_u32()),
             None => self.rest = None,
         }
     }
