@@ -24,7 +24,7 @@ const NUMBERS: usize = 28;
 const FILE_LIMIT: usize = 65_536;
 
 // Tries the records of a file, as many as it says and then nothing more, counts those that agree by their number, and
-// says how many agree. No count comes near its limit; one that would wrap asks for no proof of that.
+// says how many agree.
 fn try_records<F: Fn(&mut Records) -> Trial>(
     rt: &impl Print,
     mut records: Records,
@@ -37,9 +37,10 @@ fn try_records<F: Fn(&mut Records) -> Trial>(
     let mut agreed: u64 = 0;
     for _ in 0..count {
         if let Some(number) = try_record(&mut records)? {
-            agreed = agreed.wrapping_add(1);
-            if let Some(count) = numbers.get_mut(number) {
-                *count = count.wrapping_add(1);
+            agreed += 1;
+            // A wrapping sum, since what other files have counted has no bound here.
+            if let Some(seen) = numbers.get_mut(number) {
+                *seen = seen.wrapping_add(1);
             }
         }
         if records.is_broken() {
