@@ -1,7 +1,6 @@
 // The records of the vector files (sim/README.md, 'Vector files'), a function a kind: it takes the parts in their order,
 // makes the call, and compares the answer and every byte of each lent buffer with what the record says. Where all agree
 // it returns the number of the answer.
-
 use crate::parts::{BYTES, Records, WORDS};
 use loader::{
     m7700_build_marks, m7700_check, m7700_explain, m7700_locate, m7700_print, m7700_read_list,
@@ -103,7 +102,7 @@ pub(crate) fn try_write(records: &mut Records) -> Trial {
     })
 }
 
-// An image printed.
+// An image printed. It and the next are two functions, since a function of C is not passed by its name.
 pub(crate) fn try_print(records: &mut Records) -> Trial {
     let base = records.take_u32();
     let reset = records.take_u32();
