@@ -257,7 +257,7 @@ module _ (i : Fetched) (m : Memory) (place depth : ℕ) (file calls : List ℕ) 
     pub pulls_so : (address : ℕ) (after : Stepped) → w ≡ Some address
         → after ≡ finished (returns_to core (instruction i) opened kind address) i m place depth file calls
         → after ≡ finished (plan_by core (instruction i) m opened (Flow.Return kind)) i m place depth file calls
-    pulls_so address after e is-after =
+    pulls_so address so e is-after =
         is-after
         ∙ ap (λ p. finished p i m place depth file calls)
         (return_to core (instruction i) m opened kind w read address e)
