@@ -10,7 +10,7 @@ use Rattle.types.specs.declared.code.Kind.{Kind}
 use Rattle.types.specs.declared.code.Flow.{Flow}
 use Rattle.types.specs.declared.code.Instruction.{Instruction}
 use Rattle.decoder.specs.declared.Layout.{Layout}
-use Rattle.decoder.specs.declared.LayoutRead.{LayoutRead}
+use Rattle.decoder.specs.Layout.{LayoutRead}
 use Rattle.decoder.specs.Layout.{layout_read, instruction_of, decoded_of}
 use Rattle.decoder.proofs.Layouts.{decoded_layout}
 use Rattle.instructions.specs.Decode.{decode}

@@ -14,7 +14,6 @@ use lib.Dec.{eqb, ltb, leb}
 use lib.ListN.{length, get_or, drop, length-drop}
 use lib.Seq.{get_or-drop}
 use Rattle.types.specs.declared.code.Instruction.{Instruction}
-use Rattle.types.specs.Answers.{Decoded}
 use Rattle.prelude.specs.Choice.{pick}
 use Rattle.instructions.specs.CodeMap.{prefix_bytes, length_at}
 use Rattle.instructions.specs.CodePages.{plain}
@@ -24,10 +23,11 @@ use Rattle.instructions.proofs.CodeMap.{carried_length}
 use Rattle.codepages.specs.Packing.{unpacked, packed_pages, packed_at}
 use Rattle.codepages.proofs.Unpacked.{unpacked_at}
 use Rattle.decoder.specs.declared.Layout.{Layout}
-use Rattle.decoder.specs.declared.LayoutRead.{LayoutRead}
-use Rattle.decoder.specs.declared.CodeRead.{CodeRead}
-use Rattle.decoder.specs.Layout.{fitted, layout_on, layout_read, code_on, code_read, layout_by, instruction_of}
+use Rattle.decoder.specs.Layout.{LayoutRead, CodeRead, fitted, layout_on, layout_read, code_on, code_read, layout_by, instruction_of}
 use Rattle.decoder.specs.Layout.{decoded_of, Fitting, FittingIn}
+
+abbrev pub coded : ℕ → ℕ → CodeRead
+coded n prefix = Ok (record { number = n; prefix = prefix })
 
 chosen : (bytes : List ℕ) (f : Layout) (a b c : Bool)
     → pick a (pick b (pick c (Ok (instruction_of bytes f)) (Err Undecoded.CutOff)) (Err Undecoded.NotCarried)) (Err Undecoded.CutOff)
@@ -103,19 +103,16 @@ module _ (image : List ℕ) (at m x : ℕ) (layout-here : LayoutRead)
         → Ok i ≡ decode (drop at image) m x
     decoded_fits f i e same = rw (decoded_layout (drop at image) m x, ← is-layout, e, same)
 
-    pub decoded_uncarried : layout-here ≡ Err Undecoded.NotCarried → Err Undecoded.NotCarried ≡ decode (drop at image) m x
-    decoded_uncarried e = rw (decoded_layout (drop at image) m x, ← is-layout, e)
-
-    pub decoded_short : layout-here ≡ Err Undecoded.CutOff → Err Undecoded.CutOff ≡ decode (drop at image) m x
-    decoded_short e = rw (decoded_layout (drop at image) m x, ← is-layout, e)
+    pub decoded_not : {why : Undecoded} → layout-here ≡ Err why → Err why ≡ decode (drop at image) m x
+    decoded_not e = rw (decoded_layout (drop at image) m x, ← is-layout, e)
 
 -- a layout goes by its code
-layout_by_lem : (left n prefix m x : ℕ) (a b : Bool)
-    → pick a (pick b (layout_by left (CodeRead.Code n prefix) m x) (Err Undecoded.NotCarried)) (Err Undecoded.CutOff)
-    ≡ layout_by left (pick a (pick b (CodeRead.Code n prefix) (Err Undecoded.NotCarried)) (Err Undecoded.CutOff)) m x
-layout_by_lem left n prefix m x true true = refl
-layout_by_lem left n prefix m x true false = refl
-layout_by_lem left n prefix m x false b = refl
+layout_by_lem : (left n before m x : ℕ) (a b : Bool)
+    → pick a (pick b (layout_by left (coded n before) m x) (Err Undecoded.NotCarried)) (Err Undecoded.CutOff)
+    ≡ layout_by left (pick a (pick b (coded n before) (Err Undecoded.NotCarried)) (Err Undecoded.CutOff)) m x
+layout_by_lem left n before m x true true = refl
+layout_by_lem left n before m x true false = refl
+layout_by_lem left n before m x false b = refl
 
 layout_coded : (bytes : List ℕ) (m x : ℕ) → layout_read bytes m x ≡ layout_by (length bytes) (code_read bytes) m x
 unfolding layout_read layout_on fitted code_read code_on
@@ -170,19 +167,19 @@ module _ (image : List ℕ) (at : ℕ) where
         (at_code : n ≡ packed_at packed_pages page (get_or image (at + prefix) 0))
       where
         by_carried : (b : Bool) → (unpacked n).carried ≡ b
-            → pick b (CodeRead.Code n prefix) (Err Undecoded.NotCarried) ≡ code_on page (drop at image)
+            → pick b (coded n prefix) (Err Undecoded.NotCarried) ≡ code_on page (drop at image)
         unfolding code_on
         by_carried b e =
             rw (length-drop, ← at-prefix, lt-ltb prefix (length image - at) some, get_or-drop, ← at_code, e) refl
 
-        pub coded_carried : (unpacked n).carried ≡ true → CodeRead.Code n prefix ≡ code_read (drop at image)
-        coded_carried e = coded_on page (CodeRead.Code n prefix) at-page (by_carried true e)
+        pub coded_carried : (unpacked n).carried ≡ true → coded n prefix ≡ code_read (drop at image)
+        coded_carried e = coded_on page (coded n prefix) at-page (by_carried true e)
 
         pub coded_uncarried : (unpacked n).carried ≡ false → Err Undecoded.NotCarried ≡ code_read (drop at image)
         coded_uncarried e = coded_on page (Err Undecoded.NotCarried) at-page (by_carried false e)
 
   pub coded_plain : (n : ℕ) → at < length image → n ≡ packed_at packed_pages 0 first → (unpacked n).carried ≡ true
-      → CodeRead.Code n 0 ≡ code_read (drop at image)
+      → coded n 0 ≡ code_read (drop at image)
   coded_plain n inside at_code e =
       coded_carried 0 0 refl (plain_page first (rw (← at_code) e)) n (omega arith) (rw add-zero at_code) e
 

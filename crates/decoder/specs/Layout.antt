@@ -2,7 +2,7 @@
 -- operand of a few instructions only.
 -- Assumes nothing.
 use Rattle.types.specs.declared.code.Undecoded.{Undecoded}
-use Rattle.std.specs.Prelude.{ℕ, ◌≤◌, ◌<◌, List, ltb, leb, length, get_or, Ok, Err}
+use Rattle.std.specs.Prelude.{ℕ, ◌≤◌, ◌<◌, List, ltb, leb, length, get_or, Result, Ok, Err}
 use Rattle.types.specs.declared.code.Instruction.{Instruction}
 use Rattle.types.specs.Answers.{Decoded}
 use Rattle.prelude.specs.Choice.{pick}
@@ -10,8 +10,15 @@ use Rattle.instructions.specs.CodeMap.{prefix_bytes, length_at}
 use Rattle.instructions.specs.Decode.{page_of, operand_of}
 use Rattle.codepages.specs.Packing.{unpacked, packed_pages, packed_at}
 use Rattle.decoder.specs.declared.Layout.{Layout}
-use Rattle.decoder.specs.declared.LayoutRead.{LayoutRead}
-use Rattle.decoder.specs.declared.CodeRead.{CodeRead}
+use Rattle.decoder.specs.declared.Code.{Code}
+
+-- a layout that fits into the bytes that are left, or why there is none
+abbrev pub LayoutRead : Type 0
+LayoutRead = Result Layout Undecoded
+
+-- the code at a place, or why none is read there
+abbrev pub CodeRead : Type 0
+CodeRead = Result Code Undecoded
 
 -- the code is there, behind the prefix; so many bytes are left
 unfoldable pub fitted : ℕ → ℕ → ℕ → ℕ → LayoutRead
@@ -37,7 +44,7 @@ unfoldable pub code_on : ℕ → List ℕ → CodeRead
 code_on page bytes =
     pick (ltb (prefix_bytes page) (length bytes))
     (pick (unpacked (packed_at packed_pages page (get_or bytes (prefix_bytes page) 0))).carried
-    (CodeRead.Code (packed_at packed_pages page (get_or bytes (prefix_bytes page) 0)) (prefix_bytes page))
+    (Ok (record { number = packed_at packed_pages page (get_or bytes (prefix_bytes page) 0); prefix = prefix_bytes page }))
     (Err Undecoded.NotCarried))
     (Err Undecoded.CutOff)
 
@@ -46,11 +53,11 @@ code_read bytes = code_on (page_of (get_or bytes 0 0)) bytes
 
 -- the layout of a code, among so many bytes
 abbrev pub layout_by : ℕ → CodeRead → ℕ → ℕ → LayoutRead
-layout_by left (CodeRead.Code n prefix) m x =
-    pick (leb (length_at (unpacked n) m x) left)
-    (Ok (record { number = n; prefix = prefix; length = length_at (unpacked n) m x })) (Err Undecoded.CutOff)
-layout_by left (Err Undecoded.NotCarried) m x = Err Undecoded.NotCarried
-layout_by left (Err Undecoded.CutOff) m x = Err Undecoded.CutOff
+layout_by left (Ok code) m x =
+    pick (leb (length_at (unpacked code.number) m x) left)
+    (Ok (record { number = code.number; prefix = code.prefix; length = length_at (unpacked code.number) m x }))
+    (Err Undecoded.CutOff)
+layout_by left (Err why) m x = Err why
 
 -- the instruction of a layout
 abbrev pub instruction_of : List ℕ → Layout → Instruction
@@ -62,8 +69,7 @@ instruction_of bytes f = record {
 
 abbrev pub decoded_of : List ℕ → LayoutRead → Decoded
 decoded_of bytes (Ok f) = Ok (instruction_of bytes f)
-decoded_of bytes (Err Undecoded.NotCarried) = Err Undecoded.NotCarried
-decoded_of bytes (Err Undecoded.CutOff) = Err Undecoded.CutOff
+decoded_of bytes (Err why) = Err why
 
 -- the bounds that every layout keeps among so many bytes
 abbrev pub Fitting : ℕ → Layout → Type 0
@@ -71,5 +77,4 @@ Fitting left f = (f.prefix ≤ 1) × (f.prefix < f.length) × (f.length ≤ 6) �
 
 abbrev pub FittingIn : ℕ → LayoutRead → Type 0
 FittingIn left (Ok f) = Fitting left f
-FittingIn left (Err Undecoded.NotCarried) = Unit {0}
-FittingIn left (Err Undecoded.CutOff) = Unit {0}
+FittingIn left (Err _) = Unit {0}

@@ -1,5 +1,4 @@
-// The decoder: what stands at a place of an image, at given widths. The code pages are lent, since a constant is copied
-// at each use; so their readers ask that those lent are the definition's.
+// The decoder: what stands at a place of an image, at given widths.
 #![tactic(auto)]
 
 ghost use Rattle.std.specs.Prelude.{◌≡◌, false, ◌-◌, ◌≤◌, ◌<◌, length, get_or, drop, eqb};
@@ -7,13 +6,12 @@ ghost use Rattle.prelude.specs.Choice.{pick};
 ghost use Rattle.instructions.specs.CodeMap.{entry_at, more_bytes, length_at};
 ghost use Rattle.instructions.specs.Decode as spec;
 ghost use Rattle.codepages.specs.Packing.{packed_pages, packed_at, unpacked};
-ghost use Rattle.decoder.specs.declared.CodeRead.{CodeRead};
 ghost use Rattle.decoder.specs.Layout.{layout_read, code_read, layout_by, instruction_of, Fitting};
 
-use codepages::{CodePages, packed_at};
+use codepages::packed_at;
 use entries::{bytes_of, is_carried, unpack};
 use fields::{low_bytes, number, six_bytes};
-use types::code::{Decoded, Entry, Instruction, LengthRule};
+use types::code::{Decoded, Entry, Instruction, LengthRule, Undecoded};
 
 // What a code and the widths decide of an instruction, before its operand is read: the number of its entry, how many
 // prefix bytes it has, its length.
@@ -24,29 +22,19 @@ pub struct Layout {
     pub length: u8,
 }
 
-// A layout that fits into the bytes that are left; a code that is not carried; or too few bytes.
+// The code at a place, before the widths enter: the number of its entry, and how many prefix bytes stand before it.
 #[derive(Clone, Copy)]
-pub enum LayoutRead {
-    Fits(Layout),
-    Uncarried,
-    Short,
-}
-
-// The code at a place, before the widths enter: the number of its entry and how many prefix bytes stand before it; a
-// code that is not carried; or too few bytes.
-#[derive(Clone, Copy)]
-pub enum CodeRead {
-    Code(u32, u8),
-    Uncarried,
-    Short,
+pub struct Code {
+    pub number: u32,
+    pub prefix: u8,
 }
 
 // The entry of a code of a page.
-pub fn entry_at(codes: &CodePages, page: usize, code: u8) -> Entry
-    requires { (codes.now ≡ packed_pages) × (page < 3) }
+pub fn entry_at(page: usize, code: u8) -> Entry
+    requires { page < 3 }
     ensures { result ≡ entry_at page code }
 {
-    unpack(packed_at(codes, page, code))
+    unpack(packed_at(page, code))
 }
 
 // One byte more at a width of 0.
@@ -85,14 +73,15 @@ pub fn length_of(number: u32, m: u8, x: u8) -> u8
 }
 
 // The layout of a carried code, where so many bytes are left.
-fn fit(left: usize, prefix: u8, number: u32, m: u8, x: u8) -> LayoutRead
-    ensures { result ≡ layout_by left (CodeRead.Code number prefix) m x }
+fn fit(left: usize, code: Code, m: u8, x: u8) -> Result<Layout, Undecoded>
+    ensures { result ≡ layout_by left (Ok code) m x }
 {
+    let Code { number, prefix } = code;
     let length = length_of(number, m, x);
     if left < length as usize {
-        return LayoutRead::Short;
+        return Err(Undecoded::CutOff);
     }
-    LayoutRead::Fits(Layout {
+    Ok(Layout {
         number,
         prefix,
         length,
@@ -103,60 +92,53 @@ fn fit(left: usize, prefix: u8, number: u32, m: u8, x: u8) -> LayoutRead
 pub fn page_of(first: u8) -> usize
     ensures { (result ≡ spec.page_of first) × (result < 3) }
 {
-    if first == 0x42 {
-        return 1;
+    match first {
+        0x42 => 1,
+        0x89 => 2,
+        _ => 0,
     }
-    if first == 0x89 {
-        return 2;
-    }
-    0
 }
 
 // The code at a place whose first byte is no carried code of the first page.
-fn code_behind_prefix(codes: &CodePages, image: &[u8], at: usize) -> CodeRead
-    requires { (codes.now ≡ packed_pages) × (at < length image.now)
+fn code_behind_prefix(image: &[u8], at: usize) -> Result<Code, Undecoded>
+    requires { (at < length image.now)
         × ((unpacked (packed_at packed_pages 0 (get_or image.now at 0))).carried ≡ false) }
     ensures { result ≡ code_read (drop at image.now) }
 {
     let page = page_of(image[at]);
     if page == 0 {
-        return CodeRead::Uncarried;
+        return Err(Undecoded::NotCarried);
     }
     if image.len() - at <= 1 {
-        return CodeRead::Short;
+        return Err(Undecoded::CutOff);
     }
-    let number = packed_at(codes, page, image[at + 1]);
+    let number = packed_at(page, image[at + 1]);
     if !is_carried(number) {
-        return CodeRead::Uncarried;
+        return Err(Undecoded::NotCarried);
     }
-    CodeRead::Code(number, 1)
+    Ok(Code { number, prefix: 1 })
 }
 
 // The code at a place. Most stand on the first page, where no prefix is a carried code.
-fn code_at(codes: &CodePages, image: &[u8], at: usize) -> CodeRead
-    requires { (codes.now ≡ packed_pages) × (at < length image.now) }
+fn code_at(image: &[u8], at: usize) -> Result<Code, Undecoded>
+    requires { at < length image.now }
     ensures { result ≡ code_read (drop at image.now) }
 {
-    let number = packed_at(codes, 0, image[at]);
+    let number = packed_at(0, image[at]);
     if is_carried(number) {
-        return CodeRead::Code(number, 0);
+        return Ok(Code { number, prefix: 0 });
     }
-    code_behind_prefix(codes, image, at)
+    code_behind_prefix(image, at)
 }
 
 // The layout of what stands at a place of an image, at the widths m and x.
-pub fn layout_at(codes: &CodePages, image: &[u8], at: usize, m: u8, x: u8) -> LayoutRead
-    requires { codes.now ≡ packed_pages }
+pub fn layout_at(image: &[u8], at: usize, m: u8, x: u8) -> Result<Layout, Undecoded>
     ensures { result ≡ layout_read (drop at image.now) m x }
 {
     if image.len() <= at {
-        return LayoutRead::Short;
+        return Err(Undecoded::CutOff);
     }
-    match code_at(codes, image, at) {
-        CodeRead::Code(number, prefix) => fit(image.len() - at, prefix, number, m, x),
-        CodeRead::Uncarried => LayoutRead::Uncarried,
-        CodeRead::Short => LayoutRead::Short,
-    }
+    fit(image.len() - at, code_at(image, at)?, m, x)
 }
 
 // The operand of a layout at a place of an image: the bytes behind the code as one number. Asks that the layout fits,
@@ -188,21 +170,16 @@ fn instruction_at(image: &[u8], at: usize, layout: Layout) -> Instruction
 }
 
 // What stands at a place of an image, at the widths m and x.
-pub fn decode_at(codes: &CodePages, image: &[u8], at: usize, m: u8, x: u8) -> Decoded
-    requires { codes.now ≡ packed_pages }
+pub fn decode_at(image: &[u8], at: usize, m: u8, x: u8) -> Decoded
     ensures { result ≡ spec.decode (drop at image.now) m x }
 {
-    match layout_at(codes, image, at, m, x) {
-        LayoutRead::Fits(layout) => Decoded::Whole(instruction_at(image, at, layout)),
-        LayoutRead::Uncarried => Decoded::NotCarried,
-        LayoutRead::Short => Decoded::CutOff,
-    }
+    let layout = layout_at(image, at, m, x)?;
+    Ok(instruction_at(image, at, layout))
 }
 
 // What the bytes begin with, at the widths m and x: the decoder as a whole, for users of the library.
-pub fn decode(codes: &CodePages, bytes: &[u8], m: u8, x: u8) -> Decoded
-    requires { codes.now ≡ packed_pages }
+pub fn decode(bytes: &[u8], m: u8, x: u8) -> Decoded
     ensures { result ≡ spec.decode bytes.now m x }
 {
-    decode_at(codes, bytes, 0, m, x)
+    decode_at(bytes, 0, m, x)
 }

@@ -17,7 +17,7 @@ use lib.Seq.{drop-cons, append_snoc, take-suc-set, drop-set-lt, drop-drop}
 use Rattle.prelude.specs.Choice.{pick}
 use Rattle.types.specs.Addresses.{address_limit}
 use Rattle.decoder.specs.declared.Layout.{Layout}
-use Rattle.decoder.specs.declared.LayoutRead.{LayoutRead}
+use Rattle.decoder.specs.Layout.{LayoutRead}
 use Rattle.decoder.specs.Layout.{layout_read}
 use Rattle.decoder.proofs.Layouts.{decoded_layout}
 use Rattle.acceptance.specs.Image.{is_start, mark_m, mark_x}

@@ -22,7 +22,7 @@ use Rattle.reports.proofs.PrintedPage.{length_cell, length_cells, length_flush, 
 use Rattle.codepages.specs.Packing.{unpacked}
 use Rattle.entries.proofs.Words.{word_short}
 use Rattle.decoder.specs.declared.Layout.{Layout}
-use Rattle.decoder.specs.declared.LayoutRead.{LayoutRead}
+use Rattle.decoder.specs.Layout.{LayoutRead}
 use Rattle.decoder.specs.Layout.{decoded_of}
 use Rattle.decoder.proofs.Layouts.{decoded_layout}
 use Rattle.view.specs.Layout.{layout_at}

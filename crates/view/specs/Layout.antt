@@ -1,7 +1,7 @@
 -- What a view gives at an offset. Assumes nothing.
 use Rattle.std.specs.Prelude.{ℕ, List, get_or, drop}
 use Rattle.acceptance.specs.Image.{mark_m, mark_x}
-use Rattle.decoder.specs.declared.LayoutRead.{LayoutRead}
+use Rattle.decoder.specs.Layout.{LayoutRead}
 use Rattle.decoder.specs.Layout.{layout_read}
 
 -- the layout of what stands at an offset of an image, at the widths marked there

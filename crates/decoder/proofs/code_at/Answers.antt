@@ -5,11 +5,9 @@ use Rattle.decoder.proofs.code_at.Goals as goal
 
 pub returns-then-is_carried : goal.returns-then-is_carried
 returns-then-is_carried c =
-    coded_plain c.args.image.now c.args.at c.packed_at-number.result c.requires.1
-    (rw (← c.requires.0) c.packed_at-number.ensures) (sym c.is_carried.ensures ∙ c.if-is_carried.true)
+    coded_plain c.args.image.now c.args.at c.packed_at-number.result c.requires
+    c.packed_at-number.ensures (sym c.is_carried.ensures ∙ c.if-is_carried.true)
 
 pub code_behind_prefix-requires : goal.code_behind_prefix-requires
 code_behind_prefix-requires c =
-    let pre = c.requires in
-    let at_code = rw pre.0 at c.packed_at-number.ensures in
-    (pre.0, pre.1, rw (← at_code) (sym c.is_carried.ensures ∙ c.if-is_carried.false))
+    (c.requires, rw (← c.packed_at-number.ensures) (sym c.is_carried.ensures ∙ c.if-is_carried.false))

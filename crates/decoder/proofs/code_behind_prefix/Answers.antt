@@ -7,7 +7,7 @@ use Rattle.decoder.proofs.code_behind_prefix.Goals as goal
 pub returns-then-page-eq0 : goal.returns-then-page-eq0
 returns-then-page-eq0 c =
     coded_nothing c.args.image.now c.args.at c.page_of-page.result c.page_of-page.ensures.0
-    c.if-page-eq0.true c.requires.1 c.requires.2
+    c.if-page-eq0.true c.requires.0 c.requires.1
 
 pub returns-then-image-at-le1 : goal.returns-then-image-at-le1
 returns-then-image-at-le1 c =
@@ -20,7 +20,7 @@ returns-then-not-is_carried c =
     coded_uncarried c.args.image.now c.args.at c.page_of-page.result 1
     (one_prefix c.page_of-page.result c.if-page-eq0.false) (sym c.page_of-page.ensures.0)
     c.packed_at-number.result (omega (arith, c.if-image-at-le1.false))
-    (rw (← c.requires.0) c.packed_at-number.ensures)
+    c.packed_at-number.ensures
     (sym c.is_carried.ensures ∙ c.if-not-is_carried.true)
 
 pub returns : goal.returns
@@ -28,5 +28,5 @@ returns c =
     coded_carried c.args.image.now c.args.at c.page_of-page.result 1
     (one_prefix c.page_of-page.result c.if-page-eq0.false) (sym c.page_of-page.ensures.0)
     c.packed_at-number.result (omega (arith, c.if-image-at-le1.false))
-    (rw (← c.requires.0) c.packed_at-number.ensures)
+    c.packed_at-number.ensures
     (sym c.is_carried.ensures ∙ c.if-not-is_carried.false)

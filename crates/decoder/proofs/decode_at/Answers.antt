@@ -1,28 +1,21 @@
--- In each arm the layout is known, and it decides what is decoded.
-use Rattle.decoder.proofs.Layouts.{fits_at, decoded_fits, decoded_uncarried, decoded_short}
+-- The layout decides what is decoded, or why nothing is.
+use Rattle.std.proofs.lemmas.Result.{err_from_is_err_and}
+use mathlib.Core.Path.{refl}
+use Rattle.decoder.proofs.Layouts.{fits_at, decoded_fits, decoded_not}
 use Rattle.decoder.proofs.decode_at.Goals as goal
 
 pub instruction_at-requires : goal.instruction_at-requires
 instruction_at-requires c =
     let args = c.args in
-    fits_at args.image.now args.at args.m args.x c.layout_at.result c.layout_at.ensures _
-    c.in-Ok.is
+    fits_at args.image.now args.at args.m args.x _ c.in_ok-layout.ensures _ refl
 
-pub returns-in-Ok : goal.returns-in-Ok
-returns-in-Ok c =
+pub returns-in_err-layout : goal.returns-in_err-layout
+returns-in_err-layout c =
     let args = c.args in
-    decoded_fits args.image.now args.at args.m args.x c.layout_at.result
-    c.layout_at.ensures _ c.instruction_at.result c.in-Ok.is
-    c.instruction_at.ensures
+    let p = err_from_is_err_and c.from_residual.result c.from_residual.ensures.1 in
+    rw (p.1, p.2) (decoded_not args.image.now args.at args.m args.x _ c.in_err-layout.ensures refl)
 
-pub returns-in-Uncarried : goal.returns-in-Uncarried
-returns-in-Uncarried c =
+pub returns : goal.returns
+returns c =
     let args = c.args in
-    decoded_uncarried args.image.now args.at args.m args.x c.layout_at.result
-    c.layout_at.ensures c.in-Uncarried.is
-
-pub returns-in-Short : goal.returns-in-Short
-returns-in-Short c =
-    let args = c.args in
-    decoded_short args.image.now args.at args.m args.x c.layout_at.result
-    c.layout_at.ensures c.in-Short.is
+    decoded_fits args.image.now args.at args.m args.x _ c.in_ok-layout.ensures _ _ refl c.instruction_at.ensures
