@@ -4,20 +4,53 @@ ghost use Rattle.answer.specs.AnswerLine as spec;
 
 use image::IMAGE_LIMIT;
 use marklist::reader::read_list;
-use types::lists::ListRead;
-use types::refusals::Refusal;
-use types::rules::Verdict;
+use types::refusals::{Refusal, Refused};
 use view::plain::judge;
 
 // The most bytes of a list file.
 pub const LIST_LIMIT: usize = 61_440;
 
-// A file is not read; an image is accepted, with its number of starts; or refused, with an offset.
+// Why an image is not accepted: a file is not read; or the check refuses, or the reader of the list.
 #[derive(Clone, Copy)]
-pub enum FileAnswer {
+pub enum NotAccepted {
     Unread,
-    Accepted(u32),
-    Refused { why: Refusal, offset: u32 },
+    Refused(Refused),
+}
+
+// The check's refusal.
+impl From<Refused> for NotAccepted {
+    ghost from_gives = { λ refused answer. answer ≡ NotAccepted.Refused refused };
+
+    fn from(refused: Refused) -> NotAccepted {
+        NotAccepted::Refused(refused)
+    }
+}
+
+// A refusal that is about no offset, as the reader's: 0 stands in its place.
+impl From<Refusal> for NotAccepted {
+    ghost from_gives = { λ why answer. answer ≡ spec.without_offset why };
+
+    fn from(why: Refusal) -> NotAccepted {
+        NotAccepted::Refused(Refused { why, offset: 0 })
+    }
+}
+
+// An image is accepted, with its number of starts, or not.
+pub type FileAnswer = Result<u32, NotAccepted>;
+
+// An image file and a list file are within their limits.
+#[tactic(auto, unfolding(crate::specs::AnswerLine::are_within_limits))]
+pub fn are_within_limits(image: &[u8], text: &[u8]) -> bool
+    ensures { result ≡ spec.are_within_limits image.now text.now }
+{
+    text.len() <= LIST_LIMIT && image.len() <= IMAGE_LIMIT
+}
+
+// So many zeros. Only their number is promised: those of a long page are too many for a proof to look at.
+pub fn zeros<const N: usize>() -> [u8; N]
+    ensures { N ≡ length result }
+{
+    [0; N]
 }
 
 // The check's answer on the view of an image, with the number of starts where it accepts.
@@ -26,10 +59,8 @@ fn verdict_answer(image: &[u8], marks: &[u8], base: u32, reset: u32) -> FileAnsw
 {
     let judged = judge(image, marks, base, reset);
     let verdict = judged.verdict;
-    match verdict {
-        Verdict::Accepted => FileAnswer::Accepted(judged.starts as u32),
-        Verdict::Refused { why, offset } => FileAnswer::Refused { why, offset },
-    }
+    verdict?;
+    Ok(judged.starts as u32)
 }
 
 // The list is read into marks of the image's length, and the image is checked against them.
@@ -37,21 +68,16 @@ fn list_answer(image: &[u8], text: &[u8], marks: &mut [u8]) -> FileAnswer
     requires { length marks.old ≡ length image.now }
     ensures { result ≡ spec.list_answer image.now text.now }
 {
-    match read_list(text, marks) {
-        ListRead::NotRead(why) => FileAnswer::Refused { why, offset: 0 },
-        ListRead::Read(h) => verdict_answer(image, marks, h.base, h.reset),
-    }
+    let h = read_list(text, marks)?;
+    verdict_answer(image, marks, h.base, h.reset)
 }
 
 // The answer for the bytes of an image file and of a list file.
 pub fn answer_for(image: &[u8], text: &[u8]) -> FileAnswer
     ensures { result ≡ spec.answer_for image.now text.now }
 {
-    if LIST_LIMIT < text.len() {
-        return FileAnswer::Unread;
-    }
-    if IMAGE_LIMIT < image.len() {
-        return FileAnswer::Unread;
+    if !are_within_limits(image, text) {
+        return Err(NotAccepted::Unread);
     }
     let mut marks = [0u8; IMAGE_LIMIT];
     list_answer(image, text, &mut marks[..image.len()])

@@ -2,10 +2,9 @@
 ghost use Rattle.std.specs.Prelude.{◌≤◌, length};
 ghost use Rattle.answer.specs.AnswerLine as spec;
 
-use crate::answers::FileAnswer;
+use crate::answers::{FileAnswer, NotAccepted};
 use marklist::lines::{LINE_END, TAB};
 use text::digits::{digit_count, put_field};
-use types::refusals::refusal_number;
 
 // No number of a line has more digits.
 const NUMBER_DIGITS: usize = 5;
@@ -56,8 +55,8 @@ pub fn put_answer(page: &mut [u8], answer: FileAnswer) -> usize
     ensures { spec.Put (spec.line_for answer) spec.line_limit result page.old page.new }
 {
     match answer {
-        FileAnswer::Unread => put_unread(page),
-        FileAnswer::Accepted(count) => put_letter(page, b'A', count, LINE_END),
-        FileAnswer::Refused { why, offset } => put_refused(page, refusal_number(why), offset),
+        Ok(count) => put_letter(page, b'A', count, LINE_END),
+        Err(NotAccepted::Unread) => put_unread(page),
+        Err(NotAccepted::Refused(refused)) => put_refused(page, u8::from(refused.why), refused.offset),
     }
 }

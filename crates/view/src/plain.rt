@@ -1,13 +1,12 @@
 // A view's functions for callers who have its parts: each makes one view and asks it.
 ghost use Rattle.std.specs.Prelude.{◌≡◌};
-ghost use Rattle.codepages.specs.Packing.{packed_pages};
 ghost use Rattle.acceptance.specs.Image.{start_count};
 ghost use Rattle.acceptance.specs.Verdict.{verdict};
 ghost use Rattle.view.specs.Layout.{layout_at};
 
 use crate::View;
-use codepages::CodePages;
-use decoder::LayoutRead;
+use decoder::Layout;
+use types::code::Undecoded;
 use types::rules::Verdict;
 
 // What the program says of an image: the check's verdict, and how many instructions the marks start.
@@ -29,10 +28,9 @@ pub fn judge(image: &[u8], marks: &[u8], base: u32, reset: u32) -> Judged
     }
 }
 
-// The layout of what stands at an offset, at the widths marked there. Asks for the code pages, as the view does.
-pub fn layout_at(image: &[u8], marks: &[u8], base: u32, codes: &CodePages, at: usize) -> LayoutRead
-    requires { codes.now ≡ packed_pages }
+// The layout of what stands at an offset, at the widths marked there.
+pub fn layout_at(image: &[u8], marks: &[u8], base: u32, at: usize) -> Result<Layout, Undecoded>
     ensures { result ≡ layout_at image.now marks.now at }
 {
-    View { image, marks, base }.layout_at(codes, at)
+    View { image, marks, base }.layout_at(at)
 }

@@ -2,7 +2,7 @@
 use Rattle.std.proofs.Common.{◌≡◌, ◌+◌, ◌-◌, arith, get_or, refl, true}
 use Rattle.acceptance.specs.Image.{is_start, mark_m, mark_x}
 use Rattle.decoder.proofs.Layouts.{fits_at}
-use Rattle.printer.proofs.RowLaws.{no_row, whole_size, whole_put, uncarried_row, short_row}
+use Rattle.printer.proofs.RowLaws.{no_row, whole_size, whole_put, unread_row}
 use Rattle.printer.proofs.rows.put_row_at.Goals as goal
 
 pub returns-then-not-is_start : goal.returns-then-not-is_start
@@ -30,10 +30,10 @@ put_row-requires c =
     let size =
     whole_size args.image.now args.marks.now args.base args.at started c.layout_at.result c.layout_at.ensures
     c.in-Ok.layout c.in-Ok.is in
-    omega (arith, c.requires.2, size)
+    omega (arith, c.requires.1, size)
 
-pub returns-in-Ok : goal.returns-in-Ok
-returns-in-Ok c =
+pub returns : goal.returns
+returns c =
     let args = c.args in
     let f = c.in-Ok.layout in
     let started : is_start (get_or args.marks.now args.at 0) ≡ true =
@@ -47,22 +47,12 @@ returns-in-Ok c =
           c.byte_at-mark.ensures (omega arith) c.put_row.ensures,
     )
 
-pub returns-in-Uncarried : goal.returns-in-Uncarried
-returns-in-Uncarried c =
+pub returns-in_default : goal.returns-in_default
+returns-in_default c =
     let args = c.args in
     let started : is_start (get_or args.marks.now args.at 0) ≡ true =
     rw (c.is_start.ensures, c.byte_at-mark.ensures) at c.if-not-is_start.false in
     let none =
-    uncarried_row args.image.now args.marks.now args.base args.at started c.layout_at.result c.layout_at.ensures
-    c.in-Uncarried.is in
-    (rw none refl, rw none refl)
-
-pub returns-in-Short : goal.returns-in-Short
-returns-in-Short c =
-    let args = c.args in
-    let started : is_start (get_or args.marks.now args.at 0) ≡ true =
-    rw (c.is_start.ensures, c.byte_at-mark.ensures) at c.if-not-is_start.false in
-    let none =
-    short_row args.image.now args.marks.now args.base args.at started c.layout_at.result c.layout_at.ensures
-    c.in-Short.is in
+    unread_row args.image.now args.marks.now args.base args.at started c.layout_at.result c.layout_at.ensures _
+    c.in_default.is in
     (rw none refl, rw none refl)
