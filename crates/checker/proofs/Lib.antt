@@ -3,3 +3,4 @@ pub mod Clear
 pub mod Owes
 pub mod Steps
 pub mod Packing
+pub mod Counts

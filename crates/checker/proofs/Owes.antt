@@ -21,7 +21,7 @@ use Rattle.instructions.specs.Successors.{m_after, x_after}
 use Rattle.acceptance.specs.Verdict.{is_start_at, all_starts, has_mark_at, all_marks}
 use Rattle.prelude.proofs.Choice.{both_true}
 use Rattle.acceptance.proofs.Widths.{same_fields, routine_start, on_return_start, after_start}
-use Rattle.checker.specs.Owes.{return_tests, owed_tests, MarksOfStarts}
+use Rattle.checker.specs.Owes.{all_owed, return_tests, owed_tests, MarksOfStarts}
 
 -- ---- the mark at an address
 
@@ -47,6 +47,21 @@ pub kept_mark : (number operand mark : ℕ) → mark < 256 → eqb (number / 2_0
     → mark / 2 % 64 * 2 + 1 ≡ mark_after (unpacked number).effect operand mark
 unfolding mark_after m_after x_after
 kept_mark number operand mark h e = rw (kept_effect number e) (same_fields mark h)
+
+-- ---- a test of all that is owed
+
+module _ (marks : List ℕ) (base : ℕ) where
+  pub all_starts_by : (owed : Requirements) → all_owed (is_start_at marks base) owed ≡ all_starts marks base owed
+  unfolding all_starts
+  all_starts_by Requirements.Nothing = refl
+  all_starts_by (Requirements.One w) = refl
+  all_starts_by (Requirements.Two v w) = refl
+
+  pub all_marks_by : (owed : Requirements) → all_owed (has_mark_at marks base) owed ≡ all_marks marks base owed
+  unfolding all_marks
+  all_marks_by Requirements.Nothing = refl
+  all_marks_by (Requirements.One w) = refl
+  all_marks_by (Requirements.Two v w) = refl
 
 -- ---- 9 before 8
 

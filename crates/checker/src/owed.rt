@@ -13,9 +13,8 @@ use decoder::{Layout, operand_at};
 use entries::{effect_of, flow_of, keeps_widths, target_form_of};
 use fields::byte_at;
 use image::marks::{mark_kind, mark_m, mark_of, mark_x, return_m, return_x};
-use std::num::wrapping_sub_u32;
 use successors::widths::{m_after, x_after};
-use successors::{kind_number, next_address, target_of};
+use successors::{next_address, target_of};
 use types::code::{Flow, Kind, WidthEffect};
 use types::rules::{Requirement, Requirements};
 
@@ -68,7 +67,7 @@ pub fn mark_in(marks: &[u8], base: u32, address: u32) -> u8
     requires { base + length marks.now ≤ address_limit }
     ensures { result ≡ mark_at marks.now base address }
 {
-    byte_at(marks, wrapping_sub_u32(address, base) as usize)
+    byte_at(marks, address.wrapping_sub(base) as usize)
 }
 
 // The mark that must stand at an address.
@@ -85,7 +84,7 @@ pub fn mark_of_routine(kind: Kind, mark: u8, there: u8) -> u8
     mark_of(
         mark_m(mark),
         mark_x(mark),
-        kind_number(kind),
+        u8::from(kind),
         return_m(there),
         return_x(there),
     )
@@ -113,6 +112,7 @@ fn owed_by_call(marks: &[u8], base: u32, kind: Kind, mark: u8, next: u32, to: u3
 }
 
 // What the instruction of a layout at a place of the image, with a mark there, owes. Each flow reads what it needs.
+#[tactic(auto, unfolding(acceptance::specs::Rules::owed_at, acceptance::specs::Rules::owed_by))]
 pub(crate) fn owed_at(
     image: &[u8],
     marks: &[u8],
@@ -149,7 +149,6 @@ pub(crate) fn owed_at(
             let to = target_of_layout(image, at, layout, address);
             owed_by_call(marks, base, kind, mark, next, to)
         }
-        Flow::Return(_) => Requirements::Nothing,
-        Flow::Halt => Requirements::Nothing,
+        Flow::Return(_) | Flow::Halt => Requirements::Nothing,
     }
 }

@@ -10,12 +10,12 @@ pub offset_of-offset-requires : goal.offset_of-offset-requires
 offset_of-offset-requires c =
     let args = c.args in
     tests_small args.image.now args.marks.now args.base args.reset _
-    (sym c.test_marks-tested.ensures ∙ c.in-Err.is)
+    (sym c.test_marks.ensures ∙ c.in-Err.is)
 
 pub returns-in-Err : goal.returns-in-Err
 unfolding verdict
 returns-in-Err c = rw (
-  ← c.test_marks-tested.ensures,
+  ← c.test_marks.ensures,
   c.in-Err.is,
   c.offset_of-offset.ensures,
 )
@@ -24,15 +24,13 @@ pub starts_verdict-requires : goal.starts_verdict-requires
 starts_verdict-requires c =
     let args = c.args in
     let held = shown (marks_tests (length args.image.now) args.marks.now args.base args.reset)
-    (sym c.test_marks-tested.ensures ∙ c.in_default.is) in
-    let long = right_length (length args.image.now) (length args.marks.now) held.0 in (
-      c.pages.ensures,
-      rw long.same (base_whole args.base (length args.image.now) held.1.0),
-    )
+    (sym c.test_marks.ensures ∙ c.in_default.is) in
+    let long = right_length (length args.image.now) (length args.marks.now) held.0 in
+    rw long.same (base_whole args.base (length args.image.now) held.1.0)
 
 pub returns : goal.returns
 unfolding verdict
 returns c = rw (
-  ← c.test_marks-tested.ensures,
+  ← c.test_marks.ensures,
   c.in_default.is,
 ) c.starts_verdict.ensures

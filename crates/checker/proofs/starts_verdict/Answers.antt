@@ -13,15 +13,11 @@ loop-i-init c = (
 )
 
 pub step_at-step-requires : goal.step_at-step-requires
-step_at-step-requires c = (
-  c.requires.0,
-  c.requires.1,
-  c.loop-i-test.true,
-)
+step_at-step-requires c = (c.requires, c.loop-i-test.true)
 
 pub overflow_cast-offset : goal.overflow_cast-offset
 overflow_cast-offset c =
-    omega (arith, c.requires.1, c.loop-i-test.true)
+    omega (arith, c.requires, c.loop-i-test.true)
 
 pub returns-in-Err : goal.returns-in-Err
 unfolding bad_start
@@ -39,7 +35,7 @@ overflow_add-i c =
     let args = c.args in
     let few = few_bytes args.image.now args.marks.now args.base c.loop-i.i c.step_at-step.result
     c.step_at-step.ensures in
-    omega (arith, few.1, c.loop-i.invariant.1, c.requires.1)
+    omega (arith, few.1, c.loop-i.invariant.1, c.requires)
 
 pub loop-i-smaller : goal.loop-i-smaller
 loop-i-smaller c =

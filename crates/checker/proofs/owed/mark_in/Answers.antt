@@ -7,5 +7,4 @@ pub returns : goal.returns
 returns c =
     let args = c.args in
     c.byte_at.ensures
-    ∙ mark_by_place args.marks.now args.base args.address c.wrapping_sub_u32.result
-    c.requires (omega arith) (omega arith) c.wrapping_sub_u32.ensures.value
+    ∙ mark_by_place args.marks.now args.base args.address _ c.requires (omega arith) (omega arith) (omega arith)

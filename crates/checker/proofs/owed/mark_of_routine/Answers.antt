@@ -7,7 +7,7 @@ pub mark_of-requires : goal.mark_of-requires
 mark_of-requires c = (
   c.mark_m.ensures.1,
   c.mark_x.ensures.1,
-  rw c.kind_number.ensures
+  rw c.from.ensures
       (kind_bits c.args.kind),
   c.return_m.ensures.1,
   c.return_x.ensures.1,
@@ -19,7 +19,7 @@ returns c =
     rw (
       ← c.mark_m.ensures.0,
       ← c.mark_x.ensures.0,
-      ← c.kind_number.ensures,
+      ← c.from.ensures,
       ← c.return_m.ensures.0,
       ← c.return_x.ensures.0,
     ) c.mark_of.ensures

@@ -66,11 +66,3 @@ returns-in-Call c =
       c.next_address-next.ensures,
       c.target_of_layout-to-in-Call.ensures,
     )
-
-pub returns-in-Return : goal.returns-in-Return
-unfolding owed_at owed_by
-returns-in-Return c = rw (← c.flow_of.ensures, c.in-Return.is)
-
-pub returns-in-Halt : goal.returns-in-Halt
-unfolding owed_at owed_by
-returns-in-Halt c = rw (← c.flow_of.ensures, c.in-Halt.is)

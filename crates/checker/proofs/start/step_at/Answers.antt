@@ -18,8 +18,8 @@ pub layout_result-requires : goal.layout_result-requires
 layout_result-requires c = (
   fits_in c.args.image.now c.args.at c.mark_m.result c.mark_x.result
       c.layout_at-layout.result c.layout_at-layout.ensures,
+  c.requires.0,
   c.requires.1,
-  c.requires.2,
 )
 
 pub returns : goal.returns
