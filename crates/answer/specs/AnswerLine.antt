@@ -65,11 +65,15 @@ refused_line number offset = letter_field 0x52 number tab ++ number_field offset
 abbrev pub unread_line : List ℕ
 unread_line = 0x4C ∷ line_end ∷ []
 
+-- the line of what is not accepted
+unfoldable pub not_accepted_line : NotAccepted → List ℕ
+not_accepted_line NotAccepted.Unread = unread_line
+not_accepted_line (NotAccepted.Refused r) = refused_line (refusal_number r.why) r.offset
+
 -- the line of an answer
 unfoldable pub line_for : FileAnswer → List ℕ
-line_for (Err NotAccepted.Unread) = unread_line
 line_for (Ok count) = letter_field 0x41 count line_end
-line_for (Err (NotAccepted.Refused r)) = refused_line (refusal_number r.why) r.offset
+line_for (Err why) = not_accepted_line why
 
 -- the line for the bytes of an image file and of a list file
 unfoldable pub answer_line : List ℕ → List ℕ → List ℕ

@@ -19,6 +19,8 @@ pub enum NotAccepted {
 
 // The check's refusal.
 impl From<Refused> for NotAccepted {
+    ghost use Rattle.answer.specs.declared.answers.NotAccepted.{NotAccepted};
+
     ghost from_gives = { λ refused answer. answer ≡ NotAccepted.Refused refused };
 
     fn from(refused: Refused) -> NotAccepted {

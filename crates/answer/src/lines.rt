@@ -49,6 +49,17 @@ fn put_unread(page: &mut [u8]) -> usize
     2
 }
 
+// Writes the line of what is not accepted.
+fn put_not_accepted(page: &mut [u8], why: NotAccepted) -> usize
+    requires { spec.line_limit ≤ length page.old }
+    ensures { spec.Put (spec.not_accepted_line why) spec.line_limit result page.old page.new }
+{
+    match why {
+        NotAccepted::Unread => put_unread(page),
+        NotAccepted::Refused(refused) => put_refused(page, u8::from(refused.why), refused.offset),
+    }
+}
+
 // Writes the line of an answer at the front of a page, and returns its length.
 pub fn put_answer(page: &mut [u8], answer: FileAnswer) -> usize
     requires { spec.line_limit ≤ length page.old }
@@ -56,7 +67,6 @@ pub fn put_answer(page: &mut [u8], answer: FileAnswer) -> usize
 {
     match answer {
         Ok(count) => put_letter(page, b'A', count, LINE_END),
-        Err(NotAccepted::Unread) => put_unread(page),
-        Err(NotAccepted::Refused(refused)) => put_refused(page, u8::from(refused.why), refused.offset),
+        Err(why) => put_not_accepted(page, why),
     }
 }

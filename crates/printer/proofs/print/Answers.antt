@@ -11,7 +11,7 @@ returns-in_err-verdict c =
     let args = c.args in
     let said =
     refused_page args.image.now args.marks.now args.base args.reset args.page.now _
-    (sym c.judge-judged.ensures.0 ∙ c.in_err-verdict.is) in
+    (sym c.judge-judged.ensures.0 ∙ c.in_err-verdict.was) in
     let p = err_from_is_err_and c.from_residual.result c.from_residual.ensures.1 in
     record { answer = rw (p.1, p.2) said.0; page = said.1 }
 
@@ -19,7 +19,7 @@ pub print_rows-requires : goal.print_rows-requires
 print_rows-requires c =
     let args = c.args in
     printable args.image.now args.marks.now args.base args.reset c.judge-judged.result.starts
-    (sym c.judge-judged.ensures.0 ∙ c.in_ok-verdict.is) c.judge-judged.ensures.1
+    (sym c.judge-judged.ensures.0 ∙ c.in_ok-verdict.was) c.judge-judged.ensures.1
 
 pub returns : goal.returns
 returns c =
@@ -27,6 +27,6 @@ returns c =
     let said =
     judged_page args.image.now args.marks.now args.base args.reset args.page.now (Ok tt)
     c.print_rows.new.page c.print_rows.result
-    (sym c.judge-judged.ensures.0 ∙ c.in_ok-verdict.is) c.print_rows.ensures.answer
+    (sym c.judge-judged.ensures.0 ∙ c.in_ok-verdict.was) c.print_rows.ensures.answer
     c.print_rows.ensures.page in
     record { answer = said.0; page = said.1 }

@@ -10,6 +10,11 @@ returns-then-not-are_within_limits c =
     over_limits c.args.image.now c.args.text.now
     (sym c.are_within_limits.ensures ∙ c.if-not-are_within_limits.true)
 
+pub slice_bounds-marks-end : goal.slice_bounds-marks-end
+slice_bounds-marks-end c =
+    within_few c.args.image.now c.args.text.now
+    (sym c.are_within_limits.ensures ∙ c.if-not-are_within_limits.false)
+
 pub slice_bounds-list_answer-end : goal.slice_bounds-list_answer-end
 slice_bounds-list_answer-end c =
     sym (length-take-le (length c.args.image.now) _ (within_few c.args.image.now c.args.text.now

@@ -9,7 +9,7 @@ pub returns-in_err-verdict : goal.returns-in_err-verdict
 unfolding spec.verdict_answer spec.answer_by
 returns-in_err-verdict c =
     let p = err_from_is_err_and c.from_residual.result c.from_residual.ensures.1 in
-    rw (p.1, p.2, ← c.judge-judged.ensures.0, c.in_err-verdict.is)
+    rw (p.1, p.2, ← c.judge-judged.ensures.0, c.in_err-verdict.was)
 
 pub overflow_cast-result : goal.overflow_cast-result
 overflow_cast-result c =
@@ -17,11 +17,11 @@ overflow_cast-result c =
     omega (
       arith,
       judged.1,
-      accepted_few c.args.image.now c.args.marks.now c.args.base c.args.reset (rw (← judged.0) c.in_ok-verdict.is),
+      accepted_few c.args.image.now c.args.marks.now c.args.base c.args.reset (rw (← judged.0) c.in_ok-verdict.was),
     )
 
 pub returns : goal.returns
 unfolding spec.verdict_answer spec.answer_by
 returns c =
     let judged = c.judge-judged.ensures in
-    rw (← judged.0, c.in_ok-verdict.is, judged.1)
+    rw (← judged.0, c.in_ok-verdict.was, judged.1)
