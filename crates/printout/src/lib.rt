@@ -33,8 +33,10 @@ fn print_by_list(
     ensures answer { result ≡ spec.files_printed image.now text.now page.old }
     ensures page { page.new ≡ page_after result (spec.files_page image.now text.now) page.old }
 {
-    let h = read_list(text, marks).map_err(|why| Refused { why, offset: 0 })?;
-    print(image, marks, h.base, h.reset, page)
+    match read_list(text, marks) {
+        Ok(h) => print(image, marks, h.base, h.reset, page),
+        Err(why) => Err(Refused { why, offset: 0 }),
+    }
 }
 
 // Writes the page, or the line, for the bytes of two files at the front of a page, and returns its length. Asks for
