@@ -15,6 +15,11 @@ returns-then-not-are_within_limits c =
     (rw c.answer_for.ensures at c.put_answer-at.ensures) in
     record { text = shown.0; part = shown.1 }
 
+pub slice_bounds-marks-end : goal.slice_bounds-marks-end
+slice_bounds-marks-end c =
+    within_few c.args.image.now c.args.text.now
+    (sym c.are_within_limits.ensures ∙ c.if-not-are_within_limits.false)
+
 pub slice_bounds-put_explanation-end : goal.slice_bounds-put_explanation-end
 slice_bounds-put_explanation-end c =
     sym (length-take-le (length c.args.image.now) _ (within_few c.args.image.now c.args.text.now
