@@ -5,7 +5,7 @@ ghost use Rattle.answer.specs.AnswerLine as spec;
 use image::IMAGE_LIMIT;
 use marklist::reader::read_list;
 use types::refusals::{Refusal, Refused};
-use view::plain::judge;
+use view::View;
 
 // The most bytes of a list file.
 pub const LIST_LIMIT: usize = 61_440;
@@ -59,10 +59,9 @@ pub fn zeros<const N: usize>() -> [u8; N]
 fn verdict_answer(image: &[u8], marks: &[u8], base: u32, reset: u32) -> FileAnswer
     ensures { result ≡ spec.verdict_answer image.now marks.now base reset }
 {
-    let judged = judge(image, marks, base, reset);
-    let verdict = judged.verdict;
-    verdict?;
-    Ok(judged.starts as u32)
+    let view = View { image, marks, base };
+    view.check(reset)?;
+    Ok(view.count_starts() as u32)
 }
 
 // The list is read into marks of the image's length, and the image is checked against them.

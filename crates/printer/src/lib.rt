@@ -9,24 +9,17 @@ ghost use Rattle.acceptance.specs.Verdict.{IsAccepted};
 ghost use Rattle.printer.specs.Printable.{Printable};
 
 use crate::rows::{ROW_SIZE, put_rows};
-use checker::count_starts;
 use types::refusals::{Refusal, Refused};
-use view::plain::judge;
+use view::View;
 
 // Prints the rows of an accepted image with so many starts, where the page has room for them.
-fn print_rows(
-    image: &[u8],
-    marks: &[u8],
-    base: u32,
-    starts: usize,
-    page: &mut [u8],
-) -> Result<usize, Refused>
-    requires { Printable image.now marks.now base starts }
+fn print_rows(view: View, starts: usize, page: &mut [u8]) -> Result<usize, Refused>
+    requires { Printable view.image.now view.marks.now view.base starts }
     ensures answer { result
-        ≡ printed_by (Ok tt) (length (page_text image.now marks.now base))
+        ≡ printed_by (Ok tt) (length (page_text view.entry.image.now view.entry.marks.now view.entry.base))
         (length page.old) }
     ensures page { page.new
-        ≡ page_after result (page_text image.now marks.now base) page.old }
+        ≡ page_after result (page_text view.entry.image.now view.entry.marks.now view.entry.base) page.old }
 {
     let size = starts * ROW_SIZE;
     if page.len() < size {
@@ -35,7 +28,7 @@ fn print_rows(
             offset: 0,
         });
     }
-    put_rows(page, image, marks, base);
+    put_rows(page, view);
     Ok(size)
 }
 
@@ -53,7 +46,8 @@ pub fn print_accepted(
     ensures page { page.new
         ≡ page_after result (page_text image.now marks.now base) page.old }
 {
-    print_rows(image, marks, base, count_starts(marks), page)
+    let view = View { image, marks, base };
+    print_rows(view, view.count_starts(), page)
 }
 
 // Prints the rows of any image at the front of a page. It is judged, and the room tested, before the first byte is
@@ -68,8 +62,7 @@ pub fn print(
     ensures answer { result ≡ printed image.now marks.now base reset page.old }
     ensures page { page.new ≡ page_printed image.now marks.now base reset page.old }
 {
-    let judged = judge(image, marks, base, reset);
-    let verdict = judged.verdict;
-    verdict?;
-    print_rows(image, marks, base, judged.starts, page)
+    let view = View { image, marks, base };
+    view.check(reset)?;
+    print_rows(view, view.count_starts(), page)
 }

@@ -1,8 +1,6 @@
 // The read-only view of an image: 01, 'Image, marks and base travel together as one read-only view'.
 #![tactic(auto)]
 
-pub mod plain;
-
 ghost use Rattle.std.specs.Prelude.{◌≡◌};
 ghost use Rattle.acceptance.specs.Image.{start_count};
 ghost use Rattle.acceptance.specs.Verdict.{verdict};
