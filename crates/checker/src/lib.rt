@@ -48,6 +48,7 @@ fn offset_of(marks: &[u8], why: Refusal) -> u32
 }
 
 // The check of an image against its marks, at a base and a reset address.
+#[tactic(auto, unfolding(acceptance::specs::Verdict::verdict))]
 pub fn check(image: &[u8], marks: &[u8], base: u32, reset: u32) -> Verdict
     ensures { result ≡ spec.verdict image.now marks.now base reset }
 {
@@ -60,6 +61,7 @@ pub fn check(image: &[u8], marks: &[u8], base: u32, reset: u32) -> Verdict
 
 // The check's answer as a number. Every function of an archive that asks the check asks it here, so that the check has
 // one caller, in which LLVM inlines it.
+#[tactic(auto, using(crate::proofs::Packing::verdict_fits))]
 pub fn packed_verdict(image: &[u8], marks: &[u8], base: u32, reset: u32) -> u32
     ensures { result ≡ packed_verdict (spec.verdict image.now marks.now base reset) }
 {

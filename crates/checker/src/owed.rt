@@ -19,6 +19,7 @@ use types::code::{Flow, Kind, WidthEffect};
 use types::rules::{Requirement, Requirements};
 
 // The mark with the widths after an instruction.
+#[tactic(auto, unfolding(acceptance::specs::Rules::mark_after))]
 fn mark_after(effect: WidthEffect, operand: u64, mark: u8) -> u8
     ensures { result ≡ rules.mark_after effect operand mark }
 {
@@ -35,6 +36,7 @@ fn mark_kept(mark: u8) -> u8
 }
 
 // The mark with the widths after the instruction of a layout. Most keep them, and their operand need not be read.
+#[tactic(auto, using(crate::proofs::Owes::kept_mark))]
 pub fn mark_after_layout(image: &[u8], at: usize, layout: Layout, mark: u8) -> u8
     requires { Fitting (length image.now - at) layout }
     ensures { result ≡ rules.mark_after (unpacked layout.number).effect
@@ -63,6 +65,7 @@ pub fn target_of_layout(image: &[u8], at: usize, layout: Layout, address: u32) -
 
 // The mark at an address, 0 outside the image. Below the base the difference wraps, so that one comparison is enough:
 // the marks end before the address limit, and no wrapped place is one of theirs.
+#[tactic(auto, using(crate::proofs::Owes::mark_by_place))]
 pub fn mark_in(marks: &[u8], base: u32, address: u32) -> u8
     requires { base + length marks.now ≤ address_limit }
     ensures { result ≡ mark_at marks.now base address }
@@ -78,6 +81,7 @@ fn requirement(address: u32, mark: u8) -> Requirement
 }
 
 // The mark that a call requires at its target.
+#[tactic(auto, unfolding(acceptance::specs::Rules::mark_of_routine))]
 pub fn mark_of_routine(kind: Kind, mark: u8, there: u8) -> u8
     ensures { result ≡ rules.mark_of_routine kind mark there }
 {
@@ -91,6 +95,7 @@ pub fn mark_of_routine(kind: Kind, mark: u8, there: u8) -> u8
 }
 
 // The mark that a call requires at the address after it.
+#[tactic(auto, unfolding(acceptance::specs::Rules::mark_on_return))]
 pub fn mark_on_return(mark: u8, there: u8) -> u8
     ensures { result ≡ rules.mark_on_return mark there }
 {
@@ -100,6 +105,7 @@ pub fn mark_on_return(mark: u8, there: u8) -> u8
 }
 
 // What a call at an address with a mark owes, by its target and the address after it.
+#[tactic(auto, unfolding(acceptance::specs::Rules::owed_by))]
 fn owed_by_call(marks: &[u8], base: u32, kind: Kind, mark: u8, next: u32, to: u32) -> Requirements
     requires { base + length marks.now ≤ address_limit }
     ensures { result ≡ rules.owed_by (Flow.Call kind) mark 0 next to (mark_at marks.now base to) }

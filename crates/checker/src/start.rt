@@ -104,6 +104,7 @@ fn zeros_behind(marks: &[u8], at: usize, n: u8) -> bool
 }
 
 // Number 7: no start on the later bytes of an instruction of n bytes.
+#[tactic(auto, using(crate::proofs::Clear::clear_by_zeros), unfolding(acceptance::specs::Verdict::is_clear))]
 fn is_clear(marks: &[u8], at: usize, n: u8) -> bool
     requires { (at < address_limit) × (n ≤ 6) }
     ensures { result ≡ verdict.is_clear marks.now at n }
@@ -116,6 +117,7 @@ fn is_clear(marks: &[u8], at: usize, n: u8) -> bool
 }
 
 // 10, where nothing is owed.
+#[tactic(auto, unfolding(types::specs::Refusals::first_refusal))]
 fn test_return(flow: Flow, mark: u8) -> Result<(), Refusal>
     ensures { result ≡ first_refusal (return_tests flow mark) }
 {
@@ -201,6 +203,7 @@ fn layout_result(
 }
 
 // What a place comes to.
+#[tactic(auto, unfolding(acceptance::specs::Verdict::start_result, crate::specs::Steps::bytes_at))]
 pub(crate) fn step_at(image: &[u8], marks: &[u8], base: u32, at: usize) -> StartResult
     requires { (base + length marks.now ≤ address_limit) × (at < length marks.now) }
     ensures { result ≡ step_at image.now marks.now base at }

@@ -23,14 +23,17 @@ use Rattle.instructions.proofs.CodeMap.{carried_length}
 use Rattle.codepages.specs.Packing.{unpacked, packed_pages, packed_at}
 use Rattle.codepages.proofs.Unpacked.{unpacked_at}
 use Rattle.decoder.specs.declared.Layout.{Layout}
-use Rattle.decoder.specs.Layout.{LayoutRead, CodeRead, fitted, layout_on, layout_read, code_on, code_read, layout_by, instruction_of}
+use Rattle.decoder.specs.Layout.{LayoutRead, CodeRead, fitted, layout_on, layout_read, code_on, code_read, layout_by}
+use Rattle.decoder.specs.Layout.{instruction_of}
 use Rattle.decoder.specs.Layout.{decoded_of, Fitting, FittingIn}
 
 abbrev pub coded : ℕ → ℕ → CodeRead
 coded n prefix = Ok (record { number = n; prefix = prefix })
 
 chosen : (bytes : List ℕ) (f : Layout) (a b c : Bool)
-    → pick a (pick b (pick c (Ok (instruction_of bytes f)) (Err Undecoded.CutOff)) (Err Undecoded.NotCarried)) (Err Undecoded.CutOff)
+    → pick a
+    (pick b (pick c (Ok (instruction_of bytes f)) (Err Undecoded.CutOff)) (Err Undecoded.NotCarried))
+    (Err Undecoded.CutOff)
     ≡ decoded_of bytes
     (pick a (pick b (pick c (Ok f) (Err Undecoded.CutOff)) (Err Undecoded.NotCarried)) (Err Undecoded.CutOff))
 chosen bytes f true true true = refl
@@ -64,7 +67,9 @@ module _ (page : ℕ) (bytes : List ℕ) (m x : ℕ) where
     where
       by : (a b c : Bool) → (unpacked at_code).carried ≡ b → leb long (length bytes) ≡ c
           → FittingIn (length bytes)
-          (pick a (pick b (pick c (Ok the_frame) (Err Undecoded.CutOff)) (Err Undecoded.NotCarried)) (Err Undecoded.CutOff))
+          (pick a
+          (pick b (pick c (Ok the_frame) (Err Undecoded.CutOff)) (Err Undecoded.NotCarried))
+          (Err Undecoded.CutOff))
       by true true true carried inside =
           let same = unpacked_at page (get_or bytes prefix 0) in
           let rule = carried_length page (get_or bytes prefix 0) m x (rw same at carried) in
@@ -161,7 +166,8 @@ module _ (image : List ℕ) (at : ℕ) where
     pub coded_short : length image - at ≤ prefix → Err Undecoded.CutOff ≡ code_read (drop at image)
     unfolding code_on
     coded_short few =
-        coded_on page (Err Undecoded.CutOff) at-page (rw (length-drop, ← at-prefix, le-ltb prefix (length image - at) few) refl)
+        coded_on page (Err Undecoded.CutOff) at-page
+        (rw (length-drop, ← at-prefix, le-ltb prefix (length image - at) few) refl)
 
     module _ (n : ℕ) (some : prefix < length image - at)
         (at_code : n ≡ packed_at packed_pages page (get_or image (at + prefix) 0))
@@ -184,6 +190,7 @@ module _ (image : List ℕ) (at : ℕ) where
       coded_carried 0 0 refl (plain_page first (rw (← at_code) e)) n (omega arith) (rw add-zero at_code) e
 
   pub coded_nothing : (page : ℕ) → page ≡ page_of first → page ≡ 0 → at < length image
-      → (unpacked (packed_at packed_pages 0 first)).carried ≡ false → Err Undecoded.NotCarried ≡ code_read (drop at image)
+      → (unpacked (packed_at packed_pages 0 first)).carried ≡ false
+      → Err Undecoded.NotCarried ≡ code_read (drop at image)
   coded_nothing page is-page zero inside e =
       coded_uncarried 0 0 refl (sym is-page ∙ zero) (packed_at packed_pages 0 first) (omega arith) (rw add-zero refl) e

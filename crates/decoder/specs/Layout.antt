@@ -44,7 +44,10 @@ unfoldable pub code_on : ℕ → List ℕ → CodeRead
 code_on page bytes =
     pick (ltb (prefix_bytes page) (length bytes))
     (pick (unpacked (packed_at packed_pages page (get_or bytes (prefix_bytes page) 0))).carried
-    (Ok (record { number = packed_at packed_pages page (get_or bytes (prefix_bytes page) 0); prefix = prefix_bytes page }))
+    (Ok (record {
+      number = packed_at packed_pages page (get_or bytes (prefix_bytes page) 0);
+      prefix = prefix_bytes page;
+    }))
     (Err Undecoded.NotCarried))
     (Err Undecoded.CutOff)
 

@@ -8,7 +8,7 @@ use Prim.Native.Nat.{ℕ, ◌+◌, ◌≤◌}
 use borrow.Author.Tests.{leb-true}
 use lib.ListN.{length, drop, length-map}
 use Rattle.types.specs.declared.refusals.Refusal.{Refusal}
-use Rattle.types.specs.Answers.{TestResult, refused_at, Verdict, Located}
+use Rattle.types.specs.Answers.{TestResult, refused_at, Located}
 use Rattle.types.specs.Addresses.{address_limit}
 use Rattle.types.specs.Refusals.{Tests, first_refusal}
 use Rattle.acceptance.specs.Verdict.{verdict}

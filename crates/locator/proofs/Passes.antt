@@ -5,20 +5,19 @@ use Rattle.types.specs.declared.code.Undecoded.{Undecoded}
 use Rattle.std.specs.Prelude.{Ok, Err}
 use mathlib.Core.Path.{◌≡◌, refl, sym, ap, subst, ◌∙◌}
 use mathlib.Core.Logic.{inl, inr}
-use mathlib.Core.Bool.{Bool, true, false, not}
+use mathlib.Core.Bool.{Bool, true, false}
 use mathlib.Core.List.{List, [], ◌∷◌, ◌++◌, append-nil, map}
 use Prim.Native.Nat.{ℕ, ◌+◌, ◌*◌, ◌≤◌, ◌<◌}
 use native.Mathlib.Numerals.{add-one}
 use native.Mathlib.Omega.{arith}
-use borrow.Author.Tests.{not-true, not-false, lt-ltb, le-ltb, eq-eqb, ne_eqb}
+use borrow.Author.Tests.{eq-eqb}
 use lib.Dec.{eqb, ltb}
 use lib.ListN.{length, get_or, take, drop, set, take-append-drop, length-set, drop_of_length-le}
 use lib.Seq.{drop-cons, append_snoc, take-suc-set, drop-set-lt, drop-drop}
 use Rattle.prelude.specs.Choice.{pick}
 use Rattle.types.specs.Addresses.{address_limit}
 use Rattle.decoder.specs.declared.Layout.{Layout}
-use Rattle.decoder.specs.Layout.{LayoutRead}
-use Rattle.decoder.specs.Layout.{layout_read}
+use Rattle.decoder.specs.Layout.{LayoutRead, layout_read}
 use Rattle.decoder.proofs.Layouts.{decoded_layout}
 use Rattle.acceptance.specs.Image.{is_start, mark_m, mark_x}
 use Rattle.reports.specs.Locate.{place_number, Last, none, start, last_after, place_by, Pass, one_read, pass, pass_over}
@@ -28,14 +27,6 @@ use Rattle.locator.specs.declared.pass.Passing.{Passing}
 use Rattle.locator.specs.Passing.{last_of, marked, end_at, KnownEnd, number_from, OneServed}
 
 -- ---- a mark is read
-
-pub no_start : (p : Passing) (at mark : ℕ) (given : Bool) → given ≡ is_start mark → not given ≡ true
-    → p ≡ marked p at mark
-no_start p at mark given e h = rw (← e, not-true given h)
-
-pub new_start : (p : Passing) (at mark : ℕ) (given : Bool) → given ≡ is_start mark → not given ≡ false
-    → record { served = p.served; start = at; mark = mark; end = 0 } ≡ marked p at mark
-new_start p at mark given e h = rw (← e, not-false given h)
 
 -- what is then known
 module _ (image : List ℕ) (p : Passing) (at mark : ℕ) where
@@ -61,11 +52,11 @@ module _ (image : List ℕ) (at mark m x : ℕ) (here : LayoutRead) (is-layout :
     pub end_fits : (f : Layout) → here ≡ Ok f → at + f.length ≡ end_at image at mark
     end_fits f e = rw (← is_m, ← is_x, decoded_layout (drop at image) m x, ← is-layout, e)
 
-    pub end_uncarried : here ≡ Err Undecoded.NotCarried → at ≡ end_at image at mark
-    end_uncarried e = rw (← is_m, ← is_x, decoded_layout (drop at image) m x, ← is-layout, e) (omega arith)
-
-    pub end_short : here ≡ Err Undecoded.CutOff → at ≡ end_at image at mark
-    end_short e = rw (← is_m, ← is_x, decoded_layout (drop at image) m x, ← is-layout, e) (omega arith)
+    pub end_at_none : (why : Undecoded) → here ≡ Err why → at ≡ end_at image at mark
+    end_at_none Undecoded.NotCarried e =
+        rw (← is_m, ← is_x, decoded_layout (drop at image) m x, ← is-layout, e) (omega arith)
+    end_at_none Undecoded.CutOff e =
+        rw (← is_m, ← is_x, decoded_layout (drop at image) m x, ← is-layout, e) (omega arith)
 
 pub end_kept : (image : List ℕ) (p : Passing) → KnownEnd image p → (p.end ≡ 0 → ⊥)
     → p.end ≡ end_at image p.start p.mark
@@ -73,16 +64,6 @@ end_kept image p (inl e) h = absurd (h e)
 end_kept image p (inr e) h = e
 
 -- ---- the number of a place
-
-module _ (p : Passing) (end base at : ℕ) (given : Bool) (e : given ≡ is_start p.mark) where
-  pub number_below : not given ≡ true → 0 ≡ number_from p end base at
-  number_below h = rw (← e, not-true given h)
-
-  pub number_within : not given ≡ false → at < end → base + p.start + address_limit ≡ number_from p end base at
-  number_within h inside = rw (← e, not-false given h, lt-ltb at end inside)
-
-  pub number_behind : not given ≡ false → end ≤ at → base + p.start + 2 * address_limit ≡ number_from p end base at
-  number_behind h past = rw (← e, not-false given h, le-ltb at end past)
 
 number_by : (image : List ℕ) (p : Passing) (base at : ℕ)
     → number_from p (end_at image p.start p.mark) base at ≡ place_number (place_by image base (last_of p) at)
@@ -99,17 +80,6 @@ number_by image p base at = by (is_start p.mark) (ltb at (end_at image p.start p
 -- ---- an address is served, or not yet
 
 module _ (image : List ℕ) (base address at : ℕ) (p : Passing) (places : List ℕ) where
-  pub unserved : KnownEnd image p → (address ≡ base + at → ⊥) → OneServed image base address at p p places places
-  unserved known other =
-      let no = ne_eqb address (base + at) other in
-      record {
-        served = rw no;
-        same_start = refl;
-        same_mark = refl;
-        known = known;
-        stored = rw no;
-      }
-
   pub served_here : (end number : ℕ) → address ≡ base + at → end ≡ end_at image p.start p.mark
       → number ≡ number_from p end base at
       → OneServed image base address at p

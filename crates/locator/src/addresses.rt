@@ -3,7 +3,7 @@ ghost use Rattle.std.specs.Prelude.{◌≡◌, ◌+◌, ◌<◌};
 ghost use Rattle.types.specs.Refusals.{first_refusal};
 ghost use Rattle.reports.specs.Locate as spec;
 
-use types::refusals::{Refusal, TestResult};
+use types::refusals::Refusal;
 
 // The limit of reports/specs/Locate.antt.
 const ADDRESS_COUNT: usize = 256;
@@ -12,14 +12,7 @@ const ADDRESS_COUNT: usize = 256;
 fn is_ascending(addresses: &[u32]) -> bool
     ensures { result ≡ spec.is_ascending addresses.now }
 {
-    let mut k = 1;
-    while k < addresses.len() {
-        if addresses[k] <= addresses[k - 1] {
-            return false;
-        }
-        k += 1;
-    }
-    true
+    addresses.is_sorted_by(|before, address| *before < *address)
 }
 
 // Each address is one of an image of so many bytes. Asks for an end of the image that is a number.
@@ -27,45 +20,38 @@ fn all_inside(addresses: &[u32], base: u32, size: u32) -> bool
     requires { base + size < 4_294_967_296 }
     ensures { result ≡ spec.all_inside base size addresses.now }
 {
-    let mut k = 0;
-    while k < addresses.len() {
-        let address = addresses[k];
-        if address < base {
-            return false;
-        }
-        if base + size <= address {
-            return false;
-        }
-        k += 1;
-    }
-    true
+    let end = base + size;
+    addresses
+        .iter()
+        .all(|address| base <= *address && *address < end)
 }
 
 // 16: a list of addresses that is not too long, in order, and within the image.
+#[tactic(auto, unfolding(reports::specs::Locate::addresses_fit))]
 fn addresses_fit(addresses: &[u32], base: u32, size: u32) -> bool
     requires { base + size < 4_294_967_296 }
     ensures { result ≡ spec.addresses_fit base size addresses.now }
 {
-    if ADDRESS_COUNT < addresses.len() {
-        return false;
-    }
-    if !is_ascending(addresses) {
-        return false;
-    }
-    all_inside(addresses, base, size)
+    addresses.len() <= ADDRESS_COUNT && is_ascending(addresses) && all_inside(addresses, base, size)
 }
 
 // 16, 15: what is tested of a list of addresses, for so many places. Asks for an image that the check accepts, whose
 // end is a number.
-pub(crate) fn test_addresses(addresses: &[u32], base: u32, size: usize, room: usize) -> TestResult
+#[tactic(auto, unfolding(types::specs::Refusals::first_refusal))]
+pub(crate) fn test_addresses(
+    addresses: &[u32],
+    base: u32,
+    size: usize,
+    room: usize,
+) -> Result<(), Refusal>
     requires { base + size < 4_294_967_296 }
     ensures { result ≡ first_refusal (spec.locate_tests base size addresses.now room) }
 {
     if !addresses_fit(addresses, base, size as u32) {
-        return TestResult::Failed(Refusal::Addresses);
+        return Err(Refusal::Addresses);
     }
     if room < addresses.len() {
-        return TestResult::Failed(Refusal::Page);
+        return Err(Refusal::Page);
     }
-    TestResult::Passed
+    Ok(())
 }

@@ -5,14 +5,12 @@ mod addresses;
 mod pass;
 
 ghost use Rattle.std.specs.Prelude.{◌≡◌, ℕ};
-ghost use Rattle.types.specs.declared.rules.Verdict.{Verdict};
 ghost use Rattle.acceptance.specs.Verdict.{verdict, IsAccepted};
 ghost use Rattle.reports.specs.Locate.{located, places_located};
 
 use crate::addresses::test_addresses;
 use crate::pass::pass_marks;
-use types::probes::Located;
-use types::refusals::TestResult;
+use types::refusals::Refused;
 
 // The places of addresses, at the front of the lent ones. Every address is tested before the first is written. Asks
 // that the check accepted the image, for callers who have its answer.
@@ -22,17 +20,16 @@ pub fn locate(
     base: u32,
     addresses: &[u32],
     places: &mut [u32],
-) -> Located
+) -> Result<usize, Refused>
     requires { IsAccepted image.now marks.now base }
-    ensures { (reset : ℕ) → verdict image.now marks.now base reset ≡ Verdict.Accepted
+    ensures { (reset : ℕ) → verdict image.now marks.now base reset ≡ Ok tt
         → (result ≡ located image.now marks.now base reset addresses.now
         places.old)
         × (places.new ≡ places_located image.now marks.now base reset
         addresses.now places.old) }
 {
-    let tested = test_addresses(addresses, base, image.len(), places.len());
-    if let TestResult::Failed(why) = tested {
-        return Located::NotLocated { why, offset: 0 };
+    if let Err(why) = test_addresses(addresses, base, image.len(), places.len()) {
+        return Err(Refused { why, offset: 0 });
     }
-    Located::MarksRead(pass_marks(image, marks, base, addresses, places))
+    Ok(pass_marks(image, marks, base, addresses, places))
 }

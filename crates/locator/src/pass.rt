@@ -1,13 +1,11 @@
 // The pass over the marks, from the lowest to that of the highest address. No mark is read twice, so the mark of the
 // last start is kept.
 ghost use Rattle.std.specs.Prelude.{◌≡◌, true, ◌++◌, map, ◌+◌, ◌≤◌, ◌<◌, length, get_or, drop};
-ghost use Rattle.codepages.specs.Packing.{packed_pages};
 ghost use Rattle.types.specs.Addresses.{address_limit};
 ghost use Rattle.reports.specs.Locate as spec;
 ghost use Rattle.locator.specs.Passing.{marked, end_at, KnownEnd, number_from, OneServed};
 
-use codepages::{CodePages, pages};
-use decoder::{LayoutRead, layout_at};
+use decoder::layout_at;
 use image::is_start;
 use image::marks::{mark_m, mark_x};
 use types::addresses::ADDRESS_LIMIT;
@@ -37,29 +35,27 @@ fn read_mark(state: Passing, at: usize, mark: u8) -> Passing
     }
 }
 
-// Where the instruction at an offset ends, at the widths of its mark. Asks for the code pages, as the decoder does.
-fn end_at(codes: &CodePages, image: &[u8], at: usize, mark: u8) -> usize
-    requires { codes.now ≡ packed_pages }
+// Where the instruction at an offset ends, at the widths of its mark; where none is read, at the offset.
+#[tactic(auto, using(crate::proofs::Passes::end_fits, crate::proofs::Passes::end_at_none))]
+fn end_at(image: &[u8], at: usize, mark: u8) -> usize
     ensures { result ≡ end_at image.now at mark }
 {
-    let m = mark_m(mark);
-    let x = mark_x(mark);
-    match layout_at(codes, image, at, m, x) {
-        LayoutRead::Fits(layout) => at + layout.length as usize,
-        LayoutRead::Uncarried => at,
-        LayoutRead::Short => at,
+    match layout_at(image, at, mark_m(mark), mark_x(mark)) {
+        Ok(layout) => at + layout.length as usize,
+        Err(_) => at,
     }
 }
 
 // Where the instruction of the last start ends. It is decoded where no address has asked for it before.
-fn end_of(codes: &CodePages, image: &[u8], state: Passing) -> usize
-    requires { (codes.now ≡ packed_pages) × KnownEnd image.now state }
+#[tactic(auto, using(crate::proofs::Passes::end_kept))]
+fn end_of(image: &[u8], state: Passing) -> usize
+    requires { KnownEnd image.now state }
     ensures { result ≡ end_at image.now state.start state.mark }
 {
     if state.end != 0 {
         return state.end;
     }
-    end_at(codes, image, state.start, state.mark)
+    end_at(image, state.start, state.mark)
 }
 
 // The place of the byte at an offset as a number, by the last start and the end of its instruction. Asks for a start
@@ -80,7 +76,6 @@ fn place_number(state: Passing, end: usize, base: u32, at: usize) -> u32
 
 // The next address has its place if it lies at an offset. Asks that there is one, and room for its place.
 fn serve(
-    codes: &CodePages,
     image: &[u8],
     base: u32,
     addresses: &[u32],
@@ -88,7 +83,7 @@ fn serve(
     at: usize,
     state: Passing,
 ) -> Passing
-    requires { (codes.now ≡ packed_pages) × KnownEnd image.now state × (base + state.start < address_limit)
+    requires { KnownEnd image.now state × (base + state.start < address_limit)
         × (base + at < address_limit) × (state.served < length addresses.now)
         × (state.served < length places.old) }
     ensures { OneServed image.now base (get_or addresses.now state.served 0) at state result
@@ -98,7 +93,7 @@ fn serve(
     if addresses[k] != base + at as u32 {
         return state;
     }
-    let end = end_of(codes, image, state);
+    let end = end_of(image, state);
     places[k] = place_number(state, end, base, at);
     Passing {
         served: k + 1,
@@ -126,7 +121,6 @@ pub(crate) fn pass_marks(
         (spec.pass_over image.now marks.now base addresses.now).places
         ++ drop (length addresses.now) places.old) }
 {
-    let codes = pages();
     let mut state = Passing {
         served: 0,
         start: 0,
@@ -136,7 +130,7 @@ pub(crate) fn pass_marks(
     let mut i = 0;
     while state.served < addresses.len() {
         state = read_mark(state, i, marks[i]);
-        state = serve(&codes, image, base, addresses, places, i, state);
+        state = serve(image, base, addresses, places, i, state);
         i += 1;
     }
     i

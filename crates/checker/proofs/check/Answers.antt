@@ -1,6 +1,6 @@
 -- A refusal of the tests is the answer; where they hold they bound the marks and the base for the search.
 use Rattle.std.proofs.Common.{length, sym, ◌∙◌}
-use Rattle.acceptance.specs.Verdict.{marks_tests, verdict}
+use Rattle.acceptance.specs.Verdict.{marks_tests}
 use Rattle.acceptance.proofs.Image.{right_length, base_whole}
 use Rattle.acceptance.proofs.Meaning.{tests_small}
 use Rattle.types.proofs.TestResults.{shown}
@@ -12,14 +12,6 @@ offset_of-offset-requires c =
     tests_small args.image.now args.marks.now args.base args.reset _
     (sym c.test_marks.ensures ∙ c.in-Err.is)
 
-pub returns-in-Err : goal.returns-in-Err
-unfolding verdict
-returns-in-Err c = rw (
-  ← c.test_marks.ensures,
-  c.in-Err.is,
-  c.offset_of-offset.ensures,
-)
-
 pub starts_verdict-requires : goal.starts_verdict-requires
 starts_verdict-requires c =
     let args = c.args in
@@ -27,10 +19,3 @@ starts_verdict-requires c =
     (sym c.test_marks.ensures ∙ c.in_default.is) in
     let long = right_length (length args.image.now) (length args.marks.now) held.0 in
     rw long.same (base_whole args.base (length args.image.now) held.1.0)
-
-pub returns : goal.returns
-unfolding verdict
-returns c = rw (
-  ← c.test_marks.ensures,
-  c.in_default.is,
-) c.starts_verdict.ensures

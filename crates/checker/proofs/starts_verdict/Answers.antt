@@ -2,22 +2,9 @@ use Rattle.std.proofs.Common.{length, refl, arith}
 use Rattle.checker.proofs.Steps.{step_result_lem, few_bytes, goes_on, passed_past}
 use Rattle.acceptance.specs.Verdict as spec
 use Rattle.acceptance.specs.Verdict.{bad_start}
-use Rattle.prelude.proofs.First.{none_passed, passed_to}
+use Rattle.prelude.proofs.First.{passed_to}
 use Rattle.acceptance.proofs.Verdict.{stopped_at, passed_over}
 use Rattle.checker.proofs.starts_verdict.Goals as goal
-
-pub loop-i-init : goal.loop-i-init
-loop-i-init c = (
-  none_passed (spec.broken_at c.args.image.now c.args.marks.now c.args.base) 0,
-  omega arith,
-)
-
-pub step_at-step-requires : goal.step_at-step-requires
-step_at-step-requires c = (c.requires, c.loop-i-test.true)
-
-pub overflow_cast-offset : goal.overflow_cast-offset
-overflow_cast-offset c =
-    omega (arith, c.requires, c.loop-i-test.true)
 
 pub returns-in-Err : goal.returns-in-Err
 unfolding bad_start
@@ -29,13 +16,6 @@ returns-in-Err c =
     let here = passed_to (spec.broken_at args.image.now args.marks.now args.base) 0 i
     (length args.marks.now) c.loop-i.invariant.0 (omega (arith, c.loop-i-test.true)) (rw failed refl) in
     stopped_at args.image.now args.marks.now args.base i _ here failed
-
-pub overflow_add-i : goal.overflow_add-i
-overflow_add-i c =
-    let args = c.args in
-    let few = few_bytes args.image.now args.marks.now args.base c.loop-i.i c.step_at-step.result
-    c.step_at-step.ensures in
-    omega (arith, few.1, c.loop-i.invariant.1, c.requires)
 
 pub loop-i-smaller : goal.loop-i-smaller
 loop-i-smaller c =

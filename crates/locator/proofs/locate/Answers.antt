@@ -3,8 +3,8 @@ use native.Mathlib.Omega.{arith}
 use Rattle.locator.proofs.Answers.{as_many, in_space, refused_then, fit, room, places_found}
 use Rattle.locator.proofs.locate.Goals as goal
 
-pub test_addresses-tested-requires : goal.test_addresses-tested-requires
-test_addresses-tested-requires c =
+pub test_addresses-requires : goal.test_addresses-requires
+test_addresses-requires c =
     let args = c.args in
     omega (
       arith,
@@ -16,7 +16,7 @@ pub returns-in-Err : goal.returns-in-Err
 returns-in-Err c reset accepted =
     let args = c.args in
     refused_then args.image.now args.marks.now args.base reset args.addresses.now args.places.now
-    accepted c.test_addresses-tested.result c.test_addresses-tested.ensures _ c.in-Err.is
+    accepted c.test_addresses.result c.test_addresses.ensures _ c.in-Err.is
 
 pub pass_marks-requires : goal.pass_marks-requires
 pass_marks-requires c =
@@ -27,15 +27,15 @@ pass_marks-requires c =
       in_space args.image.now args.marks.now args.base c.requires.0 args.addresses.now
           args.places.now c.requires.1,
       fit args.image.now args.marks.now args.base c.requires.0 args.addresses.now args.places.now
-          c.requires.1 c.test_addresses-tested.result c.test_addresses-tested.ensures passes,
+          c.requires.1 c.test_addresses.result c.test_addresses.ensures passes,
       room args.image.now args.marks.now args.base c.requires.0 args.addresses.now args.places.now
-          c.requires.1 c.test_addresses-tested.result c.test_addresses-tested.ensures passes,
+          c.requires.1 c.test_addresses.result c.test_addresses.ensures passes,
     )
 
 pub returns : goal.returns
 returns c reset accepted =
     let args = c.args in
     places_found args.image.now args.marks.now args.base reset args.addresses.now args.places.now
-    accepted c.test_addresses-tested.result c.test_addresses-tested.ensures c.in_default.is
+    accepted c.test_addresses.result c.test_addresses.ensures c.in_default.is
     c.pass_marks.result c.pass_marks.new.places c.pass_marks.ensures.0
     c.pass_marks.ensures.1

@@ -1,6 +1,5 @@
 -- The widths after are bits, as those before.
 use Rattle.acceptance.proofs.Widths.{m_after_bit, x_after_bit}
-use Rattle.acceptance.specs.Rules.{mark_after}
 use Rattle.checker.proofs.owed.mark_after.Goals as goal
 
 pub mark_of-requires : goal.mark_of-requires
@@ -12,16 +11,3 @@ mark_of-requires c = (
   c.return_m.ensures.1,
   c.return_x.ensures.1,
 )
-
-pub returns : goal.returns
-unfolding mark_after
-returns c =
-    rw (
-      ← c.mark_m.ensures.0,
-      ← c.m_after-m.ensures,
-      ← c.mark_x.ensures.0,
-      ← c.x_after-x.ensures,
-      ← c.mark_kind.ensures.0,
-      ← c.return_m.ensures.0,
-      ← c.return_x.ensures.0,
-    ) c.mark_of.ensures

@@ -5,15 +5,6 @@ use Rattle.checker.specs.Steps.{bytes_at}
 use Rattle.acceptance.specs.Verdict.{start_result}
 use Rattle.checker.proofs.start.step_at.Goals as goal
 
-pub returns-then-not-is_start : goal.returns-then-not-is_start
-unfolding start_result bytes_at
-returns-then-not-is_start c =
-    rw (
-      ← c.byte_at-mark.ensures,
-      ← c.is_start.ensures,
-      c.if-not-is_start.true,
-    )
-
 pub layout_result-requires : goal.layout_result-requires
 layout_result-requires c = (
   fits_in c.args.image.now c.args.at c.mark_m.result c.mark_x.result

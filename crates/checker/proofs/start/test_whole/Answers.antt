@@ -38,4 +38,5 @@ returns-in-One c =
     holds _ _ c.is_clear.ensures (ap not c.if-not-is_clear.false)
     (something_owed args.marks.now args.base (instruction_of (drop args.at args.image.now) args.layout)
     (args.base + args.at) (get_or args.marks.now args.at 0)
-    (rw (← owed) (elim c.in-One.is [ inl (w, e) ↦ rw e refl | inr (v, w, e) ↦ rw e refl ])) (rw owed at c.test_owed.ensures))
+    (rw (← owed)
+    (elim c.in-One.is [ inl (w, e) ↦ rw e refl | inr (v, w, e) ↦ rw e refl ])) (rw owed at c.test_owed.ensures))

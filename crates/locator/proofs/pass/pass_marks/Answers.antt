@@ -33,7 +33,6 @@ serve-state-requires c =
     is_marked args.image.now loop.state loop.i (get_or args.marks.now loop.i 0)
     c.read_mark-state.result c.read_mark-state.ensures loop.invariant.1 loop.invariant.2 in
     let more = c.loop-state-test.true in (
-      c.pages-codes.ensures,
       so.known,
       omega (arith, so.low, below, pre.0, pre.1),
       omega (arith, below, pre.0, pre.1),
@@ -42,24 +41,6 @@ serve-state-requires c =
     )
 
 -- and the address served
-pub overflow_add-i : goal.overflow_add-i
-overflow_add-i c =
-    let args = c.args in
-    let loop = c.loop-state in
-    let below =
-    mark_left args.image.now args.marks.now args.base args.addresses.now args.places.now
-    loop.places loop.state.served (last_of loop.state) loop.i loop.invariant.0 c.loop-state-test.true in
-    omega (arith, below, c.requires.0, c.requires.1)
-
-pub loop-state-smaller : goal.loop-state-smaller
-loop-state-smaller c =
-    let args = c.args in
-    let loop = c.loop-state in
-    let below =
-    mark_left args.image.now args.marks.now args.base args.addresses.now args.places.now
-    loop.places loop.state.served (last_of loop.state) loop.i loop.invariant.0 c.loop-state-test.true in
-    omega (arith, below)
-
 pub loop-state-preserved : goal.loop-state-preserved
 loop-state-preserved c =
     let args = c.args in
@@ -75,9 +56,6 @@ loop-state-preserved c =
       omega (arith, so.low, one.same_start),
       one.known,
     )
-
-pub shape_of-places : goal.shape_of-places
-shape_of-places c = c.loop-state.invariant.0.size
 
 pub returns : goal.returns
 returns c =

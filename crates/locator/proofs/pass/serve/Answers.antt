@@ -1,13 +1,7 @@
 -- By the test of where the address lies.
 use lib.ListN.{get_or}
-use Rattle.locator.proofs.Passes.{unserved, served_here}
+use Rattle.locator.proofs.Passes.{served_here}
 use Rattle.locator.proofs.pass.serve.Goals as goal
-
-pub returns-then-addresses-k : goal.returns-then-addresses-k
-returns-then-addresses-k c =
-    let args = c.args in
-    unserved args.image.now args.base (get_or args.addresses.now args.state.served 0) args.at
-    args.state args.places.now c.requires.1 c.if-addresses-k.true
 
 pub returns : goal.returns
 returns c =
