@@ -74,12 +74,13 @@ fn list_answer(image: &[u8], text: &[u8], marks: &mut [u8]) -> FileAnswer
 }
 
 // The answer for the bytes of an image file and of a list file.
+#[tactic(auto, using(crate::proofs::AnswerLaws::over_limits, crate::proofs::AnswerLaws::within_limits, crate::proofs::AnswerLaws::within_few, std::proofs::lemmas::Grind::common_steps))]
 pub fn answer_for(image: &[u8], text: &[u8]) -> FileAnswer
     ensures { result ≡ spec.answer_for image.now text.now }
 {
     if !are_within_limits(image, text) {
         return Err(NotAccepted::Unread);
     }
-    let mut marks = [0u8; IMAGE_LIMIT];
+    let mut marks = zeros::<IMAGE_LIMIT>();
     list_answer(image, text, &mut marks[..image.len()])
 }

@@ -50,6 +50,7 @@ fn put_unread(page: &mut [u8]) -> usize
 }
 
 // Writes the line of what is not accepted.
+#[tactic(auto, using(crate::proofs::PutLaws::put_within), unfolding(crate::specs::AnswerLine::not_accepted_line))]
 fn put_not_accepted(page: &mut [u8], why: NotAccepted) -> usize
     requires { spec.line_limit ≤ length page.old }
     ensures { spec.Put (spec.not_accepted_line why) spec.line_limit result page.old page.new }
@@ -61,6 +62,7 @@ fn put_not_accepted(page: &mut [u8], why: NotAccepted) -> usize
 }
 
 // Writes the line of an answer at the front of a page, and returns its length.
+#[tactic(auto, using(crate::proofs::PutLaws::put_within), unfolding(crate::specs::AnswerLine::line_for))]
 pub fn put_answer(page: &mut [u8], answer: FileAnswer) -> usize
     requires { spec.line_limit ≤ length page.old }
     ensures { spec.Put (spec.line_for answer) spec.line_limit result page.old page.new }

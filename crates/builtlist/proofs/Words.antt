@@ -40,9 +40,9 @@ module _ (image base reset text : List ℕ) where
     unfolding built_list
     taken_list held = rw (← same, not-false given held)
 
-    -- an image that is taken has few bytes
-    pub taken_few : not given ≡ false → length image ≤ image_limit
-    unfolding is_taken
-    taken_few held =
-        let all = both_true (are_within_limits image text && is_address base) _ (sym same ∙ not-false given held) in
-        within_few image text (both_true (are_within_limits image text) _ all.0).0
+  -- an image that is taken has few bytes
+  pub taken_few : is_taken image base reset text ≡ true → length image ≤ image_limit
+  unfolding is_taken
+  taken_few taken =
+      let all = both_true (are_within_limits image text && is_address base) _ taken in
+      within_few image text (both_true (are_within_limits image text) _ all.0).0

@@ -77,6 +77,7 @@ fn is_taken(image: &[u8], base: &[u8], reset: &[u8], text: &[u8]) -> bool
 
 // Writes the mark list, or the line, at the front of a page, and returns its length. It asks for room for the longest
 // list: every list then fits.
+#[tactic(auto, using(crate::proofs::Words::taken_few, std::proofs::lemmas::Grind::common_steps))]
 pub fn put_built_list(
     image: &[u8],
     base: &[u8],
@@ -94,7 +95,7 @@ pub fn put_built_list(
     if !is_taken(image, base, reset, text) {
         return put_answer(page, Err(NotAccepted::Unread));
     }
-    let mut marks = [0u8; IMAGE_LIMIT];
+    let mut marks = zeros::<IMAGE_LIMIT>();
     put_list(
         image,
         number(base, 0, 16, NEW_DIGITS),

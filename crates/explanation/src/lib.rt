@@ -6,7 +6,7 @@ ghost use Rattle.std.specs.Prelude.{◌≡◌, ◌++◌, ◌≤◌, length, take
 ghost use Rattle.reports.specs.Explanation.{line_limit};
 ghost use Rattle.explanation.specs.Explained as spec;
 
-use answer::answers::{answer_for, are_within_limits};
+use answer::answers::{answer_for, are_within_limits, zeros};
 use answer::lines::put_answer;
 use explainer::{LINE_LIMIT, explain};
 use image::IMAGE_LIMIT;
@@ -32,6 +32,7 @@ fn put_explanation(image: &[u8], text: &[u8], marks: &mut [u8], page: &mut [u8])
 
 // Writes the line of the answer for the bytes of two files at the front of a page, and the line that explains it behind
 // it where there is one, and returns the length of both. Asks for room for the longest lines.
+#[tactic(auto, using(answer::proofs::AnswerLaws::within_few, std::proofs::lemmas::Grind::common_steps))]
 pub fn put_explained(image: &[u8], text: &[u8], page: &mut [u8]) -> usize
     requires { spec.text_limit ≤ length page.old }
     ensures text { (result ≡ length (spec.answer_explained image.now text.now))
@@ -43,6 +44,6 @@ pub fn put_explained(image: &[u8], text: &[u8], page: &mut [u8]) -> usize
     if !are_within_limits(image, text) {
         return at;
     }
-    let mut marks = [0u8; IMAGE_LIMIT];
+    let mut marks = zeros::<IMAGE_LIMIT>();
     at + put_explanation(image, text, &mut marks[..image.len()], &mut page[at..])
 }

@@ -42,6 +42,7 @@ fn print_by_list(
 // Writes the page, or the line, for the bytes of two files at the front of a page, and returns its length. Asks for
 // room for the longest page: the rows of every image then fit, and 15 can't arise, for which the program check has no
 // line.
+#[tactic(auto, using(answer::proofs::AnswerLaws::within_few, std::proofs::lemmas::Grind::common_steps))]
 pub fn put_printout(image: &[u8], text: &[u8], page: &mut [u8]) -> usize
     requires { spec.page_limit ≤ length page.old }
     ensures text { (result ≡ length (spec.printout image.now text.now))
@@ -52,7 +53,7 @@ pub fn put_printout(image: &[u8], text: &[u8], page: &mut [u8]) -> usize
     if !are_within_limits(image, text) {
         return put_answer_line(image, text, page);
     }
-    let mut marks = [0u8; IMAGE_LIMIT];
+    let mut marks = zeros::<IMAGE_LIMIT>();
     match print_by_list(image, text, &mut marks[..image.len()], page) {
         Ok(size) => size,
         Err(_) => put_answer_line(image, text, page),

@@ -15,21 +15,12 @@ returns-then-not-are_within_limits c =
     (rw c.answer_for.ensures at c.put_answer-at.ensures) in
     record { text = shown.0; part = shown.1 }
 
-pub slice_bounds-marks-end : goal.slice_bounds-marks-end
-slice_bounds-marks-end c =
-    within_few c.args.image.now c.args.text.now
-    (sym c.are_within_limits.ensures ∙ c.if-not-are_within_limits.false)
-
-pub slice_bounds-put_explanation-end : goal.slice_bounds-put_explanation-end
-slice_bounds-put_explanation-end c =
-    sym (length-take-le (length c.args.image.now) _ (within_few c.args.image.now c.args.text.now
-    (sym c.are_within_limits.ensures ∙ c.if-not-are_within_limits.false)))
-
 pub put_explanation-requires : goal.put_explanation-requires
 put_explanation-requires c =
-    let args = c.args in (
-      length-take-le (length args.image.now) _ (within_few args.image.now args.text.now
-          (sym c.are_within_limits.ensures ∙ c.if-not-are_within_limits.false)),
+    let args = c.args in
+    let few = within_few args.image.now args.text.now
+    (sym c.are_within_limits.ensures ∙ c.if-not-are_within_limits.false) in (
+      length-take-le (length args.image.now) c.zeros-marks.result (omega (arith, c.zeros-marks.ensures, few)),
       room_behind args.image.now args.text.now c.requires (rw c.answer_for.ensures at c.put_answer-at.ensures),
     )
 

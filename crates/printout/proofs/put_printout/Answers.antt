@@ -16,21 +16,6 @@ returns-then-not-are_within_limits c =
     (sym c.are_within_limits.ensures ∙ c.if-not-are_within_limits.true) in
     record { text = rw same c.put_answer_line.ensures.line; part = c.put_answer_line.ensures.part }
 
-pub slice_bounds-marks-end : goal.slice_bounds-marks-end
-slice_bounds-marks-end c =
-    within_few c.args.image.now c.args.text.now
-    (sym c.are_within_limits.ensures ∙ c.if-not-are_within_limits.false)
-
-pub slice_bounds-print_by_list-end : goal.slice_bounds-print_by_list-end
-slice_bounds-print_by_list-end c =
-    sym (length-take-le (length c.args.image.now) _ (within_few c.args.image.now c.args.text.now
-    (sym c.are_within_limits.ensures ∙ c.if-not-are_within_limits.false)))
-
-pub print_by_list-requires : goal.print_by_list-requires
-print_by_list-requires c =
-    length-take-le (length c.args.image.now) _ (within_few c.args.image.now c.args.text.now
-    (sym c.are_within_limits.ensures ∙ c.if-not-are_within_limits.false))
-
 pub returns-in-Ok : goal.returns-in-Ok
 unfolding page_after
 returns-in-Ok c =
