@@ -50,7 +50,7 @@ pub fn core_of(bytes: &[u8]) -> Core
         s: word_at(bytes, 8),
         dpr: word_at(bytes, 12),
         dt: single_at(bytes, 17),
-        status: Status::from_number(word_at(bytes, 14)),
+        status: Status::from(word_at(bytes, 14)),
     };
     Core {
         registers,
@@ -87,7 +87,7 @@ fn words_of(core: Core) -> [u64; 10]
         r.s as u64,
         core.pc as u64,
         r.dpr as u64,
-        status.number() as u64,
+        u16::from(status) as u64,
         word_of(core.pg, r.dt) as u64,
         core.depth as u64,
     ]
