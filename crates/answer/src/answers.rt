@@ -1,5 +1,5 @@
 // The answer for the bytes of two files.
-ghost use Rattle.std.specs.Prelude.{◌≡◌, length};
+ghost use Rattle.std.specs.Prelude.{◌≡◌, All, length};
 ghost use Rattle.answer.specs.AnswerLine as spec;
 
 use image::IMAGE_LIMIT;
@@ -48,9 +48,10 @@ pub fn are_within_limits(image: &[u8], text: &[u8]) -> bool
     text.len() <= LIST_LIMIT && image.len() <= IMAGE_LIMIT
 }
 
-// So many zeros. Only their number is promised: those of a long page are too many for a proof to look at.
+// So many zeros. A caller's proof gets their number and not the list: those of a long page are too many to look at.
 pub fn zeros<const N: usize>() -> [u8; N]
-    ensures { N ≡ length result }
+    ensures size { N ≡ length result }
+    ensures zero { All (λ byte. byte ≡ 0) result }
 {
     [0; N]
 }

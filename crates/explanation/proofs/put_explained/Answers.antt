@@ -20,7 +20,7 @@ put_explanation-requires c =
     let args = c.args in
     let few = within_few args.image.now args.text.now
     (sym c.are_within_limits.ensures ∙ c.if-not-are_within_limits.false) in (
-      length-take-le (length args.image.now) c.zeros-marks.result (omega (arith, c.zeros-marks.ensures, few)),
+      length-take-le (length args.image.now) c.zeros-marks.result (omega (arith, c.zeros-marks.ensures.size, few)),
       room_behind args.image.now args.text.now c.requires (rw c.answer_for.ensures at c.put_answer-at.ensures),
     )
 
