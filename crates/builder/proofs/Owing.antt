@@ -4,14 +4,14 @@ use Rattle.types.specs.declared.code.Undecoded.{Undecoded}
 use Rattle.std.specs.Prelude.{Ok, Err}
 use mathlib.Core.Path.{◌≡◌, ap, ◌∙◌}
 use mathlib.Core.List.{List}
+use mathlib.Core.Logic.{◌⊎◌, inl, inr}
 use Prim.Native.Nat.{ℕ, ◌+◌}
 use lib.ListN.{get_or, drop}
 use Rattle.types.specs.declared.code.Kind.{Kind}
 use Rattle.types.specs.declared.code.Flow.{Flow}
 use Rattle.types.specs.declared.code.Instruction.{Instruction}
 use Rattle.decoder.specs.declared.Layout.{Layout}
-use Rattle.decoder.specs.Layout.{LayoutRead}
-use Rattle.decoder.specs.Layout.{layout_read, instruction_of, decoded_of}
+use Rattle.decoder.specs.Layout.{LayoutRead, layout_read, instruction_of, decoded_of}
 use Rattle.decoder.proofs.Layouts.{decoded_layout}
 use Rattle.instructions.specs.Decode.{decode}
 use Rattle.acceptance.specs.Image.{mark_m, mark_x, mark_at}
@@ -50,15 +50,12 @@ module _ (marks : List ℕ) (base at : ℕ) (i : Instruction) (mark next : ℕ) 
     put_call kind there routine back one flow is-there is-routine is-back first e =
         rw (← flow, ← is-mark, ← is-next, ← is-to, ← is-there, ← is-routine, ← is-back, ← first) e
 
-pub put_return : (marks : List ℕ) (base at : ℕ) (i : Instruction) (kind : Kind) → Flow.Return kind ≡ i.entry.flow
+pub put_nothing : (marks : List ℕ) (base at : ℕ) (i : Instruction)
+    → ((kind : Kind) × (i.entry.flow ≡ Flow.Return kind)) ⊎ (i.entry.flow ≡ Flow.Halt)
     → marks ≡ put_owed marks base (owed_there marks base at i)
 unfolding put_owed owed_at owed_by
-put_return marks base at i kind flow = rw (← flow)
-
-pub put_halt : (marks : List ℕ) (base at : ℕ) (i : Instruction) → Flow.Halt ≡ i.entry.flow
-    → marks ≡ put_owed marks base (owed_there marks base at i)
-unfolding put_owed owed_at owed_by
-put_halt marks base at i flow = rw (← flow)
+put_nothing marks base at i (inl (kind, flow)) = rw flow
+put_nothing marks base at i (inr flow) = rw flow
 
 -- ---- by what is read
 
@@ -76,10 +73,6 @@ module _ (image marks : List ℕ) (base at : ℕ) (here : LayoutRead)
   unfolding owed_of
   behind_fits f e = ap (owed_of marks base at) (there ∙ ap (decoded_of (drop at image)) e)
 
-  pub behind_uncarried : here ≡ Err Undecoded.NotCarried → marks ≡ put_owed marks base (owed_behind image marks base at)
+  pub behind_none : {why : Undecoded} → here ≡ Err why → marks ≡ put_owed marks base (owed_behind image marks base at)
   unfolding owed_of put_owed
-  behind_uncarried e = rw (there, e)
-
-  pub behind_short : here ≡ Err Undecoded.CutOff → marks ≡ put_owed marks base (owed_behind image marks base at)
-  unfolding owed_of put_owed
-  behind_short e = rw (there, e)
+  behind_none e = rw (there, e)

@@ -2,11 +2,11 @@
 -- order has as many places as the marks, and no more starts are counted than marks.
 -- Assumes nothing.
 use mathlib.Core.Path.{◌≡◌, refl, sym, ap, ◌∙◌}
-use mathlib.Core.Bool.{Bool, true, false, true≢false, not}
+use mathlib.Core.Bool.{Bool, true, false, true≢false}
 use mathlib.Core.List.{List, [], ◌∷◌}
 use Prim.Native.Nat.{ℕ, zero, suc, ◌+◌, ◌-◌, ◌≤◌, ◌<◌}
 use native.Mathlib.Omega.{arith}
-use borrow.Author.Tests.{eqb-true, eqb-false, ltb-true, leb-true, lt-ltb, le-ltb, le-leb, lt-leb, not-true}
+use borrow.Author.Tests.{eqb-true, eqb-false, ltb-true, not-true}
 use lib.Dec.{eqb, ltb, leb}
 use lib.ListN.{length, get_or, set, length-set}
 use lib.Seq.{get_or-set_same, get_or-set_other}
@@ -19,35 +19,23 @@ use Rattle.builder.specs.Order.{is_free_at, put, Queue, Kept}
 
 -- ---- a free address
 
-pub record Free (marks : List ℕ) (base address : ℕ) : Type 0 where
-  pub low : base ≤ address
-  pub inside : address - base < length marks
-  pub none : start_at marks (address - base) ≡ false
+pub record FreePlace (marks : List ℕ) (place : ℕ) : Type 0 where
+  pub inside : place < length marks
+  pub none : start_at marks place ≡ false
 
 module _ (marks : List ℕ) (base address : ℕ) where
-  pub below_base : address < base → false ≡ is_free_at marks base address
-  unfolding is_free_at
-  below_base h = rw (lt-leb base address h)
-
-  pub past_end : base ≤ address → length marks ≤ address - base → false ≡ is_free_at marks base address
-  unfolding is_free_at
-  past_end low h = rw (le-leb base address low, le-ltb (address - base) (length marks) h)
-
-  pub by_start : (b : Bool) → base ≤ address → address - base < length marks → b ≡ start_at marks (address - base)
-      → not b ≡ is_free_at marks base address
-  unfolding is_free_at
-  by_start b low h e = rw (le-leb base address low, lt-ltb (address - base) (length marks) h, ← e)
-
-  pub is_free : is_free_at marks base address ≡ true → Free marks base address
+  pub is_free : is_free_at marks base address ≡ true → FreePlace marks (address - base)
   unfolding is_free_at
   is_free h =
-      let outer = both_true (leb base address) _ h in
-      let inner = both_true (ltb (address - base) (length marks)) _ outer.1 in
+      let inner = both_true (ltb (address - base) (length marks)) _ (both_true (leb base address) _ h).1 in
       record {
-        low = leb-true base address outer.0;
         inside = ltb-true (address - base) (length marks) inner.0;
         none = not-true (start_at marks (address - base)) inner.1;
       }
+
+  pub free_place : (place : ℕ) → (is_free_at marks base address ≡ true) × (place ≡ address - base)
+      → FreePlace marks place
+  free_place place h = rw h.1 (is_free h.0)
 
   pub put_free : (mark : ℕ) → is_free_at marks base address ≡ true
       → put marks base address mark ≡ set marks (address - base) mark

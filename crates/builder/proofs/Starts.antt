@@ -17,18 +17,6 @@ use Rattle.lists.specs.Routines.{Plain}
 use Rattle.acceptance.proofs.Verdict.{start_inside}
 use Rattle.builder.specs.Order.{Queue}
 
--- ---- one place
-
-module _ (mark : ℕ) (order : List ℕ) (count at : ℕ) where
-  pub no_place : is_start mark ≡ false
-      → (count ≡ count + pick (is_start mark) 1 0) × (order ≡ pick (is_start mark) (set order count at) order)
-  no_place none = (rw none (omega arith), rw none)
-
-  pub one_place : is_start mark ≡ true
-      → (count + 1 ≡ count + pick (is_start mark) 1 0)
-      × (set order count at ≡ pick (is_start mark) (set order count at) order)
-  one_place start = (rw start, rw start)
-
 -- ---- the places before i
 
 pub record Listing (marks order : List ℕ) (count i : ℕ) : Type 0 where
@@ -37,15 +25,6 @@ pub record Listing (marks order : List ℕ) (count i : ℕ) : Type 0 where
   pub started : (k : ℕ) → k < count → start_at marks (get_or order k 0) ≡ true
   pub covered : (at : ℕ) → at < i → start_at marks at ≡ true → (k : ℕ) × (k < count) × (get_or order k 0 ≡ at)
   pub counted : count + start_count (drop i marks) ≡ start_count marks
-
-pub none_listed : (marks order : List ℕ) → Listing marks order 0 0
-none_listed marks order = record {
-  some = omega arith;
-  few = omega arith;
-  started = λ k low. absurd (omega arith);
-  covered = λ at low s. absurd (omega arith);
-  counted = omega arith;
-}
 
 module _ (marks order : List ℕ) (count i : ℕ) (l : Listing marks order count i) (inside : i < length marks) where
   count_here : (b : Bool) → start_at marks i ≡ b

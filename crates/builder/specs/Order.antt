@@ -1,7 +1,6 @@
 -- How marks are worked out from those of the listed routines: starts are put one after another, the place of each at
 -- the end of an order, and the order is gone through from its first to its last, also to those that are put meanwhile.
 -- Assumes nothing.
-use Rattle.types.specs.declared.code.Undecoded.{Undecoded}
 use Rattle.std.specs.Prelude.{◌≡◌, ℕ, ◌-◌, ◌≤◌, ◌<◌, Bool, true, not, ◌&&◌, List, ltb, leb, length, get_or, set, Ok, Err}
 use Rattle.types.specs.Answers.{Decoded}
 use Rattle.types.specs.declared.rules.Requirements.{Requirements}
@@ -29,8 +28,7 @@ put_owed marks base (Requirements.Two v w) = put (put marks base v.address v.mar
 -- what the start at a place requires; nothing where no instruction is read there
 unfoldable pub owed_of : List ℕ → ℕ → ℕ → Decoded → Requirements
 owed_of marks base at (Ok i) = owed_there marks base at i
-owed_of marks base at (Err Undecoded.NotCarried) = Requirements.Nothing
-owed_of marks base at (Err Undecoded.CutOff) = Requirements.Nothing
+owed_of marks base at (Err _) = Requirements.Nothing
 
 abbrev pub owed_behind : List ℕ → List ℕ → ℕ → ℕ → Requirements
 owed_behind image marks base at = owed_of marks base at (instruction_at image marks at)

@@ -1,6 +1,5 @@
 // Marks closed up: what a start requires is put too, until nothing is left to put.
 ghost use Rattle.std.specs.Prelude.{◌≡◌, List, ℕ, ◌+◌, ◌-◌, ◌≤◌, ◌<◌, length, drop};
-ghost use Rattle.codepages.specs.Packing.{packed_pages};
 ghost use Rattle.decoder.specs.Layout.{Fitting, instruction_of};
 ghost use Rattle.types.specs.Addresses.{address_limit, bank_size, image_limit};
 ghost use Rattle.acceptance.specs.Rules.{owed_there};
@@ -11,8 +10,7 @@ use crate::order::{list_starts, put};
 use checker::owed::{
     mark_after_layout, mark_in, mark_of_routine, mark_on_return, target_of_layout,
 };
-use codepages::{CodePages, pages};
-use decoder::{Layout, LayoutRead, layout_at};
+use decoder::{Layout, layout_at};
 use entries::flow_of;
 use fields::byte_at;
 use image::IMAGE_LIMIT;
@@ -65,14 +63,12 @@ fn put_owed(
             let more = put(marks, order, count, base, to, routine);
             put(marks, order, more, base, next, mark_on_return(mark, there))
         }
-        Flow::Return(_) => count,
-        Flow::Halt => count,
+        Flow::Return(_) | Flow::Halt => count,
     }
 }
 
 // Puts what the start at a place requires, nothing where no instruction is read there.
 fn put_behind(
-    codes: &CodePages,
     image: &[u8],
     marks: &mut [u8],
     order: &mut [u16],
@@ -80,7 +76,7 @@ fn put_behind(
     base: u32,
     at: usize,
 ) -> usize
-    requires { (codes.now ≡ packed_pages) × spec.Queue marks.old order.old count
+    requires { spec.Queue marks.old order.old count
         × (at < length marks.old) × (base + length marks.old ≤ address_limit)
         × (length marks.old ≤ bank_size) }
     ensures { (marks.new ≡ spec.put_owed marks.old base
@@ -89,35 +85,28 @@ fn put_behind(
         × spec.Kept order.old count order.new result }
 {
     let mark = byte_at(marks, at);
-    match layout_at(codes, image, at, mark_m(mark), mark_x(mark)) {
-        LayoutRead::Fits(layout) => put_owed(image, marks, order, count, base, at, layout),
-        LayoutRead::Uncarried => count,
-        LayoutRead::Short => count,
+    match layout_at(image, at, mark_m(mark), mark_x(mark)) {
+        Ok(layout) => put_owed(image, marks, order, count, base, at, layout),
+        Err(_) => count,
     }
 }
 
 // Goes through the order from its first start on, and puts what each requires; returns how many starts there are then.
 // Each is gone through once.
-fn work(
-    codes: &CodePages,
-    image: &[u8],
-    marks: &mut [u8],
-    order: &mut [u16],
-    base: u32,
-    first: usize,
-) -> usize
-    requires { (codes.now ≡ packed_pages) × spec.Queue marks.old order.old first
+fn work(image: &[u8], marks: &mut [u8], order: &mut [u16], base: u32, first: usize) -> usize
+    requires { spec.Queue marks.old order.old first
         × (length marks.old ≡ length image.now) × (base + length marks.old ≤ address_limit)
         × (length marks.old ≤ bank_size) }
     ensures { (reset : ℕ) (routines : List ℕ)
         → spec.Working image.now base reset routines marks.old order.old first 0
         → spec.Working image.now base reset routines marks.new order.new result result }
 {
+    // No range counts these places: the order grows while it is gone through.
     let mut count = first;
     let mut done = 0;
     while done < count {
         let at = order[done] as usize;
-        count = put_behind(codes, image, marks, order, count, base, at);
+        count = put_behind(image, marks, order, count, base, at);
         done += 1;
     }
     count
@@ -132,5 +121,5 @@ pub(crate) fn close_up(image: &[u8], base: u32, reset: u32, marks: &mut [u8])
     let mut order = [0u16; IMAGE_LIMIT];
     let listed = list_starts(marks, &mut order);
     let first = put(marks, &mut order, listed, base, reset, 1);
-    work(&pages(), image, marks, &mut order, base, first);
+    work(image, marks, &mut order, base, first);
 }

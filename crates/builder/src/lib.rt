@@ -6,10 +6,8 @@ mod listed;
 mod order;
 
 ghost use Rattle.std.specs.Prelude.{◌≡◌, ◌+◌, ◌≤◌, length};
-ghost use Rattle.types.specs.declared.refusals.TestResult.{TestResult};
-ghost use Rattle.types.specs.Addresses.{address_limit};
+ghost use Rattle.types.specs.Addresses.{address_limit, image_limit};
 ghost use Rattle.types.specs.Refusals.{first_refusal};
-ghost use Rattle.types.specs.Addresses.{image_limit};
 ghost use Rattle.lists.specs.Routines as spec;
 ghost use Rattle.builder.specs.Order.{Closed};
 
@@ -21,17 +19,18 @@ use marklist::lines::first_address;
 use marklist::reader::{fill_marks, test_beside_image};
 use marklist::routines::{has_old_lines, is_routine_list};
 use text::bytes::put_bytes;
-use types::refusals::{Refusal, TestResult};
+use types::refusals::Refusal;
 
 // The limit of lists/specs/Routines.antt.
 const ROUTINE_LIMIT: usize = 256;
 
 // 14, 1, 2: the text is judged whole before the image.
-fn test_form(routines: &[u8], image: usize, marks: usize, base: u32) -> TestResult
+#[tactic(auto, unfolding(types::specs::Refusals::first_refusal))]
+fn test_form(routines: &[u8], image: usize, marks: usize, base: u32) -> Result<(), Refusal>
     ensures { result ≡ first_refusal (spec.form_tests routines.now image marks base) }
 {
     if !is_routine_list(routines) {
-        return TestResult::Failed(Refusal::List);
+        return Err(Refusal::List);
     }
     test_beside_image(has_old_lines(routines), image, marks, base)
 }
@@ -46,10 +45,7 @@ fn read_routines(routines: &[u8], base: u32, table: &mut [u8]) -> bool
 {
     let old = has_old_lines(routines);
     let end = fill_marks(routines, 0, old, first_address(old, base), table);
-    if end != routines.len() {
-        return false;
-    }
-    count_starts(table) <= ROUTINE_LIMIT
+    end == routines.len() && count_starts(table) <= ROUTINE_LIMIT
 }
 
 // Closes the marks of the listed routines up; returns whether they are admitted then, by the check itself.
@@ -62,10 +58,7 @@ fn work_out(image: &[u8], base: u32, reset: u32, routines: &[u8], made: &mut [u8
 {
     put_bytes(made, routines);
     close_up(image, base, reset, made);
-    if packed_verdict(image, made, base, reset) != 0 {
-        return false;
-    }
-    all_listed(image, made, base, routines)
+    packed_verdict(image, made, base, reset) == 0 && all_listed(image, made, base, routines)
 }
 
 // Builds the marks of an image whose length, base and routine list are in form. Asks for room beside the image, for the
@@ -78,21 +71,21 @@ fn build_in(
     table: &mut [u8],
     made: &mut [u8],
     marks: &mut [u8],
-) -> TestResult
+) -> Result<(), Refusal>
     requires { (length table.old ≡ length image.now) × (length made.old ≡ length image.now)
         × (first_refusal (spec.form_tests routines.now (length image.now) (length marks.old) base)
-        ≡ TestResult.Passed) }
+        ≡ Ok tt) }
     ensures answer { result ≡ spec.built image.now base reset routines.now marks.old }
     ensures marks { marks.new ≡ spec.marks_built image.now base reset routines.now marks.old }
 {
     if !read_routines(routines, base, table) {
-        return TestResult::Failed(Refusal::Routines);
+        return Err(Refusal::Routines);
     }
     if !work_out(image, base, reset, table, made) {
-        return TestResult::Failed(Refusal::Routines);
+        return Err(Refusal::Routines);
     }
     put_bytes(marks, made);
-    TestResult::Passed
+    Ok(())
 }
 
 // Builds the marks of an image from its routine list: the least marking that is admitted.
@@ -102,15 +95,12 @@ pub fn build_marks(
     reset: u32,
     routines: &[u8],
     marks: &mut [u8],
-) -> TestResult
+) -> Result<(), Refusal>
     ensures answer { result ≡ spec.built image.now base reset routines.now marks.old }
     ensures marks { marks.new ≡ spec.marks_built image.now base reset routines.now marks.old }
 {
     let n = image.len();
-    let tested = test_form(routines, n, marks.len(), base);
-    if let TestResult::Failed(_) = tested {
-        return tested;
-    }
+    test_form(routines, n, marks.len(), base)?;
     let mut table = [0u8; IMAGE_LIMIT];
     let mut made = [0u8; IMAGE_LIMIT];
     build_in(

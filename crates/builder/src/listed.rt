@@ -1,51 +1,39 @@
 // The targets of calls are on the routine list.
 ghost use Rattle.std.specs.Prelude.{◌≡◌, not, ◌&&◌, ◌+◌, ◌-◌, ◌≤◌, ◌<◌, length, drop};
-ghost use Rattle.codepages.specs.Packing.{packed_pages};
 ghost use Rattle.decoder.specs.Layout.{Fitting, instruction_of};
-ghost use Rattle.types.specs.declared.code.Decoded.{Decoded};
 ghost use Rattle.types.specs.Addresses.{address_limit};
 ghost use Rattle.instructions.specs.Decode.{decode};
 ghost use Rattle.acceptance.specs.Image.{is_start, mark_m, mark_x};
 ghost use Rattle.lists.specs.Routines as spec;
 
 use checker::owed::{mark_in, target_of_layout};
-use codepages::{CodePages, pages};
-use decoder::{Layout, LayoutRead, layout_at};
+use decoder::{Layout, layout_at};
 use entries::flow_of;
 use image::is_start;
 use image::marks::{mark_m, mark_x};
 use types::code::Flow;
 
 // The target of the instruction of a layout at a place is on the list, where that is a call.
+#[tactic(auto, unfolding(lists::specs::Routines::target_listed, lists::specs::Routines::flow_listed))]
 fn target_listed(image: &[u8], routines: &[u8], base: u32, at: usize, layout: Layout) -> bool
     requires { Fitting (length image.now - at) layout × (base + length routines.now ≤ address_limit)
         × (at < length routines.now) }
     ensures { result ≡ spec.target_listed routines.now base at
-        (Decoded.Whole (instruction_of (drop at image.now) layout)) }
+        (Ok (instruction_of (drop at image.now) layout)) }
 {
     match flow_of(layout.number) {
-        Flow::Next => true,
-        Flow::Branch => true,
-        Flow::Jump => true,
         Flow::Call(_) => {
             let to = target_of_layout(image, at, layout, base + at as u32);
             is_start(mark_in(routines, base, to))
         }
-        Flow::Return(_) => true,
-        Flow::Halt => true,
+        Flow::Next | Flow::Branch | Flow::Jump | Flow::Return(_) | Flow::Halt => true,
     }
 }
 
 // A start at a place, with its mark, that calls what is not on the list.
-fn is_stray(
-    codes: &CodePages,
-    image: &[u8],
-    routines: &[u8],
-    base: u32,
-    at: usize,
-    mark: u8,
-) -> bool
-    requires { (codes.now ≡ packed_pages) × (base + length routines.now ≤ address_limit)
+#[tactic(auto, using(crate::proofs::Owing::read_by), unfolding(lists::specs::Routines::target_listed))]
+fn is_stray(image: &[u8], routines: &[u8], base: u32, at: usize, mark: u8) -> bool
+    requires { (base + length routines.now ≤ address_limit)
         × (at < length routines.now) }
     ensures { result ≡ (is_start mark && not (spec.target_listed routines.now base at
         (decode (drop at image.now) (mark_m mark) (mark_x mark)))) }
@@ -53,10 +41,9 @@ fn is_stray(
     if !is_start(mark) {
         return false;
     }
-    match layout_at(codes, image, at, mark_m(mark), mark_x(mark)) {
-        LayoutRead::Fits(layout) => !target_listed(image, routines, base, at, layout),
-        LayoutRead::Uncarried => false,
-        LayoutRead::Short => false,
+    match layout_at(image, at, mark_m(mark), mark_x(mark)) {
+        Ok(layout) => !target_listed(image, routines, base, at, layout),
+        Err(_) => false,
     }
 }
 
@@ -65,13 +52,10 @@ pub(crate) fn all_listed(image: &[u8], marks: &[u8], base: u32, routines: &[u8])
     requires { (base + length routines.now ≤ address_limit) × (length marks.now ≡ length routines.now) }
     ensures { result ≡ spec.all_are_listed image.now marks.now base routines.now }
 {
-    let codes = pages();
-    let mut i = 0;
-    while i < marks.len() {
-        if is_stray(&codes, image, routines, base, i, marks[i]) {
+    for (at, mark) in marks.iter().enumerate() {
+        if is_stray(image, routines, base, at, *mark) {
             return false;
         }
-        i += 1;
     }
     true
 }

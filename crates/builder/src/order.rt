@@ -1,6 +1,6 @@
 // Starts that are put one after another: the mark at its place, and the place at the end of an order. Nothing is taken
 // from the order, so that each start stands in it once.
-ghost use Rattle.std.specs.Prelude.{◌≡◌, true, ◌+◌, ◌≤◌, ◌<◌, length, set};
+ghost use Rattle.std.specs.Prelude.{◌≡◌, true, false, ◌+◌, ◌-◌, ◌≤◌, ◌<◌, length, set, MatchOption};
 ghost use Rattle.prelude.specs.Choice.{pick};
 ghost use Rattle.types.specs.Addresses.{bank_size};
 ghost use Rattle.acceptance.specs.Image.{is_start};
@@ -9,18 +9,20 @@ ghost use Rattle.builder.specs.Order as spec;
 
 use image::is_start;
 
-// An address of the image at which no start stands.
-fn is_free(marks: &[u8], base: u32, address: u32) -> bool
-    ensures { result ≡ spec.is_free_at marks.now base address }
+// The place of an address of the image at which no start stands.
+#[tactic(auto, unfolding(crate::specs::Order::is_free_at))]
+fn free_place(marks: &[u8], base: u32, address: u32) -> Option<usize>
+    ensures { MatchOption result (spec.is_free_at marks.now base address ≡ false)
+        (λ place. (spec.is_free_at marks.now base address ≡ true) × (place ≡ address - base)) }
 {
     if address < base {
-        return false;
+        return None;
     }
     let place = (address - base) as usize;
-    if marks.len() <= place {
-        return false;
+    if marks.len() <= place || is_start(marks[place]) {
+        return None;
     }
-    !is_start(marks[place])
+    Some(place)
 }
 
 // Puts a start where its address is free; returns how many starts there are. Asks for the mark of a start, and for
@@ -38,10 +40,9 @@ pub(crate) fn put(
         × spec.Queue marks.new order.new result
         × spec.Kept order.old count order.new result }
 {
-    if !is_free(marks, base, address) {
+    let Some(place) = free_place(marks, base, address) else {
         return count;
-    }
-    let place = (address - base) as usize;
+    };
     marks[place] = mark;
     order[count] = place as u16;
     count + 1
@@ -67,10 +68,8 @@ pub(crate) fn list_starts(marks: &[u8], order: &mut [u16]) -> usize
     ensures { spec.Queue marks.now order.new result }
 {
     let mut count = 0;
-    let mut i = 0;
-    while i < marks.len() {
-        count = list_place(marks[i], order, count, i);
-        i += 1;
+    for (at, mark) in marks.iter().enumerate() {
+        count = list_place(*mark, order, count, at);
     }
     count
 }

@@ -21,8 +21,7 @@ use Rattle.prelude.proofs.Choice.{one_of}
 use Rattle.instructions.specs.CodeMap.{length_at}
 use Rattle.instructions.specs.Decode.{page_of, operand_of, judged, decode_on, decode}
 use Rattle.reports.specs.Explanation.{prefix_of, code_entry, is_free_at, requirement_at}
-use Rattle.decoder.specs.declared.LayoutRead.{LayoutRead}
-use Rattle.decoder.specs.Layout.{layout_read, decoded_of}
+use Rattle.decoder.specs.Layout.{LayoutRead, layout_read, decoded_of}
 use Rattle.decoder.proofs.Layouts.{decoded_layout}
 use Rattle.instructions.proofs.CodeMap.{carried_length}
 

@@ -18,8 +18,7 @@ use crate::pieces::put_text;
 use crate::starts::put_at_start;
 use checker::packed_verdict;
 use text::bytes::put_bytes;
-use types::pages::Printed;
-use types::refusals::Refusal;
+use types::refusals::{Refusal, Refused};
 
 // No line has more bytes.
 pub const LINE_LIMIT: usize = 81;
@@ -92,7 +91,13 @@ fn put_line(
 }
 
 // Writes the line that explains the check's verdict at the front of a page, where that has room for it.
-pub fn explain(image: &[u8], marks: &[u8], base: u32, reset: u32, page: &mut [u8]) -> Printed
+pub fn explain(
+    image: &[u8],
+    marks: &[u8],
+    base: u32,
+    reset: u32,
+    page: &mut [u8],
+) -> Result<usize, Refused>
     ensures answer { result ≡ spec.explained image.now marks.now base reset page.old }
     ensures page { page.new ≡ spec.page_explained image.now marks.now base reset page.old }
     ensures short { length (spec.explanation image.now marks.now base reset) ≤ spec.line_limit }
@@ -101,11 +106,11 @@ pub fn explain(image: &[u8], marks: &[u8], base: u32, reset: u32, page: &mut [u8
     let mut line = [0u8; LINE_LIMIT];
     let size = put_line(&mut line, image, marks, base, reset, answer);
     if page.len() < size {
-        return Printed::NotPrinted {
+        return Err(Refused {
             why: Refusal::Page,
             offset: 0,
-        };
+        });
     }
     put_bytes(page, &line[..size]);
-    Printed::Rows(size)
+    Ok(size)
 }

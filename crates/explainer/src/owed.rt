@@ -13,7 +13,7 @@ use checker::start::{has_mark_at, is_start_at};
 use decoder::Layout;
 use entries::flow_of;
 use fields::byte_at;
-use successors::{kind_number, next_address};
+use successors::next_address;
 use types::code::Flow;
 use types::rules::{Requirement, Requirements};
 
@@ -142,7 +142,7 @@ pub(crate) fn return_kind(flow: Flow) -> u8
         Flow::Branch => 0,
         Flow::Jump => 0,
         Flow::Call(_) => 0,
-        Flow::Return(kind) => kind_number(kind),
+        Flow::Return(kind) => u8::from(kind),
         Flow::Halt => 0,
     }
 }

@@ -18,12 +18,12 @@ use crate::pieces::{
 };
 use checker::owed::mark_in;
 use checker::start::{first_start, less_one};
-use codepages::{packed_at, pages};
-use decoder::{Layout, LayoutRead, layout_at, length_of, page_of};
+use codepages::packed_at;
+use decoder::{Layout, layout_at, length_of, page_of};
 use entries::flow_of;
 use fields::byte_at;
 use image::marks::{mark_kind, mark_m, mark_x, return_m, return_x};
-use types::code::Flow;
+use types::code::{Flow, Undecoded};
 use types::rules::Requirements;
 
 // Adds a start: its address, its bytes and its word, by the number of its entry.
@@ -53,7 +53,7 @@ fn code_number(bytes: &[u8]) -> u32
     ensures { unpacked result ≡ spec.code_entry bytes.now }
 {
     let page = page_of(byte_at(bytes, 0));
-    packed_at(&pages(), page, byte_at(bytes, prefix_of(bytes)))
+    packed_at(page, byte_at(bytes, prefix_of(bytes)))
 }
 
 // 5: prefix and code of what is not carried.
@@ -228,11 +228,11 @@ pub(crate) fn put_at_start(
 {
     let address = base + at as u32;
     let mark = byte_at(marks, at);
-    match layout_at(&pages(), image, at, mark_m(mark), mark_x(mark)) {
-        LayoutRead::Uncarried => put_code(line, from, address, &image[at..]),
-        LayoutRead::Short => put_cut_off(line, from, address, &image[at..], mark),
-        LayoutRead::Fits(layout) => {
-            put_instruction(line, from, image, marks, base, at, layout, number)
-        }
+    match layout_at(image, at, mark_m(mark), mark_x(mark)) {
+        Ok(layout) => put_instruction(line, from, image, marks, base, at, layout, number),
+        Err(why) => match why {
+            Undecoded::NotCarried => put_code(line, from, address, &image[at..]),
+            Undecoded::CutOff => put_cut_off(line, from, address, &image[at..], mark),
+        },
     }
 }

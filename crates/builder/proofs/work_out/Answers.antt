@@ -1,23 +1,12 @@
 -- The marks that are made begin as those of the routines; the check and the list say whether they are admitted.
 use mathlib.Core.Path.{◌≡◌, sym, subst, ◌∙◌}
-use Rattle.lists.specs.Routines.{Plain}
+use borrow.Author.Tests.{ne_eqb}
 use Rattle.builder.specs.Order.{Closed}
 use Rattle.builder.proofs.Answering.{copied, not_accepted, accepted_then}
 use Rattle.builder.proofs.work_out.Goals as goal
 
-pub close_up-requires : goal.close_up-requires
-close_up-requires c =
-    let same : c.put_bytes.new.page ≡ c.args.routines.now =
-    copied c.args.routines.now c.args.made.now c.put_bytes.new.page
-    (c.requires.2 ∙ sym c.requires.1) c.put_bytes.ensures in (
-      subst Plain (sym same) c.requires.0,
-      c.made-1.given ∙ c.requires.2,
-      c.requires.3,
-      c.requires.4,
-    )
-
-pub returns-then-packed_verdict-ne0 : goal.returns-then-packed_verdict-ne0
-returns-then-packed_verdict-ne0 c =
+pub returns-else-packed_verdict-eq0 : goal.returns-else-packed_verdict-eq0
+returns-else-packed_verdict-eq0 c =
     let same : c.put_bytes.new.page ≡ c.args.routines.now =
     copied c.args.routines.now c.args.made.now c.put_bytes.new.page
     (c.requires.2 ∙ sym c.requires.1) c.put_bytes.ensures in
@@ -28,13 +17,14 @@ returns-then-packed_verdict-ne0 c =
     c.close_up.ensures in
     let args = c.args in (
       closed-up,
-      not_accepted args.image.now args.base args.reset args.routines.now
+      rw (ne_eqb _ _ c.if-packed_verdict-eq0.false)
+          (not_accepted args.image.now args.base args.reset args.routines.now
           c.close_up.new.marks c.packed_verdict.result c.packed_verdict.ensures
-          c.if-packed_verdict-ne0.true,
+          c.if-packed_verdict-eq0.false),
     )
 
-pub returns : goal.returns
-returns c =
+pub returns-then-packed_verdict-eq0 : goal.returns-then-packed_verdict-eq0
+returns-then-packed_verdict-eq0 c =
     let same : c.put_bytes.new.page ≡ c.args.routines.now =
     copied c.args.routines.now c.args.made.now c.put_bytes.new.page
     (c.requires.2 ∙ sym c.requires.1) c.put_bytes.ensures in
@@ -47,6 +37,6 @@ returns c =
       closed-up,
       accepted_then args.image.now args.base args.reset args.routines.now
           c.close_up.new.marks c.packed_verdict.result c.packed_verdict.ensures
-          c.if-packed_verdict-ne0.false
+          c.if-packed_verdict-eq0.true
           closed-up.as_listed c.all_listed.result c.all_listed.ensures,
     )

@@ -1,22 +1,6 @@
 -- The starts of the routines and the reset begin the order; where it has been gone through, nothing is lacking.
-use mathlib.Core.Path.{◌∙◌}
-use native.Mathlib.Omega.{arith}
 use Rattle.builder.proofs.Worklist.{begins, closed}
 use Rattle.builder.proofs.close.close_up.Goals as goal
-
-pub list_starts-listed-requires : goal.list_starts-listed-requires
-list_starts-listed-requires c =
-    (c.requires.0, omega (arith, c.requires.1, c.requires.2), omega (arith, c.requires.1, c.requires.2))
-
-pub work-requires : goal.work-requires
-work-requires c =
-    let pre = c.requires in (
-      c.pages.ensures,
-      c.put-first.ensures.1,
-      c.marks-1.given ∙ pre.1,
-      omega (arith, c.marks-1.given, pre.1, pre.3),
-      omega (arith, c.marks-1.given, pre.1, pre.2),
-    )
 
 pub returns : goal.returns
 returns c =

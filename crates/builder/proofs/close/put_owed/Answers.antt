@@ -6,7 +6,7 @@ use Rattle.types.specs.declared.code.Instruction.{Instruction}
 use Rattle.decoder.specs.Layout.{instruction_of}
 use Rattle.acceptance.proofs.Widths.{after_start, routine_start, on_return_start}
 use Rattle.builder.proofs.Putting.{kept_same, kept_through}
-use Rattle.builder.proofs.Owing.{put_next, put_branch, put_jump, put_call, put_return, put_halt}
+use Rattle.builder.proofs.Owing.{put_next, put_branch, put_jump, put_call, put_nothing}
 use Rattle.builder.proofs.close.put_owed.Goals as goal
 
 pub put-requires : goal.put-requires
@@ -106,22 +106,9 @@ returns-in-Call c =
 
 pub returns-in-Return : goal.returns-in-Return
 returns-in-Return c =
-    let instruction : Instruction =
-    instruction_of (drop c.args.at c.args.image.now) c.args.layout in
     let args = c.args in (
-      put_return args.marks.now args.base args.at instruction _
-          (sym c.in-Return.is ∙ c.flow_of.ensures),
-      c.requires.0,
-      kept_same args.order.now args.count,
-    )
-
-pub returns-in-Halt : goal.returns-in-Halt
-returns-in-Halt c =
-    let instruction : Instruction =
-    instruction_of (drop c.args.at c.args.image.now) c.args.layout in
-    let args = c.args in (
-      put_halt args.marks.now args.base args.at instruction
-          (sym c.in-Halt.is ∙ c.flow_of.ensures),
+      put_nothing args.marks.now args.base args.at (instruction_of (drop args.at args.image.now) args.layout)
+          (rw c.flow_of.ensures at c.in-Return.is),
       c.requires.0,
       kept_same args.order.now args.count,
     )

@@ -20,7 +20,7 @@ returns-in-Call c = rw c.in-Call.is
 
 pub returns-in-Return : goal.returns-in-Return
 unfolding spec.return_kind
-returns-in-Return c = rw c.in-Return.is c.kind_number.ensures
+returns-in-Return c = rw c.in-Return.is c.from.ensures
 
 pub returns-in-Halt : goal.returns-in-Halt
 unfolding spec.return_kind

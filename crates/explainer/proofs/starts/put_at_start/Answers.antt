@@ -1,4 +1,6 @@
 -- What is decoded at the start is the layout's, and decides what is said.
+use Rattle.std.specs.Prelude.{Err}
+use mathlib.Core.Path.{ap, ◌∙◌}
 use native.Mathlib.Omega.{arith}
 use lib.ListN.{drop}
 use Rattle.decoder.proofs.Layouts.{fits_at}
@@ -13,7 +15,7 @@ put_code-requires c =
     rw (part_whole c.args.at c.args.image.now) (
       uncarried_code (drop c.args.at c.args.image.now) c.mark_m.result
           c.mark_x.result (decoded_by _ _ _ c.layout_at.ensures
-          c.in-Uncarried.is),
+          (c.in-Err.is ∙ ap (λ why. Err why) c.in-NotCarried.is)),
       omega (arith, c.requires.1),
     )
 
@@ -22,7 +24,7 @@ put_cut_off-requires c =
     rw (part_whole c.args.at c.args.image.now) (
       few_left (drop c.args.at c.args.image.now) c.mark_m.result
           c.mark_x.result
-          (decoded_by _ _ _ c.layout_at.ensures c.in-Short.is),
+          (decoded_by _ _ _ c.layout_at.ensures (c.in-Err.is ∙ ap (λ why. Err why) c.in-CutOff.is)),
       omega
           (arith, c.requires.1),
     )
@@ -35,28 +37,28 @@ put_instruction-requires c = (
   c.requires.1,
 )
 
-pub returns-in-Uncarried : goal.returns-in-Uncarried
+pub returns-in-NotCarried : goal.returns-in-NotCarried
 unfolding spec.start_detail
-returns-in-Uncarried c =
+returns-in-NotCarried c =
     rw (
       ← c.byte_at-mark.ensures,
       ← c.mark_m.ensures.0,
       ← c.mark_x.ensures.0,
       decoded_by _ _
-          _ c.layout_at.ensures c.in-Uncarried.is,
+          _ c.layout_at.ensures (c.in-Err.is ∙ ap (λ why. Err why) c.in-NotCarried.is),
     )
     (added_within 69 (omega arith) (rw (part_whole c.args.at c.args.image.now) at
     c.put_code.ensures))
 
-pub returns-in-Short : goal.returns-in-Short
+pub returns-in-CutOff : goal.returns-in-CutOff
 unfolding spec.start_detail
-returns-in-Short c =
+returns-in-CutOff c =
     rw (
       ← c.byte_at-mark.ensures,
       ← c.mark_m.ensures.0,
       ← c.mark_x.ensures.0,
       decoded_by _ _
-          _ c.layout_at.ensures c.in-Short.is,
+          _ c.layout_at.ensures (c.in-Err.is ∙ ap (λ why. Err why) c.in-CutOff.is),
     )
     (added_within 69 (omega arith) (rw (part_whole c.args.at c.args.image.now) at
     c.put_cut_off.ensures))
