@@ -11,7 +11,6 @@ ghost use Rattle.anywidth.specs.AnyWidth as width;
 ghost use Rattle.semantics.specs.Arithmetic as arithmetic;
 ghost use Rattle.prelude.specs.Choice.{pick};
 ghost use Rattle.instructions.specs.Decode.{operand_limit};
-ghost use Rattle.types.specs.Addresses.{address_limit};
 ghost use Rattle.cpu.specs.File.{file_size};
 ghost use Rattle.cpu.specs.FileEffects as rows;
 ghost use Rattle.cpu.specs.CodeEffects.{Makes};
@@ -28,6 +27,7 @@ use cpu::effects::{Effect, behind_address, branches_if, leaves, pushes, puts, st
 use cpu::file::{FILE_SIZE, PS};
 use cpu::flags::{flag_at, with_result};
 use datawidth::{low, merged, wide};
+use types::addresses::Address;
 use types::code::Mode;
 use types::machine::Data;
 
@@ -95,11 +95,11 @@ fn by_action(
     mode: Mode,
     short: bool,
     operand: u64,
-    next: u32,
+    next: Address,
     given: Data,
     registers: &[u16; FILE_SIZE],
 ) -> Effect
-    requires { (to < file_size) × (next < address_limit) × (operand < operand_limit) }
+    requires { (to < file_size) × (operand < operand_limit) }
     ensures { Makes result registers.now (spec.by_action mode short operand next given registers.now action
         choice to) }
 {
@@ -154,17 +154,17 @@ fn by_action(
 }
 
 // What a task does with its data. The place of execution, the widths and the open calls are not its business. Asks for
-// an address of 24 bits and an operand of five bytes, as instructions have them, so that their sum (PER) passes no u64.
+// an operand of five bytes, as instructions have it.
 pub fn effect_by(
     task: u32,
     mode: Mode,
     short: bool,
     operand: u64,
-    next: u32,
+    next: Address,
     given: Data,
     registers: &[u16; FILE_SIZE],
 ) -> Effect
-    requires { (next < address_limit) × (operand < operand_limit) }
+    requires { operand < operand_limit }
     ensures { Makes result registers.now (spec.effect_by mode short operand next given registers.now
         (unpacked_task task)) }
 {

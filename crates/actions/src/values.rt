@@ -3,7 +3,6 @@ ghost use Rattle.std.specs.Prelude.{◌≡◌, ◌+◌, ◌<◌};
 ghost use Rattle.semantics.specs.Addressing.{bits};
 ghost use Rattle.prelude.specs.Choice.{pick};
 ghost use Rattle.instructions.specs.Decode.{operand_limit};
-ghost use Rattle.types.specs.Addresses.{address_limit};
 ghost use Rattle.types.specs.Status.{status_of};
 ghost use Rattle.actions.specs.ActionEffects as spec;
 ghost use Rattle.actions.specs.Tasks.{modification_of};
@@ -13,7 +12,7 @@ use cpu::effects::behind_address;
 use cpu::file::{DT, FILE_SIZE, PS};
 use cpu::flags::{with_flags_cleared, with_flags_set};
 use datawidth::{cleared_by, wide};
-use types::addresses::BANK_SIZE;
+use types::addresses::{Address, BANK_SIZE};
 use types::code::Mode;
 use types::machine::Status;
 
@@ -38,17 +37,17 @@ pub(crate) fn value_of(
     mode: Mode,
     short: bool,
     operand: u64,
-    next: u32,
+    next: Address,
     v: u16,
     registers: &[u16; FILE_SIZE],
 ) -> u64
-    requires { (next < address_limit) × (operand < operand_limit) }
+    requires { operand < operand_limit }
     ensures { result ≡ spec.value_of mode short operand next v registers.now choice }
 {
     match choice {
         1 => operand,
-        2 => next as u64 + operand,
-        3 => (next / BANK_SIZE) as u64,
+        2 => next.number() as u64 + operand,
+        3 => (next.number() / BANK_SIZE) as u64,
         4 => wide(behind_address(mode, short, operand)),
         5 => wide(registers[DT] % 256),
         6 => wide(registers[PS]),

@@ -44,7 +44,7 @@ fn direct(registers: &[u16; FILE_SIZE], operand: u64) -> u32
 fn absolute(registers: &[u16; FILE_SIZE], operand: u64) -> u32
     ensures { (result ≡ spec.absolute (registers_of registers.now) operand) × (result < address_limit) }
 {
-    (registers[DT] % 256) as u32 * BANK_SIZE + low_word(operand)
+    (registers[DT] % 256) as u32 * BANK_SIZE + low_word(operand) as u32
 }
 
 // S and one byte: a data address, which does not wrap.
@@ -125,8 +125,8 @@ fn address_of(
         )),
         Mode::AbsoluteIndexedX => Some(absolute(registers, operand) + index(X, registers)),
         Mode::AbsoluteIndexedY => Some(absolute(registers, operand) + index(Y, registers)),
-        Mode::AbsoluteLong => Some(low_long(operand)),
-        Mode::AbsoluteLongIndexedX => Some(low_long(operand) + index(X, registers)),
+        Mode::AbsoluteLong => Some(low_long(operand).number()),
+        Mode::AbsoluteLongIndexedX => Some(low_long(operand).number() + index(X, registers)),
         Mode::StackPointerRelative => Some(stack_relative(registers, operand)),
         Mode::StackPointerRelativeIndirectIndexedY => {
             let at = stack_relative(registers, operand);

@@ -20,6 +20,7 @@ use cpu::flags::{bit_at, with_widths};
 use entries::{effect_of, keeps_widths};
 use memory::stores::{served_all, write};
 use successors::widths::{m_after, x_after};
+use types::addresses::Address;
 use types::machine::{Completion, Status, Stop};
 
 // A step that met no stop: whether it was a call, the place of execution after it, and how many calls are open then. A
@@ -66,7 +67,7 @@ pub(crate) fn finish(
     base: u32,
     i: Fetched,
     effect: Effect,
-    to: u32,
+    to: Address,
     depth: usize,
     registers: &mut [u16; FILE_SIZE],
     ram: &mut [u8],
@@ -84,7 +85,7 @@ pub(crate) fn finish(
     put(registers, i, effect);
     Ok(Completed {
         completion: Completion::Ordinary,
-        place: to,
+        place: to.number(),
         depth,
     })
 }

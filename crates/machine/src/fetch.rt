@@ -10,6 +10,7 @@ ghost use Rattle.machine.specs.Fetches.{decoded_as};
 use crate::fetched::Fetched;
 use cpu::flags::bit_at;
 use decoder::{layout_at, operand_at};
+use types::addresses::Address;
 use types::code::Undecoded;
 use types::machine::Status;
 
@@ -17,24 +18,24 @@ use types::machine::Status;
 pub(crate) fn fetch_at(
     image: &[u8],
     base: u32,
-    place: u32,
+    place: Address,
     status: u16,
 ) -> Result<Fetched, Undecoded>
-    requires { (base + length image.now ≤ address_limit) × (length image.now ≤ image_limit)
-        × (place < address_limit) }
+    requires { (base + length image.now ≤ address_limit) × (length image.now ≤ image_limit) }
     ensures fetched { (ram : List ℕ) (c : Core) → place ≡ spec.place_of c → c.registers.status ≡ status_of status
         → decoded_as result ≡ spec.fetched (memory ram image.now base) c }
     ensures here { IfOk result (λ i. i.place ≡ place) }
 {
-    if place < base {
+    let number = place.number();
+    if number < base {
         return Err(Undecoded::CutOff);
     }
-    let at = (place - base) as usize;
+    let at = (number - base) as usize;
     let m = bit_at(Status::M, status);
     let x = bit_at(Status::X, status);
     let layout = layout_at(image, at, m, x)?;
     Ok(Fetched {
-        place,
+        place: number,
         number: layout.number,
         length: layout.length,
         operand: operand_at(image, at, layout),

@@ -3,7 +3,6 @@ ghost use Rattle.std.specs.Prelude.{◌≡◌, List, [], ℕ, ◌≤◌, Ok};
 ghost use Rattle.cpu.specs.File.{registers_of};
 ghost use Rattle.memory.specs.Listed.{listed};
 ghost use Rattle.types.specs.declared.machine.CallChange.{CallChange};
-ghost use Rattle.types.specs.Addresses.{address_limit};
 ghost use Rattle.semantics.specs.Memory.{Memory, memory};
 ghost use Rattle.instructions.specs.Successors.{target_address, kind_number};
 ghost use Rattle.semantics.specs.Step as spec;
@@ -23,25 +22,30 @@ use entries::{accumulator_of, mode_of, target_form_of, width_of};
 use memory::stores::{Stores, served_all, write};
 use operations::table::task_at;
 use successors::{next_address, target_of};
-use types::addresses::BANK_SIZE;
+use types::addresses::{Address, BANK_SIZE};
 use types::code::Kind;
 use types::machine::{CALL_LIMIT, Completion, OperandUse, RECORD_UNIT, Status, Stop};
 
 // Where an instruction goes by its target.
-fn target(i: Fetched) -> u32
+fn target(i: Fetched) -> Address
     ensures { result ≡ target_address (instruction i) i.place }
 {
-    target_of(target_form_of(i.number), i.place, i.length, i.operand)
+    target_of(
+        target_form_of(i.number),
+        i.address(),
+        i.length,
+        i.operand,
+    )
 }
 
 // Where an operation goes on.
-fn goes(branches: bool, taken: bool, i: Fetched) -> u32
+fn goes(branches: bool, taken: bool, i: Fetched) -> Address
     ensures { result ≡ goes_on_by branches i i.place taken }
 {
     if branches && taken {
         target(i)
     } else {
-        next_address(i.place, i.length)
+        next_address(i.address(), i.length)
     }
 }
 
@@ -85,7 +89,7 @@ pub(crate) fn operates(
         ram, image, base, access, mode, named, registers, short, i.operand,
     )
     .ok_or(Stop::Unmapped)?;
-    let next = next_address(i.place, i.length);
+    let next = next_address(i.address(), i.length);
     let effect = effect_by(task, mode, short, i.operand, next, given, registers);
     let to = goes(branches, effect.taken, i);
     finish(image, base, i, effect, to, depth, registers, ram)
@@ -103,7 +107,7 @@ pub(crate) fn jumps(i: Fetched, depth: usize, registers: &mut [u16; FILE_SIZE]) 
     put(registers, i, leaves(status));
     Completed {
         completion: Completion::Ordinary,
-        place: target(i),
+        place: target(i).number(),
         depth,
     }
 }
@@ -119,12 +123,12 @@ pub(crate) fn return_bytes(kind: Kind) -> u16
 }
 
 // A return address onto the stack, the highest byte first.
-fn pushes_return(s: u16, next: u32, kind: Kind) -> Stores
+fn pushes_return(s: u16, next: Address, kind: Kind) -> Stores
     ensures { (place depth : ℕ) (file : List ℕ) (i : Fetched) → s ≡ (registers_of file).s
         → next ≡ spec.next (core_at place depth file) (instruction i)
         → listed result ≡ spec.pushes_return (core_at place depth file) (instruction i) kind }
 {
-    let address = next as u64;
+    let address = next.number() as u64;
     let first = s as u64;
     let second = pushed_at(s, 1) as u64;
     let third = pushed_at(s, 2) as u64;
@@ -139,10 +143,10 @@ fn pushes_return(s: u16, next: u32, kind: Kind) -> Stores
 }
 
 // The record of an open call.
-fn entry_of(address: u32, kind: Kind) -> u64
+fn entry_of(address: Address, kind: Kind) -> u64
     ensures { result ≡ spec.call_record address (kind_number kind) }
 {
-    address as u64 + RECORD_UNIT * u8::from(kind) as u64
+    address.number() as u64 + RECORD_UNIT * u8::from(kind) as u64
 }
 
 // A call, unless too many are open or its pushes are not served.
@@ -165,7 +169,7 @@ pub(crate) fn calls_to(
     if CALL_LIMIT <= depth {
         return Err(Stop::Deep);
     }
-    let next = next_address(i.place, i.length);
+    let next = next_address(i.address(), i.length);
     let s = registers[S];
     let stores = pushes_return(s, next, kind);
     served_all(ram, image, base, stores)?;
@@ -179,7 +183,7 @@ pub(crate) fn calls_to(
     );
     Ok(Completed {
         completion: Completion::Call,
-        place: target(i),
+        place: target(i).number(),
         depth: depth + 1,
     })
 }

@@ -3,7 +3,6 @@ ghost use Rattle.std.specs.Prelude.{◌≡◌, List, ℕ, ◌<◌};
 ghost use Rattle.cpu.specs.File.{registers_of};
 ghost use Rattle.memory.specs.Reads.{read_of};
 ghost use Rattle.types.specs.declared.code.Flow.{Flow};
-ghost use Rattle.types.specs.Addresses.{address_limit};
 ghost use Rattle.semantics.specs.Memory.{Memory, memory, evaluate};
 ghost use Rattle.semantics.specs.Step as spec;
 ghost use Rattle.machine.specs.Fetches.{instruction};
@@ -16,11 +15,12 @@ use cpu::effects::{pulled_at, puts};
 use cpu::file::{FILE_SIZE, PS, S};
 use memory::reads::{long_from, word_from};
 use successors::in_bank_after;
+use types::addresses::Address;
 use types::code::Kind;
 use types::machine::{Completion, RECORD_UNIT, Stop};
 
 // The return address that an instruction pulls.
-fn pulls_return(ram: &[u8], image: &[u8], base: u32, i: Fetched, s: u16, kind: Kind) -> Option<u32>
+fn pulls_return(ram: &[u8], image: &[u8], base: u32, i: Fetched, s: u16, kind: Kind) -> Option<Address>
     ensures { (depth : ℕ) (file : List ℕ) → s ≡ (registers_of file).s → result
         ≡ read_of
         (evaluate (memory ram.now image.now base)
@@ -32,9 +32,11 @@ fn pulls_return(ram: &[u8], image: &[u8], base: u32, i: Fetched, s: u16, kind: K
     match kind {
         Kind::ByRts => {
             let address = word_from(ram, image, base, first, second)?;
-            Some(in_bank_after(i.place, i.length, address as u32))
+            Some(in_bank_after(i.address(), i.length, address))
         }
-        Kind::ByRtl => long_from(ram, image, base, first, second, third),
+        Kind::ByRtl => Some(Address::new(long_from(
+            ram, image, base, first, second, third,
+        )?)),
     }
 }
 
@@ -44,7 +46,7 @@ fn returns_to(
     i: Fetched,
     opened: u64,
     kind: Kind,
-    address: u32,
+    address: Address,
     depth: usize,
     registers: &mut [u16; FILE_SIZE],
 ) -> Result<Completed, Stop>
@@ -59,7 +61,7 @@ fn returns_to(
     if opened / RECORD_UNIT % 256 != u8::from(kind) as u64 {
         return Err(Stop::Astray);
     }
-    if opened % RECORD_UNIT != address as u64 {
+    if opened % RECORD_UNIT != address.number() as u64 {
         return Err(Stop::Astray);
     }
     let s = pulled_at(registers[S], return_bytes(kind));
@@ -67,7 +69,7 @@ fn returns_to(
     put(registers, i, puts(S, s, status));
     Ok(Completed {
         completion: Completion::Ordinary,
-        place: address,
+        place: address.number(),
         depth: depth - 1,
     })
 }

@@ -13,7 +13,7 @@ use crate::flows::{calls_to, jumps, operates};
 use crate::returning::returns;
 use cpu::file::{FILE_SIZE, PS};
 use entries::flow_of;
-use types::addresses::ADDRESS_LIMIT;
+use types::addresses::Address;
 use types::code::{Flow, Undecoded};
 use types::machine::{CALL_LIMIT, Stop};
 
@@ -90,8 +90,7 @@ pub fn step_in(
         ≡ spec.step (memory ram.old image.now base)
         (state (core_at place depth registers.old) calls.old) }
 {
-    let here = place % ADDRESS_LIMIT;
-    match fetch_at(image, base, here, registers[PS]) {
+    match fetch_at(image, base, Address::wrapped(place), registers[PS]) {
         Ok(i) => perform(image, base, i, depth, registers, calls, ram),
         Err(Undecoded::NotCarried) => Err(Stop::Uncarried),
         Err(Undecoded::CutOff) => Err(Stop::Outside),
