@@ -62,13 +62,7 @@ pub fn m7700_build_marks(
 
 // The printed page: 0 in the low byte and the length of the rows above it; or the number that refuses it, with the
 // check's offset above it.
-pub fn m7700_print(
-    image: &[u8],
-    marks: &[u8],
-    base: u32,
-    reset: u32,
-    page: &mut [u8],
-) -> u64
+pub fn m7700_print(image: &[u8], marks: &[u8], base: u32, reset: u32, page: &mut [u8]) -> u64
     ensures answer { result ≡ packed_printed (printed image.now marks.now base reset page.old) }
     ensures page { page.new ≡ page_printed image.now marks.now base reset page.old }
 {
@@ -81,13 +75,7 @@ pub fn m7700_print(
 
 // The line that says what the check's refusal is about: 0 in the low byte and its length above it; or 15 for want of
 // room.
-pub fn m7700_explain(
-    image: &[u8],
-    marks: &[u8],
-    base: u32,
-    reset: u32,
-    page: &mut [u8],
-) -> u64
+pub fn m7700_explain(image: &[u8], marks: &[u8], base: u32, reset: u32, page: &mut [u8]) -> u64
     ensures answer { result ≡ packed_printed (explained image.now marks.now base reset page.old) }
     ensures page { page.new ≡ page_explained image.now marks.now base reset page.old }
     ensures short { length (explanation image.now marks.now base reset) ≤ line_limit }
@@ -118,13 +106,7 @@ pub fn m7700_locate(
 }
 
 // A run of the machine: 0 in the low byte and the end, the steps and the calls above it, or the number that refuses it.
-pub fn m7700_run(
-    image: &[u8],
-    base: u32,
-    state: &mut [u8],
-    ram: &mut [u8],
-    steps: u32,
-) -> u64
+pub fn m7700_run(image: &[u8], base: u32, state: &mut [u8], ram: &mut [u8], steps: u32) -> u64
     ensures answer { result
         ≡ packed_run
         (ran_bytes (memory ram.old image.now base) state.old steps).answer }
