@@ -40,10 +40,7 @@ fn put_accepted(marks: &[u8], base: u32, reset: u32, page: &mut [u8]) -> usize
     ensures { (result ≡ length (list_text new_digits marks.now base reset))
         × (page.new ≡ list_text new_digits marks.now base reset ++ drop result page.old) }
 {
-    let Ok(size) = write_list(marks, base, reset, page) else {
-        return 0;
-    };
-    size
+    write_list(marks, base, reset, page).unwrap_or(0)
 }
 
 // Works the marks out, and writes their list or the line of a refusal; returns the length.

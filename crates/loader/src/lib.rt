@@ -31,6 +31,7 @@ pub fn m7700_check(image: &[u8], marks: &[u8], base: u32, reset: u32) -> u32
 }
 
 // The reader of mark lists: 0 in the low byte and the list's base and reset above it, or the number that refuses it.
+#[tactic(auto, using(crate::proofs::Answers::read_fits))]
 pub fn m7700_read_list(text: &[u8], marks: &mut [u8]) -> u64
     ensures answer { result ≡ packed_read (read_list text.now marks.old) }
     ensures marks { marks.new ≡ marks_read text.now marks.old }
@@ -39,6 +40,7 @@ pub fn m7700_read_list(text: &[u8], marks: &mut [u8]) -> u64
 }
 
 // The writer of mark lists: 0 in the low byte and the list's length above it, or the number that refuses it.
+#[tactic(auto, using(crate::proofs::Answers::written_fits))]
 pub fn m7700_write_list(marks: &[u8], base: u32, reset: u32, page: &mut [u8]) -> u64
     ensures answer { result ≡ packed_written (write_list marks.now base reset page.old) }
     ensures page { page.new ≡ page_written marks.now base reset page.old }
@@ -62,13 +64,7 @@ pub fn m7700_build_marks(
 
 // The printed page: 0 in the low byte and the length of the rows above it; or the number that refuses it, with the
 // check's offset above it.
-pub fn m7700_print(
-    image: &[u8],
-    marks: &[u8],
-    base: u32,
-    reset: u32,
-    page: &mut [u8],
-) -> u64
+pub fn m7700_print(image: &[u8], marks: &[u8], base: u32, reset: u32, page: &mut [u8]) -> u64
     ensures answer { result ≡ packed_printed (printed image.now marks.now base reset page.old) }
     ensures page { page.new ≡ page_printed image.now marks.now base reset page.old }
 {
@@ -81,13 +77,8 @@ pub fn m7700_print(
 
 // The line that says what the check's refusal is about: 0 in the low byte and its length above it; or 15 for want of
 // room.
-pub fn m7700_explain(
-    image: &[u8],
-    marks: &[u8],
-    base: u32,
-    reset: u32,
-    page: &mut [u8],
-) -> u64
+#[tactic(auto, using(explainer::proofs::Answers::explained_fits))]
+pub fn m7700_explain(image: &[u8], marks: &[u8], base: u32, reset: u32, page: &mut [u8]) -> u64
     ensures answer { result ≡ packed_printed (explained image.now marks.now base reset page.old) }
     ensures page { page.new ≡ page_explained image.now marks.now base reset page.old }
     ensures short { length (explanation image.now marks.now base reset) ≤ line_limit }
@@ -118,13 +109,8 @@ pub fn m7700_locate(
 }
 
 // A run of the machine: 0 in the low byte and the end, the steps and the calls above it, or the number that refuses it.
-pub fn m7700_run(
-    image: &[u8],
-    base: u32,
-    state: &mut [u8],
-    ram: &mut [u8],
-    steps: u32,
-) -> u64
+#[tactic(auto, using(crate::proofs::Counts::run_fits))]
+pub fn m7700_run(image: &[u8], base: u32, state: &mut [u8], ram: &mut [u8], steps: u32) -> u64
     ensures answer { result
         ≡ packed_run
         (ran_bytes (memory ram.old image.now base) state.old steps).answer }
@@ -137,6 +123,7 @@ pub fn m7700_run(
 }
 
 // A step of the machine: a run of one.
+#[tactic(auto, using(crate::proofs::Counts::run_fits))]
 pub fn m7700_step(image: &[u8], base: u32, state: &mut [u8], ram: &mut [u8]) -> u64
     ensures answer { result ≡ packed_run (ran_bytes (memory ram.old image.now base) state.old 1).answer }
     ensures state { state.new
