@@ -5,17 +5,17 @@ use mathlib.Core.Bool.{Bool, true, false, ◌&&◌}
 use mathlib.Core.List.{List, [], ◌∷◌, ◌++◌}
 use Prim.Native.Nat.{ℕ, zero, suc, ◌+◌, ◌-◌, ◌*◌, ◌/◌, ◌%◌, ◌^◌, ◌≤◌, ◌<◌}
 use native.Mathlib.Nat.{add-zero, pow-suc, pow-zero, pow-le-pow_right, mul-le-mul_left, mul-le-mul_right}
-use native.Mathlib.Numerals.{unary_clauses}
+use native.Mathlib.Numerals.{add-one, unary_clauses}
 use native.Mathlib.Omega.{arith}
 use borrow.Author.Tests.{ne_eqb, eq-eqb, lt-ltb, le-ltb}
 use lib.Dec.{eqb, ltb}
 use lib.ListN.{length, get_or, drop, set, length-set}
-use lib.Seq.{drop-cons, drop-set-lt, get_or-set_same, get_or-drop}
+use lib.Seq.{drop-cons, drop-length, drop-set-lt, get_or-set_same, get_or-drop}
 use Rattle.prelude.specs.Choice.{pick}
 use Rattle.text.specs.Digits.{digit, digits, digit_value, weighed, value_from_last, digit_count}
 use Rattle.text.specs.Text.{starts_with}
 use Rattle.text.proofs.DigitLaws.{digit_high, length_digits, last_digit}
-use Rattle.text.proofs.Text.{starts_join}
+use Rattle.text.proofs.Text.{starts_long, starts_join}
 
 and_true : (b : Bool) → (b && true) ≡ b
 and_true true = refl
@@ -24,6 +24,29 @@ and_true false = refl
 pub and_false : (b : Bool) → (b && false) ≡ false
 and_false true = refl
 and_false false = refl
+
+-- a text that is too short
+pub starts_short : (bytes text : List ℕ) → length text < length bytes → starts_with bytes text ≡ false
+starts_short bytes text short = by (starts_with bytes text) refl
+  where
+    by : (b : Bool) → starts_with bytes text ≡ b → b ≡ false
+    by false h = refl
+    by true h = absurd (omega (arith, starts_long bytes text h))
+
+-- ---- bytes compared from the first on
+
+pub starts_next : (bytes text : List ℕ) (i : ℕ) → i < length bytes → i < length text
+    → starts_with (drop i bytes) (drop i text)
+    ≡ (eqb (get_or bytes i 0) (get_or text i 0) && starts_with (drop (i + 1) bytes) (drop (i + 1) text))
+unfolding starts_with
+starts_next bytes text i inside within = rw (drop-cons bytes i 0 inside, drop-cons text i 0 within, add-one i)
+
+pub starts_all : (bytes text : List ℕ) (i : ℕ) → i ≤ length bytes → length bytes ≤ i
+    → starts_with (drop i bytes) (drop i text) ≡ true
+unfolding starts_with
+starts_all bytes text i most least =
+    let end : i ≡ length bytes = omega arith in
+    rw (end, drop-length bytes)
 
 -- ---- bytes written from the first on
 
