@@ -11,7 +11,7 @@ use Rattle.types.proofs.TestResults.{refusal_range, same_refusal}
 use Rattle.prelude.specs.Choice.{pick}
 use Rattle.packing.specs.Packed.{PrintedFits}
 use Rattle.acceptance.specs.Image.{length_fits, base_fits}
-use Rattle.acceptance.specs.Meaning.{StartBreaks, Breaks}
+use Rattle.acceptance.specs.Meaning.{Breaks}
 use Rattle.acceptance.specs.Verdict.{verdict}
 use Rattle.acceptance.proofs.Image.{right_length, base_whole}
 use Rattle.acceptance.proofs.Meaning.{refused_means}

@@ -1,8 +1,7 @@
 -- How long a line gets: each text of it has a longest form, and no line has more than 81 bytes.
 -- Assumes nothing.
-use Rattle.std.proofs.Common.{◌≡◌, ℕ, ◌+◌, ◌*◌, ◌<◌, ◌≤◌, List, [], ◌∷◌, ◌++◌, length, get_or, take, drop, refl, arith, rules, lit≤, leb}
-use Rattle.std.proofs.Common.{zero, suc, Bool, true, false, length-append, ltb, eqb, add-one, append-nil, length-take}
-use Rattle.types.specs.declared.code.Decoded.{Decoded}
+use Rattle.std.proofs.Common.{◌≡◌, ℕ, ◌+◌, ◌*◌, ◌<◌, ◌≤◌, List, ◌++◌, length, get_or, take, drop, refl, arith, rules, lit≤, leb}
+use Rattle.std.proofs.Common.{zero, suc, Bool, true, false, length-append, eqb, add-one, length-take}
 use Rattle.types.specs.declared.code.Flow.{Flow}
 use Rattle.types.specs.declared.code.Instruction.{Instruction}
 use Rattle.types.specs.declared.refusals.Refusal.{Refusal}

@@ -1,6 +1,5 @@
 -- The tests before a refusal have shown what is asked of its place.
-use Rattle.std.proofs.Common.{◌≤◌, arith}
-use Rattle.types.specs.Refusals.{refusal_number}
+use Rattle.std.proofs.Common.{arith}
 use Rattle.explainer.proofs.Answers.{refused_shows, past_three}
 use Rattle.explainer.proofs.put_detail.Goals as goal
 

@@ -1,5 +1,5 @@
 -- As many bytes are asked for as there are digits.
-use Rattle.std.proofs.Common.{arith, length}
+use Rattle.std.proofs.Common.{arith}
 use Rattle.std.proofs.lemmas.Grind.{common_steps}
 use Rattle.text.proofs.DigitLaws.{length_digits}
 use Rattle.explainer.proofs.line.Line.push_hex.Goals as goal
