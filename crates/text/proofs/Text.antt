@@ -7,7 +7,8 @@ use Prim.Native.Nat.{ℕ, ◌≤◌}
 use native.Mathlib.Omega.{arith}
 use borrow.Author.Tests.{eqb-true, eq-eqb}
 use lib.Dec.{eqb}
-use lib.ListN.{length, drop, length-append}
+use lib.ListN.{length, take, drop, length-append}
+use lib.Pointwise.{pointwise}
 use Rattle.prelude.proofs.Choice.{both_true}
 use Rattle.text.specs.Text.{starts_with}
 
@@ -43,3 +44,10 @@ starts_join (b ∷ bytes) more (c ∷ text) = by (eqb b c) (starts_join bytes mo
         ≡ ((same && starts_with bytes text) && starts_with more (drop (length bytes) text))
     by true h = h
     by false h = refl
+
+-- the library's comparison with as many bytes as are asked for says the same
+pub starts_pointwise : (bytes text : List ℕ) → starts_with bytes text ≡ pointwise eqb bytes (take (length bytes) text)
+unfolding starts_with
+starts_pointwise [] text = refl
+starts_pointwise (b ∷ bytes) [] = refl
+starts_pointwise (b ∷ bytes) (c ∷ text) = rw (starts_pointwise bytes text)
