@@ -113,7 +113,9 @@ fn owed_by_call(marks: &[u8], base: u32, kind: Kind, mark: u8, next: u32, to: u3
 }
 
 // What the instruction of a layout at a place of the image, with a mark there, owes. Each flow reads what it needs.
-pub(crate) fn owed_at(
+// Inlined, as the check asks it at each start.
+#[inline(always)]
+pub fn owed_at(
     image: &[u8],
     marks: &[u8],
     base: u32,

@@ -1,7 +1,7 @@
 // A line of text as it is made, piece behind piece. Each piece asks for room, so that no byte is left out.
-ghost use Rattle.std.specs.Prelude.{◌≡◌, [], ◌++◌, ◌≤◌, length, drop};
+ghost use Rattle.std.specs.Prelude.{◌≡◌, [], ◌++◌, ◌<◌, ◌≤◌};
 ghost use Rattle.codepages.specs.Packing.{unpacked};
-ghost use Rattle.text.specs.Digits.{digits, digit_count};
+ghost use Rattle.text.specs.Digits.{digits};
 ghost use Rattle.reports.specs.Explanation as spec;
 ghost use Rattle.explainer.specs.Room.{HasRoom};
 
@@ -11,7 +11,7 @@ use image::marks::{mark_kind, mark_m, mark_x, return_m, return_x};
 use marklist::lines::kind_letter;
 use std::marker::Model;
 use text::bytes::put_bytes;
-use text::digits::{digit, put_digits};
+use text::digits::{InDigits, digit, digit_count, put_digits};
 
 const BLANK: u8 = b' ';
 
@@ -66,25 +66,31 @@ impl Line {
         self.size += text.len();
     }
 
+    // Adds the last digits of a number, so many.
+    fn push_digits<N: InDigits>(&mut self, radix: u32, count: usize, n: N)
+        requires radix { (0 < radix) × (radix ≤ 36) }
+        requires room { HasRoom self.old (digits radix count (N.number n)) }
+        ensures { self.new ≡ self.old ++ digits radix count (N.number n) }
+    {
+        put_digits(&mut self.bytes[self.size..], radix, count, n);
+        self.size += count;
+    }
+
     // Adds the last hex digits of a number, so many.
-    #[tactic(auto, using(text::proofs::DigitLaws::length_digits))]
     pub(crate) fn push_hex(&mut self, count: usize, n: u32)
         requires { HasRoom self.old (digits 16 count n) }
         ensures { self.new ≡ self.old ++ digits 16 count n }
     {
-        put_digits(&mut self.bytes[self.size..], 16, count, n);
-        self.size += count;
+        self.push_digits(16, count, n);
     }
 
     // Adds a number in decimal.
-    #[tactic(auto, using(text::proofs::DigitLaws::length_digits), unfolding(reports::specs::Explanation::decimal))]
+    #[tactic(auto, unfolding(reports::specs::Explanation::decimal))]
     pub(crate) fn push_decimal(&mut self, n: u64)
         requires { HasRoom self.old (spec.decimal n) }
         ensures { self.new ≡ self.old ++ spec.decimal n }
     {
-        let count = decimal_count(n);
-        put_decimal_digits(&mut self.bytes[self.size..], count, n);
-        self.size += count;
+        self.push_digits(10, digit_count(10, MOST_DIGITS, n), n);
     }
 
     // Adds the fields of a mark.
@@ -127,33 +133,6 @@ impl Line {
             self.push_text(b"L");
         }
         self.push_text(b": ");
-    }
-}
-
-// How many digits a number has in decimal.
-fn decimal_count(n: u64) -> usize
-    ensures { result ≡ digit_count 10 spec.most_digits n }
-{
-    let mut rest = n;
-    for i in 0..MOST_DIGITS {
-        if rest < 10 {
-            return i + 1;
-        }
-        rest /= 10;
-    }
-    MOST_DIGITS
-}
-
-// Writes the last decimal digits of a number, so many, at the front of a page. Those of `text` have 32 bits to come
-// from: with 64 the writer of lists would take 29 % more instructions.
-fn put_decimal_digits(page: &mut [u8], count: usize, n: u64)
-    requires { count ≤ length page.old }
-    ensures { page.new ≡ digits 10 count n ++ drop count page.old }
-{
-    let mut rest = n;
-    for i in (0..count).rev() {
-        page[i] = digit((rest % 10) as u8);
-        rest /= 10;
     }
 }
 

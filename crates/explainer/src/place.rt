@@ -2,14 +2,15 @@
 ghost use Rattle.std.specs.Prelude.{◌≡◌, ◌+◌, ◌-◌, ◌<◌, ◌≤◌, length, drop, get_or};
 ghost use Rattle.types.specs.Addresses.{address_limit};
 ghost use Rattle.acceptance.specs.Image.{mark_at};
-ghost use Rattle.acceptance.specs.Rules.{instruction_at};
-ghost use Rattle.decoder.specs.Layout.{FittingIn, decoded_of};
+ghost use Rattle.acceptance.specs.Rules.{instruction_at, owed_there};
+ghost use Rattle.decoder.specs.Layout.{Fitting, FittingIn, decoded_of, instruction_of};
 ghost use Rattle.reports.specs.Explanation as spec;
 
-use checker::owed::mark_in;
+use checker::owed::{mark_in, owed_at};
 use codepages::pages;
-use decoder::{LayoutRead, layout_at};
+use decoder::{Layout, LayoutRead, layout_at};
 use image::marks::{mark_m, mark_x};
+use types::rules::Requirements;
 
 // The marks, and the address of the first. They end within the addresses.
 #[derive(Clone, Copy)]
@@ -74,5 +75,22 @@ impl Place<'_> {
     {
         let mark = self.mark();
         layout_at(&pages(), self.image, self.at, mark_m(mark), mark_x(mark))
+    }
+
+    // What the instruction of a layout there owes.
+    pub(crate) fn owed(&self, layout: Layout) -> Requirements
+        requires { Fitting (length self.now.image.now - self.now.at) layout }
+        ensures { result ≡ owed_there self.now.marks.bytes.now self.now.marks.base self.now.at
+            (instruction_of (drop self.now.at self.now.image.now) layout) }
+    {
+        let marks = self.marks;
+        owed_at(
+            self.image,
+            marks.bytes,
+            marks.base,
+            self.at,
+            layout,
+            self.mark(),
+        )
     }
 }

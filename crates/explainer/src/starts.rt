@@ -10,7 +10,7 @@ ghost use Rattle.explainer.specs.Said.{start_said, whole_said};
 use crate::line::{ADDRESS_DIGITS, Line};
 use crate::numbers::put_no_start;
 use crate::owed::{
-    first_with_other_mark, first_without_start, is_free, owed_there, requirement_at, return_kind,
+    first_with_other_mark, first_without_start, is_free, requirement_at, return_kind,
 };
 use crate::place::{Marks, Place};
 use checker::start::first_start;
@@ -148,8 +148,8 @@ fn put_whole(line: &mut Line, place: &Place, layout: Layout, why: Refusal)
     let flow = flow_of(layout.number);
     match why {
         Refusal::Overlap => put_overlap(line, marks, place.at, layout.length),
-        Refusal::Flow => put_flow(line, marks, owed_there(place, layout)),
-        Refusal::Widths => put_widths(line, marks, flow, owed_there(place, layout)),
+        Refusal::Flow => put_flow(line, marks, place.owed(layout)),
+        Refusal::Widths => put_widths(line, marks, flow, place.owed(layout)),
         _ => put_return(line, return_kind(flow), place.mark()),
     }
 }
