@@ -1,10 +1,10 @@
 -- What the check's answer tells: what the tests before a refusal have shown, and that the explainer's answer fits its
 -- packing.
 -- Assumes nothing.
+use Rattle.std.specs.Prelude.{Ok}
 use Rattle.std.proofs.Common.{◌≡◌, ℕ, ◌+◌, ◌≤◌, ◌<◌, Bool, true, false, List, leb, length, arith}
 use Rattle.types.specs.declared.refusals.Refusal.{Refusal}
-use Rattle.types.specs.declared.rules.Verdict.{Verdict}
-use Rattle.types.specs.declared.pages.Printed.{Printed}
+use Rattle.types.specs.Answers.{Verdict, refused_at, Printed}
 use Rattle.types.specs.Addresses.{address_limit}
 use Rattle.types.specs.Refusals.{refusal_number}
 use Rattle.types.proofs.TestResults.{refusal_range, same_refusal}
@@ -44,7 +44,7 @@ module _ (image marks : List ℕ) (base reset : ℕ) where
   shown why at (Breaks.wrong_start l b f r at' why' inside s breaks below) =
       record { same = λ h. lengths l; low = λ h. ends_low l b; inside = λ h. inside }
 
-  pub refused_shows : (why : Refusal) (at : ℕ) → verdict image marks base reset ≡ Verdict.Refused why at
+  pub refused_shows : (why : Refusal) (at : ℕ) → verdict image marks base reset ≡ refused_at why at
       → Shown image marks base at why
   refused_shows why at e = shown why at (refused_means image marks base reset why at e)
 
@@ -66,6 +66,6 @@ explained_fits image marks base reset page short =
     by (leb (length (explanation image marks base reset)) (length page))
   where
     by : (b : Bool) → PrintedFits
-        (pick b (Printed.Rows (length (explanation image marks base reset))) (Printed.NotPrinted Refusal.Page 0))
+        (pick b (Ok (length (explanation image marks base reset))) (refused_at Refusal.Page 0))
     by true = omega arith
     by false = omega arith

@@ -1,12 +1,14 @@
 -- How long a line gets: each text of it has a longest form, and no line has more than 81 bytes.
 -- Assumes nothing.
+use Rattle.types.specs.declared.code.Undecoded.{Undecoded}
+use Rattle.std.specs.Prelude.{Ok, Err}
 use Rattle.std.proofs.Common.{◌≡◌, ℕ, ◌+◌, ◌*◌, ◌<◌, ◌≤◌, List, ◌++◌, length, get_or, take, drop, refl, arith, rules, lit≤, leb}
 use Rattle.std.proofs.Common.{zero, suc, Bool, true, false, length-append, eqb, add-one, length-take}
 use Rattle.types.specs.declared.code.Flow.{Flow}
 use Rattle.types.specs.declared.code.Instruction.{Instruction}
 use Rattle.types.specs.declared.refusals.Refusal.{Refusal}
 use Rattle.types.specs.declared.rules.Requirements.{Requirements}
-use Rattle.types.specs.declared.rules.Verdict.{Verdict}
+use Rattle.types.specs.Answers.{Verdict}
 use Rattle.types.specs.Refusals.{refusal_number}
 use Rattle.types.proofs.TestResults.{refusal_range}
 use Rattle.prelude.specs.Choice.{pick}
@@ -170,12 +172,12 @@ start_detail_most address mark bytes m x rest few =
   where
     by : (read : LayoutRead) → FittingIn (length bytes) read → decode bytes m x ≡ decoded_of bytes read
         → length (spec.start_detail address bytes mark rest (decode bytes m x)) ≤ 69
-    by (LayoutRead.Fits f) fits e =
+    by (Ok f) fits e =
         let size : length (take f.length bytes) ≤ 6 = rw length-take (omega (arith, fits)) in
         rw e (simp length-append
         (omega (arith, start_most address f.number (take f.length bytes) size, few (instruction_of bytes f))))
-    by LayoutRead.Uncarried fits e = rw e (code_most address bytes)
-    by LayoutRead.Short fits e = rw e (cut_off_most address mark bytes (few_left bytes m x e))
+    by (Err Undecoded.NotCarried) fits e = rw e (code_most address bytes)
+    by (Err Undecoded.CutOff) fits e = rw e (cut_off_most address mark bytes (few_left bytes m x e))
 
 detail_most : (image marks : List ℕ) (base reset at number : ℕ)
     → length (spec.detail image marks base reset at number) ≤ 69
@@ -199,7 +201,7 @@ unfolding spec.explanation spec.line_by spec.refused_line
 line_most image marks base reset = by (verdict image marks base reset)
   where
     by : (v : Verdict) → length (spec.line_by v image marks base reset) ≤ spec.line_limit
-    by Verdict.Accepted = omega arith
-    by (Verdict.Refused why at) =
+    by (Ok tt) = omega arith
+    by (Err r) =
         simp length-append
-        (omega (arith, heading_most why, detail_most image marks base reset at (refusal_number why)))
+        (omega (arith, heading_most r.why, detail_most image marks base reset r.offset (refusal_number r.why)))

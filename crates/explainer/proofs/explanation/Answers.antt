@@ -17,12 +17,12 @@ put_detail-requires-clause-room c =
     let few = line_most c.args.image.now c.args.marks.now c.args.base c.args.reset in
     grind (arith, common_steps)
 
-pub push_text-requires-in-Refused : goal.push_text-requires-in-Refused
+pub push_text-requires-in-Err : goal.push_text-requires-in-Err
 unfolding spec.explanation spec.line_by spec.refused_line
-push_text-requires-in-Refused c =
+push_text-requires-in-Err c =
     let few = line_most c.args.image.now c.args.marks.now c.args.base c.args.reset in
     grind (arith, common_steps)
 
-pub returns-in-Refused : goal.returns-in-Refused
+pub returns-in-Err : goal.returns-in-Err
 unfolding spec.explanation spec.line_by spec.refused_line
-returns-in-Refused c = grind (arith, common_steps)
+returns-in-Err c = grind (arith, common_steps)
