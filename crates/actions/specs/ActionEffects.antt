@@ -13,11 +13,12 @@ use Rattle.prelude.specs.Choice.{pick}
 use Rattle.semantics.specs.Effects.{Effect, pushes, behind_address}
 use Rattle.types.specs.Addresses.{bank_size}
 use Rattle.types.specs.Status.{number_of, is_set}
+use Rattle.cpu.specs.declared.arithmetic.Combination.{Combination}
 use Rattle.cpu.specs.File.{registers_of}
 use Rattle.cpu.specs.FileEffects.{status, putting, leaving, loading, combining, comparing, rotating, modified}
 use Rattle.cpu.specs.FileEffects.{modifying, transferring, pulling, swapping, storing, branching}
 use Rattle.actions.specs.declared.tasks.Action.{Action}
-use Rattle.actions.specs.Tasks.{Task}
+use Rattle.actions.specs.Tasks.{Task, modification_of}
 
 -- what is loaded or moved: the data, or, by choices from 16 on, a register
 abbrev pub word_of : ℕ → List ℕ → ℕ → ℕ
@@ -79,15 +80,15 @@ module _ (mode : Mode) (short : Bool) (operand next : ℕ) (d : Data) (file : Li
       (with_result n v (status file))
   by_action Action.PullWhole choice to =
       pulling file to short v (pick (eqb choice 1) (with_result n v (status file)) (status file))
-  by_action Action.Add choice to = combining file to short 0 v
-  by_action Action.Subtract choice to = combining file to short 1 v
-  by_action Action.And choice to = combining file to short 2 v
-  by_action Action.Or choice to = combining file to short 3 v
-  by_action Action.ExclusiveOr choice to = combining file to short 4 v
+  by_action Action.Add choice to = combining file to short Combination.Add v
+  by_action Action.Subtract choice to = combining file to short Combination.Subtract v
+  by_action Action.And choice to = combining file to short Combination.And v
+  by_action Action.Or choice to = combining file to short Combination.Or v
+  by_action Action.ExclusiveOr choice to = combining file to short Combination.ExclusiveOr v
   by_action Action.Compare choice to = comparing file to short v
   by_action Action.Count choice to = loading file to short (counted n (eqb choice 1) (get_or file to 0)) (status file)
   by_action Action.Modify choice to =
-      modifying file to short (operand_place_of mode) d.address (modified choice n v (status file))
+      modifying file to short (operand_place_of mode) d.address (modified (modification_of choice) n v (status file))
   by_action Action.Rotate choice to = rotating file to short v
   by_action Action.Swap choice to = swapping file short
   by_action Action.ChangeBits choice to = storing file short d.address (with_bits (eqb to 1) n behind v)

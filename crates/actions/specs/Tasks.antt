@@ -3,6 +3,7 @@
 use Rattle.std.specs.Prelude.{ℕ, ◌/◌, ◌%◌, List, [], ◌∷◌, get_or}
 use Rattle.types.specs.declared.machine.OperandUse.{OperandUse}
 use Rattle.actions.specs.declared.tasks.Action.{Action}
+use Rattle.cpu.specs.declared.arithmetic.Modification.{Modification}
 
 -- What is done; with which value, flag or mask or in which way, where the action has a choice; the register's place in
 -- the file, or 1 where flags or bits are wanted set; and what is asked of memory. ActionEffects.antt says it action
@@ -32,3 +33,12 @@ unpacked_task n = record {
   destination = n / 1024 % 8;
   access = get_or accesses (n / 8192) OperandUse.Operand;
 }
+
+-- how data is modified: the choices in the order of their numbers; any other number is the first's
+abbrev pub modifications : List Modification
+modifications =
+    Modification.ShiftLeft ∷ Modification.ShiftRight ∷ Modification.RotateLeft ∷ Modification.RotateRight ∷
+    Modification.Increment ∷ Modification.Decrement ∷ []
+
+abbrev pub modification_of : ℕ → Modification
+modification_of choice = get_or modifications choice Modification.ShiftLeft

@@ -11,7 +11,6 @@ ghost use Rattle.anywidth.specs.AnyWidth as width;
 ghost use Rattle.semantics.specs.Arithmetic as arithmetic;
 ghost use Rattle.prelude.specs.Choice.{pick};
 ghost use Rattle.instructions.specs.Decode.{operand_limit};
-ghost use Rattle.types.specs.Addresses.{address_limit};
 ghost use Rattle.cpu.specs.File.{file_size};
 ghost use Rattle.cpu.specs.FileEffects as rows;
 ghost use Rattle.cpu.specs.CodeEffects.{Makes};
@@ -20,13 +19,15 @@ ghost use Rattle.actions.specs.ActionEffects as spec;
 
 use crate::tasks::{Action, action_of, choice_of, destination_of};
 use crate::values::{
-    counted, is_wanted, mask_of, other_bits, value_of, with_bits, with_flags, word_of,
+    counted, is_wanted, mask_of, modification_of, other_bits, value_of, with_bits, with_flags,
+    word_of,
 };
-use cpu::arithmetic::{combines, compares, loads, modifies, pulls, rotates, swaps};
+use cpu::arithmetic::{Combination, combines, compares, loads, modifies, pulls, rotates, swaps};
 use cpu::effects::{Effect, behind_address, branches_if, leaves, pushes, puts, stores_to};
 use cpu::file::{FILE_SIZE, PS};
 use cpu::flags::{flag_at, with_result};
 use datawidth::{low, merged, wide};
+use types::addresses::Address;
 use types::code::Mode;
 use types::machine::Data;
 
@@ -55,10 +56,12 @@ fn pulls_whole(
         (pick flagged (arithmetic.with_result (bits short) v (rows.status registers.now))
         (rows.status registers.now))) }
 {
-    let status = registers[PS];
-    if flagged {
-        return pulls(to, short, v, with_result(short, wide(v), status), registers);
-    }
+    let old = registers[PS];
+    let status = if flagged {
+        with_result(short, wide(v), old)
+    } else {
+        old
+    };
     pulls(to, short, v, status, registers)
 }
 
@@ -82,7 +85,9 @@ fn transfers(choice: usize, to: usize, short: bool, registers: &[u16; FILE_SIZE]
     puts(to, low(short, v), with_result(short, v, registers[PS]))
 }
 
-// What an action does with its data, by its choice and to its register.
+// What an action does with its data, by its choice and to its register. What it works with comes side by side, not as a
+// struct: LLVM keeps a struct in memory unless all of its way is inlined (docs/DECISIONS.md, 'The machine's speed').
+#[tactic(auto, unfolding(crate::specs::ActionEffects::by_action))]
 fn by_action(
     action: Action,
     choice: usize,
@@ -90,11 +95,11 @@ fn by_action(
     mode: Mode,
     short: bool,
     operand: u64,
-    next: u32,
+    next: Address,
     given: Data,
     registers: &[u16; FILE_SIZE],
 ) -> Effect
-    requires { (to < file_size) × (next < address_limit) × (operand < operand_limit) }
+    requires { (to < file_size) × (operand < operand_limit) }
     ensures { Makes result registers.now (spec.by_action mode short operand next given registers.now action
         choice to) }
 {
@@ -123,14 +128,14 @@ fn by_action(
         ),
         Action::Pull => pulls_data(to, short, v, registers),
         Action::PullWhole => pulls_whole(choice == 1, to, short, v, registers),
-        Action::Add => combines(0, to, short, v, registers),
-        Action::Subtract => combines(1, to, short, v, registers),
-        Action::And => combines(2, to, short, v, registers),
-        Action::Or => combines(3, to, short, v, registers),
-        Action::ExclusiveOr => combines(4, to, short, v, registers),
+        Action::Add => combines(Combination::Add, to, short, v, registers),
+        Action::Subtract => combines(Combination::Subtract, to, short, v, registers),
+        Action::And => combines(Combination::And, to, short, v, registers),
+        Action::Or => combines(Combination::Or, to, short, v, registers),
+        Action::ExclusiveOr => combines(Combination::ExclusiveOr, to, short, v, registers),
         Action::Compare => compares(to, short, v, registers),
         Action::Count => counts(choice == 1, to, short, registers),
-        Action::Modify => modifies(choice, mode, to, short, given, registers),
+        Action::Modify => modifies(modification_of(choice), mode, to, short, given, registers),
         Action::Rotate => rotates(to, short, v, registers),
         Action::Swap => swaps(short, registers),
         Action::ChangeBits => {
@@ -149,17 +154,17 @@ fn by_action(
 }
 
 // What a task does with its data. The place of execution, the widths and the open calls are not its business. Asks for
-// an address of 24 bits and an operand of five bytes, as instructions have them, so that their sum (PER) passes no u64.
+// an operand of five bytes, as instructions have it.
 pub fn effect_by(
     task: u32,
     mode: Mode,
     short: bool,
     operand: u64,
-    next: u32,
+    next: Address,
     given: Data,
     registers: &[u16; FILE_SIZE],
 ) -> Effect
-    requires { (next < address_limit) × (operand < operand_limit) }
+    requires { operand < operand_limit }
     ensures { Makes result registers.now (spec.effect_by mode short operand next given registers.now
         (unpacked_task task)) }
 {

@@ -34,7 +34,7 @@ pub enum Action {
     Transfer,
 }
 
-// Actions by number.
+// Actions by number, since a task is packed into one for the step's speed.
 pub const LEAVE: u32 = 0;
 
 pub const LOAD: u32 = 1;
@@ -87,6 +87,7 @@ pub const DESTINATION: u32 = 1_024;
 pub const ACCESS: u32 = 8_192;
 
 // The action that a task names; any other number leaves all as it is.
+#[tactic(auto, unfolding(crate::specs::Tasks::unpacked_task))]
 pub(crate) fn action_of(task: u32) -> Action
     ensures { result ≡ (unpacked_task task).action }
 {
@@ -117,6 +118,7 @@ pub(crate) fn action_of(task: u32) -> Action
 }
 
 // The choice of a task, five bits.
+#[tactic(auto, unfolding(crate::specs::Tasks::unpacked_task))]
 pub(crate) fn choice_of(task: u32) -> usize
     ensures { (result ≡ (unpacked_task task).choice) × (result < 32) }
 {
@@ -124,6 +126,7 @@ pub(crate) fn choice_of(task: u32) -> usize
 }
 
 // The register that a task puts, three bits.
+#[tactic(auto, unfolding(crate::specs::Tasks::unpacked_task))]
 pub(crate) fn destination_of(task: u32) -> usize
     ensures { (result ≡ (unpacked_task task).destination) × (result < 8) }
 {
@@ -131,6 +134,7 @@ pub(crate) fn destination_of(task: u32) -> usize
 }
 
 // What a task asks of memory.
+#[tactic(auto, using(prelude::proofs::Match::no_key), unfolding(crate::specs::Tasks::unpacked_task))]
 pub fn operand_use_of(task: u32) -> OperandUse
     ensures { result ≡ (unpacked_task task).access }
 {

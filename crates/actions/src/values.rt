@@ -3,15 +3,16 @@ ghost use Rattle.std.specs.Prelude.{◌≡◌, ◌+◌, ◌<◌};
 ghost use Rattle.semantics.specs.Addressing.{bits};
 ghost use Rattle.prelude.specs.Choice.{pick};
 ghost use Rattle.instructions.specs.Decode.{operand_limit};
-ghost use Rattle.types.specs.Addresses.{address_limit};
 ghost use Rattle.types.specs.Status.{status_of};
 ghost use Rattle.actions.specs.ActionEffects as spec;
+ghost use Rattle.actions.specs.Tasks.{modification_of};
 
+use cpu::arithmetic::Modification;
 use cpu::effects::behind_address;
 use cpu::file::{DT, FILE_SIZE, PS};
 use cpu::flags::{with_flags_cleared, with_flags_set};
 use datawidth::{cleared_by, wide};
-use types::addresses::BANK_SIZE;
+use types::addresses::{Address, BANK_SIZE};
 use types::code::Mode;
 use types::machine::Status;
 
@@ -23,28 +24,30 @@ pub(crate) fn word_of(choice: usize, v: u16, registers: &[u16; FILE_SIZE]) -> u1
     ensures { result ≡ spec.word_of v registers.now choice }
 {
     if choice < REGISTERS {
-        return v;
+        v
+    } else {
+        registers[choice % FILE_SIZE]
     }
-    registers[choice % FILE_SIZE]
 }
 
 // What is stored or pushed: another value by the choices 1 to 6, else the data or a register.
+#[tactic(auto, using(semantics::proofs::Status::status_number, prelude::proofs::Match::no_key))]
 pub(crate) fn value_of(
     choice: usize,
     mode: Mode,
     short: bool,
     operand: u64,
-    next: u32,
+    next: Address,
     v: u16,
     registers: &[u16; FILE_SIZE],
 ) -> u64
-    requires { (next < address_limit) × (operand < operand_limit) }
+    requires { operand < operand_limit }
     ensures { result ≡ spec.value_of mode short operand next v registers.now choice }
 {
     match choice {
         1 => operand,
-        2 => next as u64 + operand,
-        3 => (next / BANK_SIZE) as u64,
+        2 => next.number() as u64 + operand,
+        3 => (next.number() / BANK_SIZE) as u64,
         4 => wide(behind_address(mode, short, operand)),
         5 => wide(registers[DT] % 256),
         6 => wide(registers[PS]),
@@ -52,7 +55,23 @@ pub(crate) fn value_of(
     }
 }
 
+// How data is modified. The variants are not in the order of the numbers, as those of `Action`.
+#[tactic(auto, using(prelude::proofs::Match::no_key))]
+pub(crate) fn modification_of(choice: usize) -> Modification
+    ensures { result ≡ modification_of choice }
+{
+    match choice {
+        1 => Modification::ShiftRight,
+        2 => Modification::RotateLeft,
+        3 => Modification::RotateRight,
+        4 => Modification::Increment,
+        5 => Modification::Decrement,
+        _ => Modification::ShiftLeft,
+    }
+}
+
 // The flags that are changed: those that the data names, C, I or V.
+#[tactic(auto, using(prelude::proofs::Match::no_key))]
 pub(crate) fn mask_of(choice: usize, v: u16) -> u16
     ensures { result ≡ spec.mask_of v choice }
 {
@@ -69,9 +88,10 @@ pub(crate) fn counted(down: bool, v: u16) -> u64
     ensures { result ≡ v + pick down 65_535 1 }
 {
     if down {
-        return v as u64 + 65_535;
+        v as u64 + 65_535
+    } else {
+        v as u64 + 1
     }
-    v as u64 + 1
 }
 
 // The status with the flags of a mask as they are wanted.
@@ -79,9 +99,10 @@ pub(crate) fn with_flags(wanted: bool, mask: u16, status: u16) -> u16
     ensures { status_of result ≡ spec.with_flags wanted mask (status_of status) }
 {
     if wanted {
-        return with_flags_set(mask, status);
+        with_flags_set(mask, status)
+    } else {
+        with_flags_cleared(mask, status)
     }
-    with_flags_cleared(mask, status)
 }
 
 // Data with the bits of a mask as they are wanted.
@@ -89,9 +110,10 @@ pub(crate) fn with_bits(wanted: bool, short: bool, mask: u16, v: u16) -> u16
     ensures { result ≡ spec.with_bits wanted (bits short) mask v }
 {
     if wanted {
-        return v | mask;
+        v | mask
+    } else {
+        cleared_by(short, mask, v)
     }
-    cleared_by(short, mask, v)
 }
 
 // The bits of a mask that are not as they are wanted.
@@ -99,17 +121,15 @@ pub(crate) fn other_bits(wanted: bool, short: bool, mask: u16, v: u16) -> u16
     ensures { result ≡ spec.other_bits wanted (bits short) mask v }
 {
     if wanted {
-        return cleared_by(short, v, mask);
+        cleared_by(short, v, mask)
+    } else {
+        v & mask
     }
-    v & mask
 }
 
 // Whether a flag is as it is wanted.
 pub(crate) fn is_wanted(wanted: bool, flag: bool) -> bool
     ensures { result ≡ spec.is_wanted wanted flag }
 {
-    if wanted {
-        return flag;
-    }
-    !flag
+    wanted == flag
 }

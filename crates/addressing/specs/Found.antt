@@ -1,6 +1,6 @@
--- What an action comes to, as the code says it by value, and where the code looks for what is asked.
+-- Where the code looks for what is asked.
 -- Assumes nothing.
-use Rattle.std.specs.Prelude.{ℕ, Bool, true, false, Some, None, Option}
+use Rattle.std.specs.Prelude.{ℕ, Bool, true, false}
 use Rattle.types.specs.declared.code.Mode.{Mode}
 use Rattle.types.specs.declared.code.Accumulator.{Accumulator as Named}
 use Rattle.types.specs.declared.machine.OperandUse.{OperandUse}
@@ -10,20 +10,7 @@ use Rattle.types.specs.declared.machine.OperandPlace.{OperandPlace}
 use Rattle.anywidth.specs.AnyWidth.{low}
 use Rattle.semantics.specs.Addressing.{bits, data_at, accumulator_of, address_of, operand_place_of, in_memory}
 use Rattle.prelude.specs.Choice.{pick}
-use Rattle.semantics.specs.Memory.{Act, ret, ◌>>=◌, Outcome, done, unmapped}
-
-abbrev pub address_read : Outcome ℕ → Option ℕ
-address_read (done v) = Some v
-address_read unmapped = None
-
-abbrev pub data_read : Outcome Data → Option Data
-data_read (done d) = Some d
-data_read unmapped = None
-
--- data alone
-abbrev pub alone_of : Option ℕ → Option Data
-alone_of (Some v) = Some (data_at 0 v)
-alone_of None = None
+use Rattle.semantics.specs.Memory.{Act, ret, ◌>>=◌}
 
 -- whether the address alone is asked
 abbrev pub is_address : OperandUse → Bool

@@ -9,10 +9,9 @@ pub fn is_short(width: DataWidth, m: bool, x: bool) -> bool
     ensures { result ≡ spec.is_short width m x }
 {
     match width {
-        DataWidth::NoData => false,
+        DataWidth::NoData | DataWidth::Word => false,
         DataWidth::ByM => m,
         DataWidth::ByX => x,
         DataWidth::Byte => true,
-        DataWidth::Word => false,
     }
 }

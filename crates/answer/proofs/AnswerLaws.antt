@@ -3,11 +3,14 @@
 -- Assumes nothing.
 use Rattle.std.specs.Prelude.{Ok, Err}
 use mathlib.Core.Path.{◌≡◌}
+use mathlib.Core.Bool.{true, false}
 use mathlib.Core.List.{List}
 use Prim.Native.Nat.{ℕ, ◌≤◌, ◌<◌}
 use native.Mathlib.Omega.{arith}
-use borrow.Author.Tests.{le-leb, lt-leb}
+use borrow.Author.Tests.{le-leb, leb-true}
+use lib.Dec.{leb}
 use lib.ListN.{length}
+use Rattle.prelude.proofs.Choice.{both_true}
 use Rattle.types.specs.declared.lists.Header.{Header}
 use Rattle.types.specs.declared.refusals.Refusal.{Refusal}
 use Rattle.types.specs.Answers.{ListRead, Verdict}
@@ -17,8 +20,9 @@ use Rattle.acceptance.specs.Verdict.{verdict}
 use Rattle.lists.specs.MarkList.{read_list, marks_read, marks_by}
 use Rattle.acceptance.proofs.Image.{right_length, starts_most}
 use Rattle.acceptance.proofs.Verdict.{accepted_rules}
-use Rattle.answer.specs.declared.answers.FileAnswer.{FileAnswer}
-use Rattle.answer.specs.AnswerLine.{list_limit, verdict_answer, answer_of, list_answer, answer_for}
+use Rattle.answer.specs.declared.answers.NotAccepted.{NotAccepted}
+use Rattle.answer.specs.AnswerLine.{list_limit, FileAnswer, without_offset, are_within_limits}
+use Rattle.answer.specs.AnswerLine.{verdict_answer, answer_of, list_answer, answer_for}
 
 pub accepted_few : (image marks : List ℕ) (base reset : ℕ) → verdict image marks base reset ≡ Ok tt
     → start_count marks < 4_294_967_296
@@ -28,7 +32,7 @@ accepted_few image marks base reset e =
 
 module _ (image text marks : List ℕ) (alike : length marks ≡ length image) where
   pub list_refused : (why : Refusal) → read_list text marks ≡ Err why
-      → FileAnswer.Refused why 0 ≡ list_answer image text
+      → Err (without_offset why) ≡ list_answer image text
   unfolding list_answer answer_of read_list
   list_refused why e = rw (← alike, e)
 
@@ -38,16 +42,25 @@ module _ (image text marks : List ℕ) (alike : length marks ≡ length image) w
   list_taken h e = rw (← alike, e)
 
 module _ (image text : List ℕ) where
-  pub long_list : list_limit < length text → FileAnswer.Unread ≡ answer_for image text
+  pub over_limits : are_within_limits image text ≡ false → Err NotAccepted.Unread ≡ answer_for image text
   unfolding answer_for
-  long_list h = rw (lt-leb (length text) list_limit h)
+  over_limits over = rw over
 
-  module _ (short : length text ≤ list_limit) where
-    pub long_image : image_limit < length image → FileAnswer.Unread ≡ answer_for image text
-    unfolding answer_for
-    long_image h = rw (le-leb (length text) list_limit short, lt-leb (length image) image_limit h)
+  pub within_limits : are_within_limits image text ≡ true → list_answer image text ≡ answer_for image text
+  unfolding answer_for
+  within_limits within = rw within
 
-    pub both_short : (answer : FileAnswer) → answer ≡ list_answer image text → length image ≤ image_limit
-        → answer ≡ answer_for image text
-    unfolding answer_for
-    both_short answer e h = rw (le-leb (length text) list_limit short, le-leb (length image) image_limit h) e
+  pub limits_kept : length text ≤ list_limit → length image ≤ image_limit → are_within_limits image text ≡ true
+  unfolding are_within_limits
+  limits_kept short few = rw (le-leb (length text) list_limit short, le-leb (length image) image_limit few)
+
+  pub within_short : are_within_limits image text ≡ true → length text ≤ list_limit
+  unfolding are_within_limits
+  within_short within =
+      leb-true (length text) list_limit (both_true (leb (length text) list_limit) _ within).0
+
+  -- an image within its limit has few bytes
+  pub within_few : are_within_limits image text ≡ true → length image ≤ image_limit
+  unfolding are_within_limits
+  within_few within =
+      leb-true (length image) image_limit (both_true (leb (length text) list_limit) _ within).1

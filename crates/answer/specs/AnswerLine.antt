@@ -1,6 +1,6 @@
 -- 01, 'The mark list', its last paragraph: 'The program check reads an image file and a list file and prints one line'.
 -- Assumes nothing.
-use Rattle.std.specs.Prelude.{ℕ, ◌≤◌, ◌&&◌, ◌≡◌, List, [], ◌∷◌, ◌++◌, leb, length, drop, Ok, Err}
+use Rattle.std.specs.Prelude.{ℕ, ◌≤◌, Bool, ◌&&◌, ◌≡◌, List, [], ◌∷◌, ◌++◌, leb, length, drop, Result, Ok, Err}
 use Rattle.types.specs.Answers.{Verdict, ListRead}
 use Rattle.prelude.specs.Choice.{pick}
 use Rattle.text.specs.Digits.{digits}
@@ -9,23 +9,36 @@ use Rattle.types.specs.Addresses.{image_limit}
 use Rattle.acceptance.specs.Image.{start_count}
 use Rattle.acceptance.specs.Verdict.{verdict}
 use Rattle.lists.specs.MarkList.{tab, line_end, decimal_digits, is_old, address_digits, header_shown, marks_of, read_as}
-use Rattle.answer.specs.declared.answers.FileAnswer.{FileAnswer}
+use Rattle.types.specs.declared.refusals.Refusal.{Refusal}
+use Rattle.answer.specs.declared.answers.NotAccepted.{NotAccepted}
+
+-- an image is accepted, with its number of starts, or not: why
+abbrev pub FileAnswer : Type 0
+FileAnswer = Result ℕ NotAccepted
+
+-- a refusal without an offset ('0 where none is given')
+abbrev pub without_offset : Refusal → NotAccepted
+without_offset why = NotAccepted.Refused (record { why = why; offset = 0 })
 
 -- 'A list file over 61,440 bytes'
 abbrev pub list_limit : ℕ
 list_limit = 61_440
 
+-- an image file and a list file are within their limits
+unfoldable pub are_within_limits : List ℕ → List ℕ → Bool
+are_within_limits image text = leb (length text) list_limit && leb (length image) image_limit
+
 -- 'A and the number of starts', or 'R, number, offset'
 unfoldable pub answer_by : Verdict → List ℕ → FileAnswer
-answer_by (Ok _) marks = FileAnswer.Accepted (start_count marks)
-answer_by (Err r) marks = FileAnswer.Refused r.why r.offset
+answer_by (Ok _) marks = Ok (start_count marks)
+answer_by (Err r) marks = Err (NotAccepted.Refused r)
 
 unfoldable pub verdict_answer : List ℕ → List ℕ → ℕ → ℕ → FileAnswer
 verdict_answer image marks base reset = answer_by (verdict image marks base reset) marks
 
--- a list that is refused has no offset ('0 where none is given'); else its marks, base and reset are the check's
+-- a list that is refused has no offset; else its marks, base and reset are the check's
 unfoldable pub answer_of : ListRead → List ℕ → List ℕ → FileAnswer
-answer_of (Err why) image text = FileAnswer.Refused why 0
+answer_of (Err why) image text = Err (without_offset why)
 answer_of (Ok h) image text = verdict_answer image (marks_of (address_digits text) h text) h.base h.reset
 
 -- the list is read for as many marks as the image has bytes
@@ -35,7 +48,7 @@ list_answer image text = answer_of (read_as (is_old text) (header_shown text) te
 -- 'A list file over 61,440 bytes, an image file over the limit', before all else
 unfoldable pub answer_for : List ℕ → List ℕ → FileAnswer
 answer_for image text =
-    pick (leb (length text) list_limit && leb (length image) image_limit) (list_answer image text) FileAnswer.Unread
+    pick (are_within_limits image text) (list_answer image text) (Err NotAccepted.Unread)
 
 -- a number in decimal without a leading zero, and the byte that closes its field; no number here has over five digits
 unfoldable pub number_field : ℕ → ℕ → List ℕ
@@ -52,11 +65,15 @@ refused_line number offset = letter_field 0x52 number tab ++ number_field offset
 abbrev pub unread_line : List ℕ
 unread_line = 0x4C ∷ line_end ∷ []
 
+-- the line of what is not accepted
+unfoldable pub not_accepted_line : NotAccepted → List ℕ
+not_accepted_line NotAccepted.Unread = unread_line
+not_accepted_line (NotAccepted.Refused r) = refused_line (refusal_number r.why) r.offset
+
 -- the line of an answer
 unfoldable pub line_for : FileAnswer → List ℕ
-line_for FileAnswer.Unread = unread_line
-line_for (FileAnswer.Accepted count) = letter_field 0x41 count line_end
-line_for (Err r) = refused_line (refusal_number r.why) r.offset
+line_for (Ok count) = letter_field 0x41 count line_end
+line_for (Err why) = not_accepted_line why
 
 -- the line for the bytes of an image file and of a list file
 unfoldable pub answer_line : List ℕ → List ℕ → List ℕ

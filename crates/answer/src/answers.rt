@@ -1,35 +1,68 @@
 // The answer for the bytes of two files.
-ghost use Rattle.std.specs.Prelude.{◌≡◌, length};
+ghost use Rattle.std.specs.Prelude.{◌≡◌, All, length};
 ghost use Rattle.answer.specs.AnswerLine as spec;
 
 use image::IMAGE_LIMIT;
 use marklist::reader::read_list;
-use types::lists::ListRead;
-use types::refusals::Refusal;
-use types::rules::Verdict;
-use view::plain::judge;
+use types::refusals::{Refusal, Refused};
+use view::View;
 
 // The most bytes of a list file.
 pub const LIST_LIMIT: usize = 61_440;
 
-// A file is not read; an image is accepted, with its number of starts; or refused, with an offset.
+// Why an image is not accepted: a file is not read; or the check refuses, or the reader of the list.
 #[derive(Clone, Copy)]
-pub enum FileAnswer {
+pub enum NotAccepted {
     Unread,
-    Accepted(u32),
-    Refused { why: Refusal, offset: u32 },
+    Refused(Refused),
+}
+
+// The check's refusal.
+impl From<Refused> for NotAccepted {
+    ghost use Rattle.answer.specs.declared.answers.NotAccepted.{NotAccepted};
+
+    ghost from_gives = { λ refused answer. answer ≡ NotAccepted.Refused refused };
+
+    fn from(refused: Refused) -> NotAccepted {
+        NotAccepted::Refused(refused)
+    }
+}
+
+// A refusal that is about no offset, as the reader's: 0 stands in its place.
+impl From<Refusal> for NotAccepted {
+    ghost from_gives = { λ why answer. answer ≡ spec.without_offset why };
+
+    fn from(why: Refusal) -> NotAccepted {
+        NotAccepted::Refused(Refused { why, offset: 0 })
+    }
+}
+
+// An image is accepted, with its number of starts, or not.
+pub type FileAnswer = Result<u32, NotAccepted>;
+
+// An image file and a list file are within their limits.
+#[tactic(auto, unfolding(crate::specs::AnswerLine::are_within_limits))]
+pub fn are_within_limits(image: &[u8], text: &[u8]) -> bool
+    ensures { result ≡ spec.are_within_limits image.now text.now }
+{
+    text.len() <= LIST_LIMIT && image.len() <= IMAGE_LIMIT
+}
+
+// So many zeros. A caller's proof gets their number and not the list: those of a long page are too many to look at.
+pub fn zeros<const N: usize>() -> [u8; N]
+    ensures size { N ≡ length result }
+    ensures zero { All (λ byte. byte ≡ 0) result }
+{
+    [0; N]
 }
 
 // The check's answer on the view of an image, with the number of starts where it accepts.
 fn verdict_answer(image: &[u8], marks: &[u8], base: u32, reset: u32) -> FileAnswer
     ensures { result ≡ spec.verdict_answer image.now marks.now base reset }
 {
-    let judged = judge(image, marks, base, reset);
-    let verdict = judged.verdict;
-    match verdict {
-        Verdict::Accepted => FileAnswer::Accepted(judged.starts as u32),
-        Verdict::Refused { why, offset } => FileAnswer::Refused { why, offset },
-    }
+    let view = View { image, marks, base };
+    view.check(reset)?;
+    Ok(view.count_starts() as u32)
 }
 
 // The list is read into marks of the image's length, and the image is checked against them.
@@ -37,22 +70,18 @@ fn list_answer(image: &[u8], text: &[u8], marks: &mut [u8]) -> FileAnswer
     requires { length marks.old ≡ length image.now }
     ensures { result ≡ spec.list_answer image.now text.now }
 {
-    match read_list(text, marks) {
-        ListRead::NotRead(why) => FileAnswer::Refused { why, offset: 0 },
-        ListRead::Read(h) => verdict_answer(image, marks, h.base, h.reset),
-    }
+    let h = read_list(text, marks)?;
+    verdict_answer(image, marks, h.base, h.reset)
 }
 
 // The answer for the bytes of an image file and of a list file.
+#[tactic(auto, using(crate::proofs::AnswerLaws::over_limits, crate::proofs::AnswerLaws::within_limits, crate::proofs::AnswerLaws::within_few, std::proofs::lemmas::Grind::common_steps))]
 pub fn answer_for(image: &[u8], text: &[u8]) -> FileAnswer
     ensures { result ≡ spec.answer_for image.now text.now }
 {
-    if LIST_LIMIT < text.len() {
-        return FileAnswer::Unread;
+    if !are_within_limits(image, text) {
+        return Err(NotAccepted::Unread);
     }
-    if IMAGE_LIMIT < image.len() {
-        return FileAnswer::Unread;
-    }
-    let mut marks = [0u8; IMAGE_LIMIT];
+    let mut marks = zeros::<IMAGE_LIMIT>();
     list_answer(image, text, &mut marks[..image.len()])
 }

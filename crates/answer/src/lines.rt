@@ -2,10 +2,9 @@
 ghost use Rattle.std.specs.Prelude.{◌≤◌, length};
 ghost use Rattle.answer.specs.AnswerLine as spec;
 
-use crate::answers::FileAnswer;
+use crate::answers::{FileAnswer, NotAccepted};
 use marklist::lines::{LINE_END, TAB};
 use text::digits::{digit_count, put_field};
-use types::refusals::refusal_number;
 
 // No number of a line has more digits.
 const NUMBER_DIGITS: usize = 5;
@@ -50,14 +49,26 @@ fn put_unread(page: &mut [u8]) -> usize
     2
 }
 
+// Writes the line of what is not accepted.
+#[tactic(auto, using(crate::proofs::PutLaws::put_within), unfolding(crate::specs::AnswerLine::not_accepted_line))]
+fn put_not_accepted(page: &mut [u8], why: NotAccepted) -> usize
+    requires { spec.line_limit ≤ length page.old }
+    ensures { spec.Put (spec.not_accepted_line why) spec.line_limit result page.old page.new }
+{
+    match why {
+        NotAccepted::Unread => put_unread(page),
+        NotAccepted::Refused(refused) => put_refused(page, u8::from(refused.why), refused.offset),
+    }
+}
+
 // Writes the line of an answer at the front of a page, and returns its length.
+#[tactic(auto, using(crate::proofs::PutLaws::put_within), unfolding(crate::specs::AnswerLine::line_for))]
 pub fn put_answer(page: &mut [u8], answer: FileAnswer) -> usize
     requires { spec.line_limit ≤ length page.old }
     ensures { spec.Put (spec.line_for answer) spec.line_limit result page.old page.new }
 {
     match answer {
-        FileAnswer::Unread => put_unread(page),
-        FileAnswer::Accepted(count) => put_letter(page, b'A', count, LINE_END),
-        FileAnswer::Refused { why, offset } => put_refused(page, refusal_number(why), offset),
+        Ok(count) => put_letter(page, b'A', count, LINE_END),
+        Err(why) => put_not_accepted(page, why),
     }
 }

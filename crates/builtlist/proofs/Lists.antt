@@ -2,6 +2,7 @@
 -- makes no difference to those delivered.
 -- Assumes nothing.
 use Rattle.std.specs.Prelude.{Ok, Err}
+use Rattle.std.specs.Result.{result_unwrap_or}
 use mathlib.Core.Path.{◌≡◌, ap, sym, ◌∙◌}
 use mathlib.Core.List.{List, ◌++◌}
 use Prim.Native.Nat.{ℕ, ◌+◌, ◌≤◌}
@@ -19,8 +20,7 @@ use Rattle.acceptance.proofs.Image.{right_length}
 use Rattle.lists.proofs.ListAnswers.{written_small}
 use Rattle.lists.proofs.LeastMarks.{delivers_least}
 use Rattle.lists.proofs.Routines.{least_only}
-use Rattle.answer.specs.declared.answers.FileAnswer.{FileAnswer}
-use Rattle.answer.specs.AnswerLine.{line_for}
+use Rattle.answer.specs.AnswerLine.{without_offset, line_for}
 use Rattle.builtlist.specs.BuiltList.{list_by, list_of, Accepted, longest_list}
 
 -- ---- marks that are written
@@ -53,20 +53,14 @@ module _ (marks : List ℕ) (base reset : ℕ) (accepted : Accepted marks base r
 
   -- what the writer answers where there is room, and the page then
   module _ (page : List ℕ) (room : longest_list ≤ length page) where
-    pub none_refused : (why : Refusal) → write_list marks base reset page ≡ Err why → ⊥
-    none_refused why e = absurd (omega (arith, ap size (sym e ∙ written_whole page (omega (arith, list_most, room)))))
-      where
-        size : ListWritten → ℕ
-        size (Err why) = 0
-        size (Ok n) = n + 1
+    pub size_written : (told : ListWritten) (n : ℕ) → told ≡ write_list marks base reset page
+        → n ≡ result_unwrap_or told 0 → n ≡ length text
+    size_written told n e size =
+        size ∙ ap (λ a. result_unwrap_or a 0) (e ∙ written_whole page (omega (arith, list_most, room)))
 
-    pub page_written_lem : (n : ℕ) → write_list marks base reset page ≡ Ok n
-        → (n ≡ length text) × (page_written marks base reset page ≡ text ++ drop n page)
+    pub page_written_lem : page_written marks base reset page ≡ text ++ drop (length text) page
     unfolding page_written page_by
-    page_written_lem n e =
-        let whole = written_whole page (omega (arith, list_most, room)) in
-        let same : ◌≡◌ {A = ListWritten} (Ok n) (Ok (length text)) = sym e ∙ whole in
-        (cc, rw e)
+    page_written_lem = rw (written_whole page (omega (arith, list_most, room)))
 
 -- ---- marks that are lent
 
@@ -82,7 +76,7 @@ module _ (image : List ℕ) (base reset : ℕ) (text marks : List ℕ) (alike : 
       (delivers_least image base reset text image (sym same_answer ∙ e))
 
   pub refused_list : (why : Refusal) → built image base reset text marks ≡ Err why
-      → line_for (FileAnswer.Refused why 0) ≡ list_of image base reset text
+      → line_for (Err (without_offset why)) ≡ list_of image base reset text
   unfolding list_of list_by
   refused_list why e = rw (← same_answer, e)
 

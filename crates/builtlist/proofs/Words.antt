@@ -1,5 +1,6 @@
 -- Which files and words are taken: each test in turn.
 -- Assumes nothing.
+use Rattle.std.specs.Prelude.{Err}
 use mathlib.Core.Path.{◌≡◌, sym, ◌∙◌}
 use mathlib.Core.Bool.{Bool, true, false, not, ◌&&◌}
 use mathlib.Core.List.{List}
@@ -12,8 +13,9 @@ use Rattle.text.specs.Text.{starts_with}
 use Rattle.text.specs.Digits.{digits}
 use Rattle.types.specs.Addresses.{image_limit}
 use Rattle.lists.specs.MarkList.{new_digits}
-use Rattle.answer.specs.declared.answers.FileAnswer.{FileAnswer}
-use Rattle.answer.specs.AnswerLine.{list_limit, line_for}
+use Rattle.answer.specs.declared.answers.NotAccepted.{NotAccepted}
+use Rattle.answer.specs.AnswerLine.{are_within_limits, line_for}
+use Rattle.answer.proofs.AnswerLaws.{within_few}
 use Rattle.builtlist.specs.BuiltList.{address_shown, is_address, is_taken, list_of, built_list}
 
 module _ (word : List ℕ) where
@@ -27,41 +29,9 @@ module _ (word : List ℕ) where
   by_digits shows same e = rw (eq-eqb (length word) new_digits same) e
 
 module _ (image base reset text : List ℕ) where
-  pub long_routines : list_limit < length text → false ≡ is_taken image base reset text
-  unfolding is_taken
-  long_routines h = rw (lt-leb (length text) list_limit h)
-
-  module _ (short : length text ≤ list_limit) where
-    pub long_image : image_limit < length image → false ≡ is_taken image base reset text
-    unfolding is_taken
-    long_image h = rw (le-leb (length text) list_limit short, lt-leb (length image) image_limit h)
-
-    module _ (few : length image ≤ image_limit) where
-      pub no_base : (given : Bool) → given ≡ is_address base → not given ≡ true
-          → false ≡ is_taken image base reset text
-      unfolding is_taken
-      no_base given same failed =
-          rw (
-            le-leb (length text) list_limit short,
-            le-leb (length image) image_limit few,
-            ← same,
-            not-true given failed,
-          )
-
-      pub by_reset : (given so : Bool) → given ≡ is_address base → not given ≡ false → so ≡ is_address reset
-          → so ≡ is_taken image base reset text
-      unfolding is_taken
-      by_reset given so same held e =
-          rw (
-            le-leb (length text) list_limit short,
-            le-leb (length image) image_limit few,
-            ← same,
-            not-false given held,
-          ) e
-
   -- what is written by whether files and words are taken
   module _ (given : Bool) (same : given ≡ is_taken image base reset text) where
-    pub not_taken : not given ≡ true → line_for FileAnswer.Unread ≡ built_list image base reset text
+    pub not_taken : not given ≡ true → line_for (Err NotAccepted.Unread) ≡ built_list image base reset text
     unfolding built_list
     not_taken failed = rw (← same, not-true given failed)
 
@@ -70,10 +40,9 @@ module _ (image base reset text : List ℕ) where
     unfolding built_list
     taken_list held = rw (← same, not-false given held)
 
-    -- an image that is taken has few bytes
-    pub taken_few : not given ≡ false → length image ≤ image_limit
-    unfolding is_taken
-    taken_few held =
-        let e = sym same ∙ not-false given held in
-        let limits = (both_true (leb (length text) list_limit && leb (length image) image_limit) _ e).0 in
-        leb-true (length image) image_limit (both_true (leb (length text) list_limit) _ limits).1
+  -- an image that is taken has few bytes
+  pub taken_few : is_taken image base reset text ≡ true → length image ≤ image_limit
+  unfolding is_taken
+  taken_few taken =
+      let all = both_true (are_within_limits image text && is_address base) _ taken in
+      within_few image text (both_true (are_within_limits image text) _ all.0).0

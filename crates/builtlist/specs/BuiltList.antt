@@ -11,8 +11,8 @@ use Rattle.acceptance.specs.Image.{start_count}
 use Rattle.acceptance.specs.Verdict.{verdict}
 use Rattle.lists.specs.MarkList.{new_digits, list_text}
 use Rattle.lists.specs.Routines.{built, marks_built}
-use Rattle.answer.specs.declared.answers.FileAnswer.{FileAnswer}
-use Rattle.answer.specs.AnswerLine.{list_limit, answer_for, line_for}
+use Rattle.answer.specs.declared.answers.NotAccepted.{NotAccepted}
+use Rattle.answer.specs.AnswerLine.{list_limit, without_offset, are_within_limits, answer_for, line_for}
 
 -- the address that a word shows
 abbrev pub address_shown : List ℕ → ℕ
@@ -25,11 +25,11 @@ is_address word = eqb (length word) new_digits && starts_with (digits 16 new_dig
 -- what is asked before all else: the limits of the files, a routine file's being that of a list file, and the words
 unfoldable pub is_taken : List ℕ → List ℕ → List ℕ → List ℕ → Bool
 is_taken image base reset text =
-    leb (length text) list_limit && leb (length image) image_limit && (is_address base && is_address reset)
+    are_within_limits image text && is_address base && is_address reset
 
 -- the mark list of the marks delivered, or the line of the program check for a number without an offset
 unfoldable pub list_by : TestResult → List ℕ → ℕ → ℕ → List ℕ
-list_by (Err why) marks base reset = line_for (FileAnswer.Refused why 0)
+list_by (Err why) marks base reset = line_for (Err (without_offset why))
 list_by (Ok _) marks base reset = list_text new_digits marks base reset
 
 -- the same for marks of the image's length. What they hold before makes no difference: here they hold the image's
@@ -42,7 +42,7 @@ list_of image base reset text =
 unfoldable pub built_list : List ℕ → List ℕ → List ℕ → List ℕ → List ℕ
 built_list image base reset text =
     pick (is_taken image base reset text) (list_of image (address_shown base) (address_shown reset) text)
-    (line_for FileAnswer.Unread)
+    (line_for (Err NotAccepted.Unread))
 
 -- marks that the check accepts with some image
 abbrev pub Accepted : List ℕ → ℕ → ℕ → Type 0
@@ -60,4 +60,4 @@ WrittenAccepted =
     → built image (address_shown base) (address_shown reset) text image ≡ Ok tt
     → length (built_list image base reset text) ≤ list_limit
     → answer_for image (built_list image base reset text)
-    ≡ FileAnswer.Accepted (start_count (marks_built image (address_shown base) (address_shown reset) text image))
+    ≡ Ok (start_count (marks_built image (address_shown base) (address_shown reset) text image))

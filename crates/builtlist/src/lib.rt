@@ -6,34 +6,31 @@ ghost use Rattle.std.specs.Prelude.{◌≡◌, ◌++◌, ◌≤◌, length, take
 ghost use Rattle.lists.specs.MarkList.{new_digits, list_text};
 ghost use Rattle.builtlist.specs.BuiltList as spec;
 
-use answer::answers::{FileAnswer, LIST_LIMIT};
+use answer::answers::{NotAccepted, are_within_limits, zeros};
 use answer::lines::put_answer;
 use builder::build_marks;
 use image::IMAGE_LIMIT;
 use marklist::lines::NEW_DIGITS;
 use marklist::writer::write_list;
 use text::digits::{number, shows_digits};
-use types::lists::ListWritten;
-use types::refusals::TestResult;
+use types::refusals::Refused;
 
 // The most bytes of a list that is written: a first line, and a line for each byte of the longest image.
 pub const LONGEST_LIST: usize = 22 + 17 * IMAGE_LIMIT;
 
-// The longest list, of zeros. Only its length is promised: so many zeros are too many for a proof to look at.
+// The longest list, of zeros.
 pub fn longest_list() -> [u8; LONGEST_LIST]
     ensures { spec.longest_list ≡ length result }
 {
-    [0; LONGEST_LIST]
+    zeros()
 }
 
 // A word is an address, of six hex digits.
+#[tactic(auto, unfolding(crate::specs::BuiltList::is_address))]
 fn is_address(word: &[u8]) -> bool
     ensures { result ≡ spec.is_address word.now }
 {
-    if word.len() != NEW_DIGITS {
-        return false;
-    }
-    shows_digits(word, 16, NEW_DIGITS, number(word, 0, 16, NEW_DIGITS))
+    word.len() == NEW_DIGITS && shows_digits(word, 16, NEW_DIGITS, number(word, 0, 16, NEW_DIGITS))
 }
 
 // Writes the list of marks that the check accepts, and returns its length. It asks for room too, so the writer refuses
@@ -43,11 +40,7 @@ fn put_accepted(marks: &[u8], base: u32, reset: u32, page: &mut [u8]) -> usize
     ensures { (result ≡ length (list_text new_digits marks.now base reset))
         × (page.new ≡ list_text new_digits marks.now base reset ++ drop result page.old) }
 {
-    let written = write_list(marks, base, reset, page);
-    let ListWritten::Written(size) = written else {
-        return 0;
-    };
-    size
+    write_list(marks, base, reset, page).unwrap_or(0)
 }
 
 // Works the marks out, and writes their list or the line of a refusal; returns the length.
@@ -65,30 +58,23 @@ fn put_list(
         ≡ spec.list_of image.now base reset text.now ++ drop result page.old) }
 {
     match build_marks(image, base, reset, text, marks) {
-        TestResult::Failed(why) => put_answer(page, FileAnswer::Refused { why, offset: 0 }),
-        TestResult::Passed => put_accepted(marks, base, reset, page),
+        Err(why) => put_answer(page, Err(NotAccepted::Refused(Refused { why, offset: 0 }))),
+        Ok(()) => put_accepted(marks, base, reset, page),
     }
 }
 
-// A file within its limit, and words that are addresses.
+// Files within their limits, and words that are addresses.
+#[tactic(auto, unfolding(crate::specs::BuiltList::is_taken))]
 fn is_taken(image: &[u8], base: &[u8], reset: &[u8], text: &[u8]) -> bool
     ensures { result
         ≡ spec.is_taken image.now base.now reset.now text.now }
 {
-    if LIST_LIMIT < text.len() {
-        return false;
-    }
-    if IMAGE_LIMIT < image.len() {
-        return false;
-    }
-    if !is_address(base) {
-        return false;
-    }
-    is_address(reset)
+    are_within_limits(image, text) && is_address(base) && is_address(reset)
 }
 
 // Writes the mark list, or the line, at the front of a page, and returns its length. It asks for room for the longest
 // list: every list then fits.
+#[tactic(auto, using(crate::proofs::Words::taken_few, std::proofs::lemmas::Grind::common_steps))]
 pub fn put_built_list(
     image: &[u8],
     base: &[u8],
@@ -104,9 +90,9 @@ pub fn put_built_list(
     ensures part { (result ≤ length page.new) × (result ≡ length (take result page.new)) }
 {
     if !is_taken(image, base, reset, text) {
-        return put_answer(page, FileAnswer::Unread);
+        return put_answer(page, Err(NotAccepted::Unread));
     }
-    let mut marks = [0u8; IMAGE_LIMIT];
+    let mut marks = zeros::<IMAGE_LIMIT>();
     put_list(
         image,
         number(base, 0, 16, NEW_DIGITS),

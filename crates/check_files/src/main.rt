@@ -12,11 +12,11 @@ const WORDS: usize = 3;
 
 // Reads both files, an unread one as one that is too long, and prints the line.
 fn main(rt: HostRuntime) -> io::Result<()> {
-    let mut image = [0u8; IMAGE_LIMIT + 1];
-    let mut list = [0u8; LIST_LIMIT + 1];
-    let mut line = [0u8; 14];
-    let image_size = read_named(&rt, 1, WORDS, &mut image);
-    let list_size = read_named(&rt, 2, WORDS, &mut list);
-    let size = put_answer_line(&image[..image_size], &list[..list_size], &mut line);
+    let mut image = [0; IMAGE_LIMIT + 1];
+    let mut list = [0; LIST_LIMIT + 1];
+    let mut line = [0; 14];
+    let image = read_named(&rt, 1, WORDS, &mut image);
+    let list = read_named(&rt, 2, WORDS, &mut list);
+    let size = put_answer_line(image, list, &mut line);
     rt.write_all(&line[..size])
 }

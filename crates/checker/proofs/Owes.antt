@@ -23,24 +23,6 @@ use Rattle.prelude.proofs.Choice.{both_true}
 use Rattle.acceptance.proofs.Widths.{same_fields, routine_start, on_return_start, after_start}
 use Rattle.checker.specs.Owes.{all_owed, return_tests, owed_tests, MarksOfStarts}
 
--- ---- the mark at an address
-
--- the place of an address below the base lies past the marks
-pub mark_by_place : (marks : List ℕ) (base address place : ℕ) → base + length marks ≤ address_limit
-    → address < 4_294_967_296 → place < 4_294_967_296 → (place + base) % 4_294_967_296 ≡ address
-    → get_or marks place 0 ≡ mark_at marks base address
-unfolding mark_at
-mark_by_place marks base address place fits low high wraps = by (leb base address) refl
-  where
-    by : (b : Bool) → leb base address ≡ b → get_or marks place 0 ≡ pick b (get_or marks (address - base) 0) 0
-    by true e =
-        let above = leb-true base address e in
-        let same : place ≡ address - base = omega arith in
-        rw same refl
-    by false e =
-        let below = leb-false base address e in
-        get_or-eq_default marks 0 (omega arith)
-
 -- ---- kept widths
 
 pub kept_mark : (number operand mark : ℕ) → mark < 256 → eqb (number / 2_097_152 % 8) 0 ≡ true

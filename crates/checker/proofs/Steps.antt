@@ -10,12 +10,14 @@ use Rattle.prelude.specs.Choice.{pick}
 use Rattle.acceptance.specs.Image.{mark_m, mark_x}
 use Rattle.acceptance.specs.Rules.{instruction_at, StartRules}
 use Rattle.prelude.specs.First.{first_from}
-use Rattle.acceptance.specs.Verdict.{start_at, start_result, broken_at}
+use Rattle.acceptance.specs.Verdict.{start_at, decoded_result, start_result, broken_at, whole_tests}
 use Rattle.instructions.proofs.Decode.{decodes}
 use Rattle.prelude.proofs.First.{Passed, one_more_passed, passed_all}
 use Rattle.acceptance.proofs.Verdict.{start_rules}
-use Rattle.checker.specs.declared.start.StartResult.{StartResult}
-use Rattle.checker.specs.Steps.{length_of, bytes_at, step_at}
+use Rattle.types.specs.declared.refusals.Refusal.{Refusal}
+use Rattle.types.specs.declared.code.Instruction.{Instruction}
+use Rattle.types.specs.Refusals.{first_refusal, undecoded_refusal}
+use Rattle.checker.specs.Steps.{length_of, bytes_at, passed, step_at}
 
 module _ (image marks : List ℕ) (at : ℕ) where
   abbrev decoded_here : Decoded
@@ -78,15 +80,55 @@ pub passed_past : (test : ℕ → Bool) (i n : ℕ) → Passed test 0 i → n �
 passed_past test i n p past =
     passed_all test 0 n n (omega arith, λ k low high. p.1 k low (omega arith)) (omega arith) (omega arith)
 
--- the fields of a step
-module _ (image marks : List ℕ) (base at : ℕ) (s : StartResult) (e : s ≡ step_at image marks base at) where
-  pub step_result_lem : {so : TestResult} → s.result ≡ so → start_result image marks base at ≡ so
-  step_result_lem r = rw e at r
+-- what a step shows
+module _ (image marks : List ℕ) (base at : ℕ) where
+  -- a step that passes: no rule is broken, and the search goes on behind it
+  pub step_passed : (bytes : ℕ) → Ok bytes ≡ step_at image marks base at
+      → (start_result image marks base at ≡ Ok tt) × (bytes ≡ bytes_at image marks at)
+  step_passed bytes = by (start_result image marks base at) refl
+    where
+      by : (so : TestResult) → start_result image marks base at ≡ so
+          → Ok bytes ≡ passed so (bytes_at image marks at)
+          → (start_result image marks base at ≡ Ok tt) × (bytes ≡ bytes_at image marks at)
+      by (Ok _) e s = (e, cc)
+      by (Err why) e s = let z : ◌≡◌ {A = ℕ} 0 1 = cc in absurd (omega arith)
 
-  pub few_bytes : (1 ≤ s.bytes) × (s.bytes ≤ 6)
-  few_bytes = rw e (step_bytes image marks at)
+  pub step_failed : (why : Refusal) → Err why ≡ step_at image marks base at
+      → start_result image marks base at ≡ Err why
+  step_failed why = by (start_result image marks base at) refl
+    where
+      by : (so : TestResult) → start_result image marks base at ≡ so
+          → Err why ≡ passed so (bytes_at image marks at) → start_result image marks base at ≡ Err why
+      by (Ok _) e s = let z : ◌≡◌ {A = ℕ} 0 1 = cc in absurd (omega arith)
+      by (Err other) e s = cc
 
-  -- the search goes on behind a step that breaks no rule
-  pub goes_on : s.result ≡ Ok tt → Passed (broken_at image marks base) 0 at
-      → Passed (broken_at image marks base) 0 (at + s.bytes)
-  goes_on none p = rw e (stepped image marks base at (step_result_lem none) p)
+  pub few_bytes : (bytes : ℕ) → Ok bytes ≡ step_at image marks base at → (1 ≤ bytes) × (bytes ≤ 6)
+  few_bytes bytes e = rw (step_passed bytes e).1 (step_bytes image marks at)
+
+  pub goes_on : (bytes : ℕ) → Ok bytes ≡ step_at image marks base at → Passed (broken_at image marks base) 0 at
+      → Passed (broken_at image marks base) 0 (at + bytes)
+  goes_on bytes e p = rw (step_passed bytes e).1 (stepped image marks base at (step_passed bytes e).0 p)
+
+-- a step, by what stands at its place
+module _ (image marks : List ℕ) (base at : ℕ) where
+  pub no_start_step : start_at marks at ≡ false → Ok 1 ≡ step_at image marks base at
+  unfolding start_result bytes_at
+  no_start_step h = rw h refl
+
+  module _ (starts : start_at marks at ≡ true) where
+    pub undecoded_step : (why : Undecoded) → Err why ≡ instruction_at image marks at
+        → Err (undecoded_refusal why) ≡ step_at image marks base at
+    unfolding start_result bytes_at decoded_result
+    undecoded_step Undecoded.NotCarried e = rw (starts, ← e) refl
+    undecoded_step Undecoded.CutOff e = rw (starts, ← e) refl
+
+    module _ (i : Instruction) (e : Ok i ≡ instruction_at image marks at) where
+      pub broken_step : (why : Refusal) → Err why ≡ first_refusal (whole_tests marks base at i)
+          → Err why ≡ step_at image marks base at
+      unfolding start_result bytes_at decoded_result
+      broken_step why broken = rw (starts, ← e, ← broken) refl
+
+      pub whole_step : (done : Unit {0}) → Ok done ≡ first_refusal (whole_tests marks base at i)
+          → Ok i.length ≡ step_at image marks base at
+      unfolding start_result bytes_at decoded_result
+      whole_step done held = rw (starts, ← e, ← held) refl

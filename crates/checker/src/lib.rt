@@ -13,24 +13,27 @@ ghost use Rattle.acceptance.specs.Verdict as spec;
 use crate::start::step_at;
 use image::{bad_mark, is_start, test_marks};
 use packing::pack;
+use places::place::{Marks, Place};
 use types::refusals::{Refusal, Refused};
 use types::rules::Verdict;
 
 // The starts in turn, from the lowest: the first that breaks a rule refuses. Where an instruction breaks none, no
 // start stands on its later bytes, and they are stepped over.
-fn starts_verdict(image: &[u8], marks: &[u8], base: u32) -> Verdict
-    requires { base + length marks.now ≤ address_limit }
-    ensures { result ≡ spec.starts_verdict image.now marks.now base }
+fn starts_verdict(image: &[u8], marks: &Marks) -> Verdict
+    requires { length marks.now.bytes.now ≡ length image.now }
+    ensures { result ≡ spec.starts_verdict image.now marks.now.bytes.now marks.now.base }
 {
     // No range counts these places: a step is as long as the instruction that it passes.
-    let mut i = 0;
-    while i < marks.len() {
-        let step = step_at(image, marks, base, i);
-        if let Err(why) = step.result {
-            let offset = i as u32;
-            return Err(Refused { why, offset });
+    let mut at = 0;
+    while at < marks.bytes.len() {
+        let place = Place { image, marks: *marks, at };
+        match step_at(&place) {
+            Ok(bytes) => at += bytes as usize,
+            Err(why) => {
+                let offset = at as u32;
+                return Err(Refused { why, offset });
+            }
         }
-        i += step.bytes as usize;
     }
     Ok(())
 }
@@ -56,7 +59,7 @@ pub fn check(image: &[u8], marks: &[u8], base: u32, reset: u32) -> Verdict
         let offset = offset_of(marks, why);
         return Err(Refused { why, offset });
     }
-    starts_verdict(image, marks, base)
+    starts_verdict(image, &Marks { bytes: marks, base })
 }
 
 // The check's answer as a number. Every function of an archive that asks the check asks it here, so that the check has

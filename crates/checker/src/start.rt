@@ -1,42 +1,40 @@
 // The rules at one start: the first that is broken.
-ghost use Rattle.std.specs.Prelude.{◌≡◌, Bool, ◌+◌, ◌-◌, ◌<◌, ◌≤◌, ◌&&◌, length, take, drop, nat_le, nat_lt};
+ghost use Rattle.std.specs.Prelude.{◌≡◌, ◌+◌, ◌-◌, ◌<◌, ◌≤◌, ◌&&◌, Bool, length, take, drop, nat_le, nat_lt};
+ghost use Rattle.types.specs.declared.rules.Requirement.{Requirement};
 ghost use Rattle.types.specs.Addresses.{address_limit};
 ghost use Rattle.types.specs.Refusals.{first_refusal};
-ghost use Rattle.types.specs.declared.rules.Requirement.{Requirement};
 ghost use Rattle.acceptance.specs.Rules as rules;
 ghost use Rattle.acceptance.specs.Verdict as verdict;
 ghost use Rattle.fields.specs.Fields.{number};
+ghost use Rattle.places.specs.Placed.{instruction_in};
 ghost use Rattle.prelude.specs.First.{first_from};
-ghost use Rattle.decoder.specs.Layout.{Fitting, FittingIn, instruction_of, decoded_of};
-ghost use Rattle.checker.specs.Steps.{decoded_step, step_at};
+ghost use Rattle.checker.specs.Steps.{step_at};
 ghost use Rattle.checker.specs.Owes.{all_owed, return_tests, owed_tests, MarksOfStarts};
 
-use crate::owed::{mark_in, owed_at};
-use decoder::{Layout, layout_at};
+use crate::owed::owed_there;
 use entries::flow_of;
 use fields::{byte_at, low_bytes, six_bytes};
 use image::is_start;
 use image::marks::{mark_kind, mark_m, mark_x, return_m, return_x};
-use types::code::{Flow, Kind, Undecoded};
+use places::place::{InstructionAt, Marks, Place};
+use types::code::{Flow, Kind};
 use types::refusals::Refusal;
 use types::rules::{Requirement, Requirements};
 
 // Number 8: some start stands there.
 #[tactic(auto, unfolding(acceptance::specs::Verdict::is_start_at))]
-pub fn is_start_at(marks: &[u8], base: u32, w: Requirement) -> bool
-    requires { base + length marks.now ≤ address_limit }
-    ensures { result ≡ verdict.is_start_at marks.now base w }
+pub fn is_start_at(marks: &Marks, w: Requirement) -> bool
+    ensures { result ≡ verdict.is_start_at marks.now.bytes.now marks.now.base w }
 {
-    is_start(mark_in(marks, base, w.address))
+    is_start(marks.mark_at(w.address))
 }
 
 // Number 9: that mark stands there.
 #[tactic(auto, unfolding(acceptance::specs::Verdict::has_mark_at))]
-pub fn has_mark_at(marks: &[u8], base: u32, w: Requirement) -> bool
-    requires { base + length marks.now ≤ address_limit }
-    ensures { result ≡ verdict.has_mark_at marks.now base w }
+pub fn has_mark_at(marks: &Marks, w: Requirement) -> bool
+    ensures { result ≡ verdict.has_mark_at marks.now.bytes.now marks.now.base w }
 {
-    mark_in(marks, base, w.address) == w.mark
+    marks.mark_at(w.address) == w.mark
 }
 
 // Whether all that is owed passes a test.
@@ -128,93 +126,45 @@ fn test_return(flow: Flow, mark: u8) -> Result<(), Refusal>
 }
 
 // 8, 9. The marks that are wanted are those of starts, so that 9 is asked first: where it passes 8 does.
-fn test_owed(marks: &[u8], base: u32, owed: Requirements) -> Result<(), Refusal>
-    requires { (base + length marks.now ≤ address_limit) × MarksOfStarts marks.now base owed }
-    ensures { result ≡ first_refusal (owed_tests marks.now base owed) }
+fn test_owed(marks: &Marks, owed: Requirements) -> Result<(), Refusal>
+    requires { MarksOfStarts marks.now.bytes.now marks.now.base owed }
+    ensures { result ≡ first_refusal (owed_tests marks.now.bytes.now marks.now.base owed) }
 {
-    if all_owed(owed, |w| has_mark_at(marks, base, w)) {
+    if all_owed(owed, |w| has_mark_at(marks, w)) {
         return Ok(());
     }
-    if !all_owed(owed, |w| is_start_at(marks, base, w)) {
+    if !all_owed(owed, |w| is_start_at(marks, w)) {
         return Err(Refusal::Flow);
     }
     Err(Refusal::Widths)
 }
 
-// The rules of the instruction of a layout at a place: 7, 10, 8, 9. What owes something is no return, and passes 10.
-fn test_whole(
-    image: &[u8],
-    marks: &[u8],
-    base: u32,
-    at: usize,
-    layout: Layout,
-) -> Result<(), Refusal>
-    requires { Fitting (length image.now - at) layout × (base + length marks.now ≤ address_limit)
-        × (at < length marks.now) }
-    ensures { result ≡ first_refusal (verdict.whole_tests marks.now base
-        at (instruction_of (drop at image.now) layout)) }
+// The rules of an instruction: 7, 10, 8, 9. What owes something is no return, and passes 10.
+fn test_whole(i: &InstructionAt) -> Result<(), Refusal>
+    ensures { result ≡ first_refusal (verdict.whole_tests i.now.place.marks.bytes.now i.now.place.marks.base
+        i.now.place.at (instruction_in i.now)) }
 {
-    let mark = byte_at(marks, at);
-    if !is_clear(marks, at, layout.length) {
+    let marks = i.place.marks;
+    if !is_clear(marks.bytes, i.place.at, i.layout.length) {
         return Err(Refusal::Overlap);
     }
-    let owed = owed_at(image, marks, base, at, layout, mark);
+    let owed = owed_there(i);
     match owed {
-        Requirements::Nothing => test_return(flow_of(layout.number), mark),
-        Requirements::One(_) | Requirements::Two(_, _) => test_owed(marks, base, owed),
+        Requirements::Nothing => test_return(flow_of(i.layout.number), i.place.mark()),
+        Requirements::One(_) | Requirements::Two(_, _) => test_owed(&marks, owed),
     }
 }
 
-// A place of the image: the first rule that is broken there, and how many bytes stand there, one where no instruction
-// is read.
-#[derive(Clone, Copy)]
-pub(crate) struct StartResult {
-    pub(crate) result: Result<(), Refusal>,
-    pub(crate) bytes: u8,
-}
-
-// What a layout that was read at a place comes to.
-#[tactic(auto, unfolding(acceptance::specs::Verdict::decoded_result))]
-fn layout_result(
-    image: &[u8],
-    marks: &[u8],
-    base: u32,
-    at: usize,
-    read: Result<Layout, Undecoded>,
-) -> StartResult
-    requires { FittingIn (length image.now - at) read × (base + length marks.now ≤ address_limit)
-        × (at < length marks.now) }
-    ensures { result ≡ decoded_step marks.now base at (decoded_of (drop at image.now) read) }
+// The first rule that is broken at a place or, where none is, how many bytes are passed: the instruction's, or one where
+// none starts.
+pub(crate) fn step_at(place: &Place) -> Result<u8, Refusal>
+    ensures { result
+        ≡ step_at place.now.image.now place.now.marks.bytes.now place.now.marks.base place.now.at }
 {
-    match read {
-        Ok(layout) => StartResult {
-            result: test_whole(image, marks, base, at, layout),
-            bytes: layout.length,
-        },
-        Err(Undecoded::NotCarried) => StartResult {
-            result: Err(Refusal::Code),
-            bytes: 1,
-        },
-        Err(Undecoded::CutOff) => StartResult {
-            result: Err(Refusal::CutOff),
-            bytes: 1,
-        },
+    if !is_start(place.mark()) {
+        return Ok(1);
     }
-}
-
-// What a place comes to.
-#[tactic(auto, unfolding(acceptance::specs::Verdict::start_result, crate::specs::Steps::bytes_at))]
-pub(crate) fn step_at(image: &[u8], marks: &[u8], base: u32, at: usize) -> StartResult
-    requires { (base + length marks.now ≤ address_limit) × (at < length marks.now) }
-    ensures { result ≡ step_at image.now marks.now base at }
-{
-    let mark = byte_at(marks, at);
-    if !is_start(mark) {
-        return StartResult {
-            result: Ok(()),
-            bytes: 1,
-        };
-    }
-    let layout = layout_at(image, at, mark_m(mark), mark_x(mark));
-    layout_result(image, marks, base, at, layout)
+    let instruction = place.instruction()?;
+    test_whole(&instruction)?;
+    Ok(instruction.layout.length)
 }

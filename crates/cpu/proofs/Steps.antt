@@ -1,8 +1,8 @@
 -- Statuses made one after another, each from the one before.
 -- Assumes nothing.
-use Rattle.std.proofs.Common.{◌≡◌, ℕ, Bool, refl, ap, ◌∙◌}
+use Rattle.std.proofs.Common.{◌≡◌, ℕ, ◌*◌, ◌/◌, Bool, false, refl, sym, ap, ◌∙◌, add-zero}
 use Rattle.types.specs.declared.machine.Status.{Status}
-use Rattle.anywidth.specs.AnyWidth.{is_past}
+use Rattle.anywidth.specs.AnyWidth.{is_past, shifted_left, shifted_right}
 use Rattle.semantics.specs.Arithmetic.{with_carry, with_overflow}
 use Rattle.cpu.specs.FileEffects.{worked}
 
@@ -17,3 +17,10 @@ module _ (value : Bool → ℕ) (overflows : Bool → Bool) (n : ℕ) (s : Statu
       → worked v made ≡ worked (value s.carry)
       (with_overflow (overflows s.carry) (with_carry (is_past n (value s.carry)) s))
   flagged taken worth passed put-c outside put-v = rw (put-v, put-c, outside, passed, worth, taken) refl
+
+-- a shift where no bit comes in
+pub none_below : (v : ℕ) (s : Status) → worked (2 * v) s ≡ worked (shifted_left v false) s
+none_below v s = ap (λ k. worked k s) (sym (add-zero (2 * v)))
+
+pub none_above : (n v : ℕ) (s : Status) → worked (v / 2) s ≡ worked (shifted_right n v false) s
+none_above n v s = ap (λ k. worked k s) (sym (add-zero (v / 2)))

@@ -1,8 +1,9 @@
 -- What operations do, over the file: each row stands for operations that differ in their registers, or in what they
 -- work out, alone. `to` is the place of the register that is put, n the number of bits of the data.
 -- Assumes nothing.
-use Rattle.std.specs.Prelude.{ℕ, ◌+◌, Bool, true, false, List, [], ◌∷◌, bit_and, bit_or, bit_xor, slice_index}
-use Rattle.std.specs.Prelude.{slice_index_or}
+use Rattle.std.specs.Prelude.{ℕ, ◌+◌, Bool, true, false, List, [], bit_and, bit_or, bit_xor, slice_index}
+use Rattle.cpu.specs.declared.arithmetic.Combination.{Combination}
+use Rattle.cpu.specs.declared.arithmetic.Modification.{Modification}
 use Rattle.types.specs.declared.machine.Status.{Status}
 use Rattle.types.specs.declared.machine.OperandPlace.{OperandPlace}
 use Rattle.anywidth.specs.AnyWidth.{low, merged, is_negative, sum, difference, is_past, decremented, shifted_left}
@@ -27,13 +28,13 @@ added n a v s = worked (sum a v s.carry) (sum_status n a v s)
 abbrev pub subtracted : ℕ → ℕ → ℕ → Status → Worked
 subtracted n a v s = worked (difference n a v s.carry) (difference_status n a v s)
 
--- ADC, SBC, AND, ORA, EOR in the order of their numbers; any other number is the first's
-abbrev pub combinations : ℕ → ℕ → ℕ → Status → List Worked
-combinations n a v s =
-    added n a v s ∷ subtracted n a v s ∷ worked (bit_and a v) s ∷ worked (bit_or a v) s ∷ worked (bit_xor a v) s ∷ []
-
-abbrev pub combined : ℕ → ℕ → ℕ → ℕ → Status → Worked
-combined which n a v s = slice_index_or (combinations n a v s) which (added n a v s)
+-- what ADC, SBC, AND, ORA and EOR work out
+abbrev pub combined : Combination → ℕ → ℕ → ℕ → Status → Worked
+combined Combination.Add n a v s = added n a v s
+combined Combination.Subtract n a v s = subtracted n a v s
+combined Combination.And n a v s = worked (bit_and a v) s
+combined Combination.Or n a v s = worked (bit_or a v) s
+combined Combination.ExclusiveOr n a v s = worked (bit_xor a v) s
 
 -- a shift with the bit that comes in; C is the bit that leaves
 abbrev pub moved_left : ℕ → ℕ → Bool → Status → Worked
@@ -42,14 +43,14 @@ moved_left n v below s = worked (shifted_left v below) (with_carry (is_negative 
 abbrev pub moved_right : ℕ → ℕ → Bool → Status → Worked
 moved_right n v above s = worked (shifted_right n v above) (with_carry (is_odd v) s)
 
--- ASL, LSR, ROL, ROR, INC, DEC in the order of their numbers; any other number is the first's
-abbrev pub modifications : ℕ → ℕ → Status → List Worked
-modifications n v s =
-    moved_left n v false s ∷ moved_right n v false s ∷ moved_left n v s.carry s ∷ moved_right n v s.carry s ∷
-    worked (v + 1) s ∷ worked (decremented n v) s ∷ []
-
-abbrev pub modified : ℕ → ℕ → ℕ → Status → Worked
-modified which n v s = slice_index_or (modifications n v s) which (moved_left n v false s)
+-- what ASL, LSR, ROL, ROR, INC and DEC work out
+abbrev pub modified : Modification → ℕ → ℕ → Status → Worked
+modified Modification.Decrement n v s = worked (decremented n v) s
+modified Modification.Increment n v s = worked (v + 1) s
+modified Modification.RotateLeft n v s = moved_left n v s.carry s
+modified Modification.RotateRight n v s = moved_right n v s.carry s
+modified Modification.ShiftLeft n v s = moved_left n v false s
+modified Modification.ShiftRight n v s = moved_right n v false s
 
 module _ (file : List ℕ) where
   abbrev pub status : Status
@@ -83,8 +84,8 @@ module _ (file : List ℕ) where
     abbrev pub loading_work : Worked → Effect
     loading_work w = loading w.value w.status
 
-    abbrev pub combining : ℕ → ℕ → Effect
-    combining which v = loading_work (combined which n low_old v status)
+    abbrev pub combining : Combination → ℕ → Effect
+    combining how v = loading_work (combined how n low_old v status)
 
     abbrev pub comparing : ℕ → Effect
     comparing v =

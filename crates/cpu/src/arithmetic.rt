@@ -18,7 +18,7 @@ use datawidth::{
     sum_overflows, top_bit, wide,
 };
 use types::code::Mode;
-use types::machine::{Data, OperandPlace, Status, bit_of};
+use types::machine::{Data, OperandPlace, Status};
 
 // A register gets data, and N and Z with it.
 pub fn loads(to: usize, short: bool, v: u64, status: u16, registers: &[u16; FILE_SIZE]) -> Effect
@@ -40,6 +40,7 @@ pub struct Worked {
 }
 
 // ADC: the sum, its C and its V.
+#[tactic(auto, using(crate::proofs::Steps::flagged))]
 fn added(short: bool, a: u16, v: u16, status: u16) -> Worked
     ensures { as_worked result ≡ rows.added (bits short) a v (status_of status) }
 {
@@ -53,6 +54,7 @@ fn added(short: bool, a: u16, v: u16, status: u16) -> Worked
 }
 
 // SBC: the difference, its C and its V.
+#[tactic(auto, using(crate::proofs::Steps::flagged))]
 fn subtracted(short: bool, a: u16, v: u16, status: u16) -> Worked
     ensures { as_worked result ≡ rows.subtracted (bits short) a v (status_of status) }
 {
@@ -65,78 +67,99 @@ fn subtracted(short: bool, a: u16, v: u16, status: u16) -> Worked
     }
 }
 
-// ADC, SBC, AND, ORA, EOR, in the order of their numbers; any other number is ADC.
-fn combined(which: usize, short: bool, a: u16, v: u16, status: u16) -> Worked
-    ensures { as_worked result ≡ rows.combined which (bits short) a v (status_of status) }
+// How ADC, SBC, AND, ORA and EOR combine a register and data.
+#[derive(Clone, Copy)]
+pub enum Combination {
+    Add,
+    Subtract,
+    And,
+    Or,
+    ExclusiveOr,
+}
+
+fn combined(how: Combination, short: bool, a: u16, v: u16, status: u16) -> Worked
+    ensures { as_worked result ≡ rows.combined how (bits short) a v (status_of status) }
 {
-    match which {
-        1 => subtracted(short, a, v, status),
-        2 => Worked {
+    match how {
+        Combination::Add => added(short, a, v, status),
+        Combination::Subtract => subtracted(short, a, v, status),
+        Combination::And => Worked {
             value: wide(a & v),
             status,
         },
-        3 => Worked {
+        Combination::Or => Worked {
             value: wide(a | v),
             status,
         },
-        4 => Worked {
+        Combination::ExclusiveOr => Worked {
             value: wide(a ^ v),
             status,
         },
-        _ => added(short, a, v, status),
     }
 }
 
-// ASL, LSR, ROL, ROR, INC, DEC, in the order of their numbers; any other number is ASL.
-fn modified(which: usize, short: bool, v: u64, status: u16) -> Worked
+// How ASL, LSR, ROL, ROR, INC and DEC modify data.
+#[derive(Clone, Copy)]
+pub enum Modification {
+    Decrement,
+    Increment,
+    RotateLeft,
+    RotateRight,
+    ShiftLeft,
+    ShiftRight,
+}
+
+#[tactic(auto, using(crate::proofs::Steps::none_below))]
+fn modified(how: Modification, short: bool, v: u64, status: u16) -> Worked
     requires { v ≤ 65_535 }
-    ensures { as_worked result ≡ rows.modified which (bits short) v (status_of status) }
+    ensures { as_worked result ≡ rows.modified how (bits short) v (status_of status) }
 {
-    match which {
-        1 => Worked {
-            value: v / 2,
-            status: with_carry(v % 2 == 1, status),
-        },
-        2 => Worked {
-            value: 2 * v + bit_of(is_set(Status::C, status)),
-            status: with_carry(half(short) <= v, status),
-        },
-        3 => Worked {
-            value: v / 2 + top_bit(short, is_set(Status::C, status)),
-            status: with_carry(v % 2 == 1, status),
-        },
-        4 => Worked {
-            value: v + 1,
-            status,
-        },
-        5 => Worked {
+    match how {
+        Modification::Decrement => Worked {
             value: v + size(short) - 1,
             status,
         },
-        _ => Worked {
+        Modification::Increment => Worked {
+            value: v + 1,
+            status,
+        },
+        Modification::RotateLeft => Worked {
+            value: 2 * v + u64::from(is_set(Status::C, status)),
+            status: with_carry(half(short) <= v, status),
+        },
+        Modification::RotateRight => Worked {
+            value: v / 2 + top_bit(short, is_set(Status::C, status)),
+            status: with_carry(v % 2 == 1, status),
+        },
+        Modification::ShiftLeft => Worked {
             value: 2 * v,
             status: with_carry(half(short) <= v, status),
+        },
+        Modification::ShiftRight => Worked {
+            value: v / 2,
+            status: with_carry(v % 2 == 1, status),
         },
     }
 }
 
 // A register and data, combined into the register, with N and Z.
 pub fn combines(
-    which: usize,
+    how: Combination,
     to: usize,
     short: bool,
     v: u16,
     registers: &[u16; FILE_SIZE],
 ) -> Effect
     requires { to < file_size }
-    ensures { Makes result registers.now (rows.combining registers.now to short which v) }
+    ensures { Makes result registers.now (rows.combining registers.now to short how v) }
 {
     let a = low(short, wide(registers[to]));
-    let done = combined(which, short, a, v, registers[PS]);
+    let done = combined(how, short, a, v, registers[PS]);
     loads(to, short, done.value, done.status, registers)
 }
 
 // CMP, CPX, CPY: C, N and Z of the difference.
+#[tactic(auto, using(crate::proofs::Steps::through))]
 pub fn compares(from: usize, short: bool, v: u16, registers: &[u16; FILE_SIZE]) -> Effect
     requires { from < file_size }
     ensures { Makes result registers.now (rows.comparing registers.now from short v) }
@@ -182,7 +205,7 @@ pub fn pulls(to: usize, short: bool, v: u16, status: u16, registers: &[u16; FILE
 
 // Data, modified where it came from, with N and Z.
 pub fn modifies(
-    which: usize,
+    how: Modification,
     mode: Mode,
     to: usize,
     short: bool,
@@ -191,18 +214,22 @@ pub fn modifies(
 ) -> Effect
     requires { to < file_size }
     ensures { Makes result registers.now (rows.modifying registers.now to short (operand_place_of mode)
-        given.address (rows.modified which (bits short) given.value (rows.status registers.now))) }
+        given.address (rows.modified how (bits short) given.value (rows.status registers.now))) }
 {
-    let done = modified(which, short, wide(given.value), registers[PS]);
-    let residence = operand_place_of(mode);
-    match residence {
+    let done = modified(how, short, wide(given.value), registers[PS]);
+    match operand_place_of(mode) {
         OperandPlace::Memory => stores_to(
             short,
             given.address,
             wide(low(short, done.value)),
             with_result(short, done.value, done.status),
         ),
-        OperandPlace::Instruction => loads(to, short, done.value, done.status, registers),
-        OperandPlace::Register => loads(to, short, done.value, done.status, registers),
+        OperandPlace::Instruction | OperandPlace::Register => loads(
+            to,
+            short,
+            done.value,
+            done.status,
+            registers,
+        ),
     }
 }

@@ -117,13 +117,8 @@ pub fn branches_if(taken: bool, status: u16) -> Effect
     ensures { result ≡ code_effect 7 0 7 0 status Stores.None taken }
 {
     Effect {
-        first: PS,
-        value: 0,
-        second: PS,
-        other: 0,
-        status,
-        stores: Stores::None,
         taken,
+        ..leaves(status)
     }
 }
 
@@ -133,13 +128,8 @@ pub fn stores_to(short: bool, address: u32, v: u64, status: u16) -> Effect
         (listed result.stores ≡ spec.stores_of short address v) }
 {
     Effect {
-        first: PS,
-        value: 0,
-        second: PS,
-        other: 0,
-        status,
         stores: stores_of(short, address, v),
-        taken: false,
+        ..leaves(status)
     }
 }
 
@@ -148,13 +138,8 @@ pub fn pushes(short: bool, v: u64, registers: &[u16; FILE_SIZE]) -> Effect
     ensures { Makes result registers.now (spec.pushes short v (registers_of registers.now)) }
 {
     Effect {
-        first: S,
-        value: pushed_at(registers[S], bytes(short)),
-        second: PS,
-        other: 0,
-        status: registers[PS],
         stores: push_of(short, v, registers),
-        taken: false,
+        ..puts(S, pushed_at(registers[S], bytes(short)), registers[PS])
     }
 }
 
@@ -163,34 +148,34 @@ pub fn operand_place_of(mode: Mode) -> OperandPlace
     ensures { result ≡ addressing.operand_place_of mode }
 {
     match mode {
-        Mode::Implied => OperandPlace::Register,
+        Mode::Implied
+        | Mode::Accumulator
+        | Mode::AbsoluteIndirect
+        | Mode::AbsoluteIndirectLong
+        | Mode::AbsoluteIndexedXIndirect
+        | Mode::Stack
+        | Mode::Relative
+        | Mode::BlockTransfer => OperandPlace::Register,
         Mode::Immediate => OperandPlace::Instruction,
-        Mode::Accumulator => OperandPlace::Register,
-        Mode::Direct => OperandPlace::Memory,
-        Mode::DirectBit => OperandPlace::Memory,
-        Mode::DirectIndexedX => OperandPlace::Memory,
-        Mode::DirectIndexedY => OperandPlace::Memory,
-        Mode::DirectIndirect => OperandPlace::Memory,
-        Mode::DirectIndexedXIndirect => OperandPlace::Memory,
-        Mode::DirectIndirectIndexedY => OperandPlace::Memory,
-        Mode::DirectIndirectLong => OperandPlace::Memory,
-        Mode::DirectIndirectLongIndexedY => OperandPlace::Memory,
-        Mode::Absolute => OperandPlace::Memory,
-        Mode::AbsoluteBit => OperandPlace::Memory,
-        Mode::AbsoluteIndexedX => OperandPlace::Memory,
-        Mode::AbsoluteIndexedY => OperandPlace::Memory,
-        Mode::AbsoluteLong => OperandPlace::Memory,
-        Mode::AbsoluteLongIndexedX => OperandPlace::Memory,
-        Mode::AbsoluteIndirect => OperandPlace::Register,
-        Mode::AbsoluteIndirectLong => OperandPlace::Register,
-        Mode::AbsoluteIndexedXIndirect => OperandPlace::Register,
-        Mode::Stack => OperandPlace::Register,
-        Mode::Relative => OperandPlace::Register,
-        Mode::DirectBitRelative => OperandPlace::Memory,
-        Mode::AbsoluteBitRelative => OperandPlace::Memory,
-        Mode::StackPointerRelative => OperandPlace::Memory,
-        Mode::StackPointerRelativeIndirectIndexedY => OperandPlace::Memory,
-        Mode::BlockTransfer => OperandPlace::Register,
+        Mode::Direct
+        | Mode::DirectBit
+        | Mode::DirectIndexedX
+        | Mode::DirectIndexedY
+        | Mode::DirectIndirect
+        | Mode::DirectIndexedXIndirect
+        | Mode::DirectIndirectIndexedY
+        | Mode::DirectIndirectLong
+        | Mode::DirectIndirectLongIndexedY
+        | Mode::Absolute
+        | Mode::AbsoluteBit
+        | Mode::AbsoluteIndexedX
+        | Mode::AbsoluteIndexedY
+        | Mode::AbsoluteLong
+        | Mode::AbsoluteLongIndexedX
+        | Mode::DirectBitRelative
+        | Mode::AbsoluteBitRelative
+        | Mode::StackPointerRelative
+        | Mode::StackPointerRelativeIndirectIndexedY => OperandPlace::Memory,
     }
 }
 
@@ -199,34 +184,34 @@ fn address_size(mode: Mode) -> u64
     ensures { result ≡ spec.address_size mode }
 {
     match mode {
-        Mode::Implied => 1,
-        Mode::Immediate => 1,
-        Mode::Accumulator => 1,
-        Mode::Direct => 256,
-        Mode::DirectBit => 256,
-        Mode::DirectIndexedX => 256,
-        Mode::DirectIndexedY => 256,
-        Mode::DirectIndirect => 256,
-        Mode::DirectIndexedXIndirect => 256,
-        Mode::DirectIndirectIndexedY => 256,
-        Mode::DirectIndirectLong => 256,
-        Mode::DirectIndirectLongIndexedY => 256,
-        Mode::Absolute => 65_536,
-        Mode::AbsoluteBit => 65_536,
-        Mode::AbsoluteIndexedX => 65_536,
-        Mode::AbsoluteIndexedY => 65_536,
-        Mode::AbsoluteLong => 65_536,
-        Mode::AbsoluteLongIndexedX => 65_536,
-        Mode::AbsoluteIndirect => 65_536,
-        Mode::AbsoluteIndirectLong => 65_536,
-        Mode::AbsoluteIndexedXIndirect => 65_536,
-        Mode::Stack => 1,
-        Mode::Relative => 1,
-        Mode::DirectBitRelative => 256,
-        Mode::AbsoluteBitRelative => 65_536,
-        Mode::StackPointerRelative => 1,
-        Mode::StackPointerRelativeIndirectIndexedY => 1,
-        Mode::BlockTransfer => 1,
+        Mode::Implied
+        | Mode::Immediate
+        | Mode::Accumulator
+        | Mode::Stack
+        | Mode::Relative
+        | Mode::StackPointerRelative
+        | Mode::StackPointerRelativeIndirectIndexedY
+        | Mode::BlockTransfer => 1,
+        Mode::Direct
+        | Mode::DirectBit
+        | Mode::DirectIndexedX
+        | Mode::DirectIndexedY
+        | Mode::DirectIndirect
+        | Mode::DirectIndexedXIndirect
+        | Mode::DirectIndirectIndexedY
+        | Mode::DirectIndirectLong
+        | Mode::DirectIndirectLongIndexedY
+        | Mode::DirectBitRelative => 256,
+        Mode::Absolute
+        | Mode::AbsoluteBit
+        | Mode::AbsoluteIndexedX
+        | Mode::AbsoluteIndexedY
+        | Mode::AbsoluteLong
+        | Mode::AbsoluteLongIndexedX
+        | Mode::AbsoluteIndirect
+        | Mode::AbsoluteIndirectLong
+        | Mode::AbsoluteIndexedXIndirect
+        | Mode::AbsoluteBitRelative => 65_536,
     }
 }
 

@@ -34,17 +34,16 @@ pub fn accumulator_in(named: Accumulator, registers: &[u16; FILE_SIZE]) -> u16
     ensures { result ≡ accumulator_of named (registers_of registers.now) }
 {
     match named {
-        Accumulator::Unnamed => registers[A],
-        Accumulator::A => registers[A],
+        Accumulator::Unnamed | Accumulator::A => registers[A],
         Accumulator::B => registers[B],
     }
 }
 
 // The file of registers; DT's upper byte is left open.
+#[tactic(auto, using(crate::proofs::Files::filed))]
 pub fn file_of(registers: Registers) -> [u16; FILE_SIZE]
     ensures { (registers_of result ≡ registers) × (length result ≡ file_size) }
 {
-    let status = registers.status;
     [
         registers.a,
         registers.b,
@@ -53,7 +52,7 @@ pub fn file_of(registers: Registers) -> [u16; FILE_SIZE]
         registers.s,
         registers.dpr,
         registers.dt as u16,
-        status.number(),
+        u16::from(registers.status),
     ]
 }
 
@@ -69,6 +68,6 @@ pub fn registers_in(file: &[u16; FILE_SIZE]) -> Registers
         s: file[S],
         dpr: file[DPR],
         dt: (file[DT] % 256) as u8,
-        status: Status::from_number(file[PS]),
+        status: Status::from(file[PS]),
     }
 }

@@ -1,12 +1,12 @@
 // The flags of the status register's number, and the number with some of them changed.
-ghost use Rattle.std.specs.Prelude.{◌≡◌, ◌^◌, ◌<◌, ◌≤◌, ◌==◌};
+ghost use Rattle.std.specs.Prelude.{◌≡◌, ◌+◌, ◌-◌, ◌*◌, ◌/◌, ◌%◌, ◌^◌, ◌<◌, ◌≤◌, ◌==◌, ◌⊎◌};
 ghost use Rattle.semantics.specs.Addressing.{bits};
 ghost use Rattle.semantics.specs.Arithmetic as spec;
-ghost use Rattle.types.specs.Status.{is_set, status_of};
+ghost use Rattle.types.specs.Status.{is_set, status_of, mask_c, mask_v};
 ghost use Rattle.prelude.specs.Choice.{bit};
 
 use datawidth::{half, low};
-use types::machine::{Status, bit_of};
+use types::machine::Status;
 
 // Whether the flag that a mask names is set. Asks for a mask other than 0: it is divided by.
 pub fn is_set(mask: u16, status: u16) -> bool
@@ -21,29 +21,42 @@ pub fn bit_at(mask: u16, status: u16) -> u8
     requires { 0 < mask }
     ensures { (result ≡ bit (is_set mask status)) × (result ≤ 1) }
 {
-    (status / mask % 2) as u8
+    u8::from(is_set(mask, status))
+}
+
+// The status with the flag of a mask put. Asks for one of the two that arithmetic puts.
+fn with_flag(mask: u16, flag: bool, status: u16) -> u16
+    requires { (mask ≡ mask_c) ⊎ (mask ≡ mask_v) }
+    ensures { result ≡ status - status / mask % 2 * mask + mask * bit flag }
+{
+    status - status / mask % 2 * mask + mask * u16::from(flag)
 }
 
 // The status with C put.
+#[tactic(auto, using(crate::proofs::Numbers::carry_changed))]
 pub(crate) fn with_carry(flag: bool, status: u16) -> u16
     ensures { status_of result ≡ spec.with_carry flag (status_of status) }
 {
-    status - status / Status::C % 2 * Status::C + Status::C * bit_of(flag) as u16
+    with_flag(Status::C, flag, status)
 }
 
 // The status with V put.
+#[tactic(auto, using(crate::proofs::Numbers::overflow_changed))]
 pub(crate) fn with_overflow(flag: bool, status: u16) -> u16
     ensures { status_of result ≡ spec.with_overflow flag (status_of status) }
 {
-    status - status / Status::V % 2 * Status::V + Status::V * bit_of(flag) as u16
+    with_flag(Status::V, flag, status)
 }
 
 // The status with m and x put, as an instruction's width effect gives them. Asks for 0 or 1: they are added.
+#[tactic(auto, using(crate::proofs::Numbers::widths_changed))]
 pub fn with_widths(m: u8, x: u8, status: u16) -> u16
     requires { (m ≤ 1) × (x ≤ 1) }
     ensures { status_of result ≡ spec.with_widths (m == 1) (x == 1) (status_of status) }
 {
-    status - status / Status::X % 4 * Status::X + Status::M * m as u16 + Status::X * x as u16
+    status - status / Status::X % 4 * Status::X
+        + Status::M * u16::from(m)
+        + Status::X * u16::from(x)
 }
 
 // The status with N and Z of a result.
@@ -51,8 +64,8 @@ pub fn with_result(short: bool, v: u64, status: u16) -> u16
     ensures { status_of result ≡ spec.with_result (bits short) v (status_of status) }
 {
     let result = low(short, v);
-    let zero = Status::Z * bit_of(result == 0) as u16;
-    let negative = Status::N * bit_of(half(short) <= result as u64) as u16;
+    let zero = Status::Z * u16::from(result == 0);
+    let negative = Status::N * u16::from(half(short) <= u64::from(result));
     status - (status / Status::Z % 2 * Status::Z + status / Status::N % 2 * Status::N)
         + zero
         + negative
@@ -62,6 +75,7 @@ pub fn with_result(short: bool, v: u64, status: u16) -> u16
 const CHANGED: u16 = 207;
 
 // SEP: the flags that a mask names are set.
+#[tactic(auto, using(crate::proofs::Masks::flags_set))]
 pub fn with_flags_set(mask: u16, status: u16) -> u16
     ensures { status_of result ≡ spec.with_flags_set mask (status_of status) }
 {
@@ -69,6 +83,7 @@ pub fn with_flags_set(mask: u16, status: u16) -> u16
 }
 
 // CLP: the flags that a mask names are cleared.
+#[tactic(auto, using(crate::proofs::Masks::flags_cleared))]
 pub fn with_flags_cleared(mask: u16, status: u16) -> u16
     ensures { status_of result ≡ spec.with_flags_cleared mask (status_of status) }
 {

@@ -100,7 +100,7 @@ module _ (c : RunCall) where
         ap (λ n. n.steps) told,
         ap (λ n. n.calls) told,
       )
-      by (Ok e) e told = absurd (omega (arith, ap (λ n. n.refusal) told))
+      by (Ok ended) e told = absurd (omega (arith, ap (λ n. n.refusal) told))
 
   step_stopped : Every Undone (history_of c)
   unfolding admitted_history_within
@@ -115,10 +115,10 @@ module _ (c : RunCall) where
     where
       by : (a : RunAnswer) → (ran_of c).answer ≡ a → numbers c ≡ answer_numbers a → Untouched c
       by (Err why) e told = untouched (refused_leaves (memory_of c) (holds c.state) c.steps why e)
-      by (Ok e) e told =
-          let zero : e.steps ≡ 0 = sym (ap (λ n. n.steps) told) ∙ none in
-          untouched (none_leaves (memory_of c) (holds c.state) c.steps c.state.bytes e.end e.calls
-          (e ∙ ap (λ n. ended_by e.end n e.calls) zero))
+      by (Ok ended) e told =
+          let zero : ended.steps ≡ 0 = sym (ap (λ n. n.steps) told) ∙ none in
+          untouched (none_leaves (memory_of c) (holds c.state) c.steps c.state.bytes ended.end ended.calls
+          (e ∙ ap (λ n. ended_by ended.end n ended.calls) zero))
 
 pub demand_1 : Demand1
 demand_1 = record {
@@ -196,8 +196,8 @@ module _ (c : RunCall) (zero : (numbers c).refusal ≡ 0) where
     where
       by : (a : RunAnswer) → (ran_of c).answer ≡ a → numbers c ≡ answer_numbers a → P
       by (Err why) e told = absurd (omega (arith, zero, ap (λ n. n.refusal) told, (refusal_range why).0))
-      by (Ok e) e told =
-          let t = taken (memory_of c) (holds c.state) c.steps e.end e.steps e.calls e in
+      by (Ok ended) e told =
+          let t = taken (memory_of c) (holds c.state) c.steps ended.end ended.steps ended.calls e in
           shows t.history_is t.ran_is
 
   by_history : ByHistory c

@@ -33,7 +33,7 @@ check_first c d same some = by (verdict_of d) refl (numbers_of_check d)
     by (Ok _) e told = absurd (omega (arith, some, ap (λ n. n.number) told, ap (λ n. n.offset) told))
     by (Err r) e told =
         let refused = located_refused (holds c.image) (holds c.marks) c.base c.reset
-        (listed c.addresses) (listed c.places) r.why r.offset (rw (same.0, same.1, same.2, same.3) r.offset e) in
+        (listed c.addresses) (listed c.places) r.why r.offset (rw (same.0, same.1, same.2, same.3) at e) in
         let answer = locate_numbers c ∙ ap addresses_located_numbers refused in (
           ap (λ n. n.number) answer ∙ sym (ap (λ n. n.number) told),
           ap (λ n. n.offset) answer ∙ sym (ap (λ n. n.offset) told),

@@ -35,7 +35,7 @@ check_first c d same some = by (verdict_of d) refl (numbers_of_check d)
     by (Ok _) e told = absurd (omega (arith, some, ap (λ n. n.number) told, ap (λ n. n.offset) told))
     by (Err r) e told =
         let refused = printed_refused (holds c.image) (holds c.marks) c.base c.reset (holds c.page) r.why
-        r.offset (rw (same.0, same.1, same.2, same.3) r.offset e) in
+        r.offset (rw (same.0, same.1, same.2, same.3) at e) in
         let answer = print_numbers c ∙ ap page_printed_numbers refused in (
           ap (λ n. n.number) answer ∙ sym (ap (λ n. n.number) told),
           ap (λ n. n.offset) answer ∙ sym (ap (λ n. n.offset) told),

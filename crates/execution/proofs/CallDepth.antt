@@ -40,6 +40,7 @@ use Rattle.execution.specs.CallDepth.{extended, extended_stepped, extended_event
 use Rattle.execution.specs.CallDepth.{SameRun, SameRuns, CallDepth, AsFound}
 use Rattle.semantics.proofs.Step.{Opens, PlanOpens, opens_below, depth_kept}
 use Rattle.execution.proofs.Guarantee.{every_parts}
+use Rattle.types.specs.Kinds.{kind_number}
 
 -- ---- the plan
 
@@ -79,7 +80,7 @@ module _ (fewer limit : ℕ) (most : fewer ≤ limit) (more : List ℕ) where
       → fewer ≤ length calls → calls_after change depth (calls ++ more) ≡ calls_after change depth calls ++ more
   records_same CallChange.Keep depth calls below room = refl
   records_same (CallChange.Open address kind) depth calls below room =
-      set-append_left calls more depth (call_record address kind) (omega arith)
+      set-append_left calls more depth (call_record address (kind_number kind)) (omega arith)
   records_same CallChange.Close depth calls below room = refl
 
   finish_same : (i : Instruction) (m : Memory) (s : State) (p : Plan) → PlanOpens fewer p s.core.depth
@@ -129,7 +130,7 @@ module _ (fewer limit : ℕ) (most : fewer ≤ limit) (more : List ℕ) where
       where
         changed : (change : CallChange) → length (calls_after change s.core.depth s.calls) ≡ length s.calls
         changed CallChange.Keep = refl
-        changed (CallChange.Open address kind) = length-set s.calls s.core.depth (call_record address kind)
+        changed (CallChange.Open address kind) = length-set s.calls s.core.depth (call_record address (kind_number kind))
         changed CallChange.Close = refl
 
         serves_so : (i : Instruction) (d : Change) (v : Served)

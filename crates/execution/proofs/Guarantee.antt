@@ -312,7 +312,7 @@ module _ (marks : List ℕ) (base : ℕ) (s : State) (i : Instruction) (st : Sta
       → there-marked ≡ mark_at marks base target
       → Met marks base (requirement target (mark_of_routine kind mark there-marked))
       → Met marks base (requirement next (mark_on_return mark there-marked))
-      → Arrives marks base s i target (CallChange.Open next (kind_number kind))
+      → Arrives marks base s i target (CallChange.Open next kind)
   unfolding mark_of_routine mark_on_return m_after x_after
   call_arrives kind target next t keeps low e into after =
       let k = kind_number kind in
@@ -343,7 +343,7 @@ module _ (marks : List ℕ) (base : ℕ) (s : State) (i : Instruction) (st : Sta
       by : (b : Bool) → Good marks base s i
           (pick b
           (changes (change (with_s (pushed_at s.core.registers (return_bytes kind)) s.core.registers)
-          (target s.core i) (CallChange.Open (next s.core i) (kind_number kind)) (pushes_return s.core i kind)))
+          (target s.core i) (CallChange.Open (next s.core i) kind) (pushes_return s.core i kind)))
           (stops Stop.Deep))
       by true =
           call_arrives kind (target s.core i) (next s.core i) (mark_at marks base (target s.core i)) keeps

@@ -53,7 +53,7 @@ use Rattle.semantics.proofs.Effects.{Comes, comes, SmallData, data_small, SmallS
 -- A plan that keeps all: registers in their widths, bytes stored, a call opened below the limit, its entry in bytes.
 abbrev Opens : ℕ → CallChange → Type 0
 Opens depth CallChange.Keep = Unit {0}
-Opens depth (CallChange.Open address kind) = (depth < call_limit) × (call_record address kind < 256 ^ record_size)
+Opens depth (CallChange.Open address kind) = (depth < call_limit) × (call_record address (kind_number kind) < 256 ^ record_size)
 Opens depth CallChange.Close = Unit {0}
 
 abbrev Fits : ℕ → Plan → Type 0
@@ -95,7 +95,7 @@ module _ (c : Core) (i : Instruction) (m : Memory) (h : InWidth c.registers) (ra
   calls_fit_lem kind =
       pick_fits c.depth (ltb c.depth call_limit)
       (change (with_s (pushed_at c.registers (return_bytes kind)) c.registers) (target c i)
-      (CallChange.Open (next c i) (kind_number kind)) (pushes_return c i kind))
+      (CallChange.Open (next c i) kind) (pushes_return c i kind))
       Stop.Deep (λ e. (
         in_s c.registers h _ (omega arith),
         return_small kind,
@@ -161,8 +161,8 @@ changed_keeps i s d fits h =
     by CallChange.Keep o = (h.depth, h.calls, h.entries)
     by (CallChange.Open address kind) o = (
       omega arith,
-      length-set s.calls s.core.depth (call_record address kind) ∙ h.calls,
-      set_small s.calls s.core.depth (call_record address kind) (256 ^ record_size) o.1 h.entries,
+      length-set s.calls s.core.depth (call_record address (kind_number kind)) ∙ h.calls,
+      set_small s.calls s.core.depth (call_record address (kind_number kind)) (256 ^ record_size) o.1 h.entries,
     )
     by CallChange.Close o = (omega arith, h.calls, h.entries)
 

@@ -13,11 +13,11 @@ const WORDS: usize = 3;
 
 // Reads both files, an unread one as one that is too long, and prints the lines.
 fn main(rt: HostRuntime) -> io::Result<()> {
-    let mut image = [0u8; IMAGE_LIMIT + 1];
-    let mut list = [0u8; LIST_LIMIT + 1];
-    let mut lines = [0u8; TEXT_LIMIT];
-    let image_size = read_named(&rt, 1, WORDS, &mut image);
-    let list_size = read_named(&rt, 2, WORDS, &mut list);
-    let size = put_explained(&image[..image_size], &list[..list_size], &mut lines);
+    let mut image = [0; IMAGE_LIMIT + 1];
+    let mut list = [0; LIST_LIMIT + 1];
+    let mut lines = [0; TEXT_LIMIT];
+    let image = read_named(&rt, 1, WORDS, &mut image);
+    let list = read_named(&rt, 2, WORDS, &mut list);
+    let size = put_explained(image, list, &mut lines);
     rt.write_all(&lines[..size])
 }

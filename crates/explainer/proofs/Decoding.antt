@@ -1,29 +1,16 @@
 -- What is decoded at a start, for what is said of it: a code that is not carried is there, one that is cut off has few
--- bytes. And the requirement that is named, as the code asks for it.
+-- bytes.
 -- Assumes nothing.
 use Rattle.types.specs.declared.code.Undecoded.{Undecoded}
 use Rattle.std.specs.Prelude.{Ok, Err}
-use mathlib.Core.Path.{◌≡◌, refl, sym, ap, ◌∙◌}
-use mathlib.Core.Bool.{Bool, true, false}
-use mathlib.Core.List.{List}
-use Prim.Native.Nat.{ℕ, zero, suc, ◌≤◌, ◌<◌}
-use native.Mathlib.Omega.{arith}
-use borrow.Author.Tests.{ltb-true, ltb-false, leb-false, ne_eqb}
-use lib.Dec.{eqb, ltb, leb}
-use lib.ListN.{length, get_or}
-use Rattle.types.specs.declared.code.Kind.{Kind}
-use Rattle.types.specs.declared.code.Flow.{Flow}
+use Rattle.std.proofs.Common.{◌≡◌, refl, ℕ, ◌≤◌, ◌<◌, Bool, true, false, List, eqb, ltb, leb, length, get_or, arith}
+use borrow.Author.Tests.{ltb-true, ltb-false, leb-false}
 use Rattle.types.specs.Answers.{Decoded}
-use Rattle.types.specs.declared.rules.Requirement.{Requirement}
-use Rattle.types.specs.declared.rules.Requirements.{Requirements}
 use Rattle.prelude.specs.Choice.{pick}
 use Rattle.prelude.proofs.Choice.{one_of}
 use Rattle.instructions.specs.CodeMap.{length_at}
 use Rattle.instructions.specs.Decode.{page_of, operand_of, judged, decode_on, decode}
-use Rattle.reports.specs.Explanation.{prefix_of, code_entry, is_free_at, requirement_at}
-use Rattle.decoder.specs.declared.LayoutRead.{LayoutRead}
-use Rattle.decoder.specs.Layout.{layout_read, decoded_of}
-use Rattle.decoder.proofs.Layouts.{decoded_layout}
+use Rattle.reports.specs.Explanation.{prefix_of, code_entry}
 use Rattle.instructions.proofs.CodeMap.{carried_length}
 
 module _ (bytes : List ℕ) (m x : ℕ) where
@@ -67,20 +54,3 @@ module _ (bytes : List ℕ) (m x : ℕ) where
             (carried_length (page_of (get_or bytes 0 0)) (get_or bytes prefix 0) m x e').1,
           )
       by true false c e e' e'' h = let z : ◌≡◌ {A = ℕ} 0 1 = cc in absurd (omega arith)
-
--- what is decoded is what the layout that is read there is
-pub decoded_by : {read kind : LayoutRead} (bytes : List ℕ) (m x : ℕ) → read ≡ layout_read bytes m x → read ≡ kind
-    → decode bytes m x ≡ decoded_of bytes kind
-decoded_by bytes m x told e = decoded_layout bytes m x ∙ ap (decoded_of bytes) (sym told ∙ e)
-
--- ---- the requirement that is named
-
-pub free_first : (kind : Kind) (k : ℕ) → eqb k 0 ≡ is_free_at (Flow.Call kind) k
-unfolding is_free_at
-free_first kind zero = refl
-free_first kind (suc k) = ne_eqb (suc k) 0 (λ e. absurd (omega arith))
-
-pub second_one : (v w : Requirement) (k : ℕ) → (k ≡ 0 → ⊥) → w ≡ requirement_at (Requirements.Two v w) k
-unfolding requirement_at
-second_one v w zero other = absurd (other refl)
-second_one v w (suc k) other = refl

@@ -1,2 +1,2 @@
-pub mod Added
-pub mod Explainable
+pub mod Room
+pub mod Said

@@ -1,111 +1,122 @@
 // What a refusal of the check is about, in one line of text that names the byte to mend.
 #![tactic(auto)]
 
+mod line;
 mod numbers;
 mod owed;
-mod pieces;
+mod place;
 mod starts;
 
-ghost use Rattle.std.specs.Prelude.{◌≡◌, ◌+◌, ◌≤◌, length};
-ghost use Rattle.packing.specs.Packed.{packed_verdict};
+ghost use Rattle.std.specs.Prelude.{◌≡◌, ◌++◌, ◌≤◌, length, get_or, []};
+ghost use Rattle.types.specs.Refusals.{refusal_number};
+ghost use Rattle.types.specs.declared.rules.Verdict.{Verdict};
 ghost use Rattle.acceptance.specs.Verdict.{verdict};
 ghost use Rattle.reports.specs.Explanation as spec;
-ghost use Rattle.explainer.specs.Added.{Added};
-ghost use Rattle.explainer.specs.Explainable.{Explainable};
+ghost use Rattle.explainer.specs.Room.{HasRoom};
 
+use crate::line::Line;
 use crate::numbers::{put_base, put_lengths, put_mark, put_reset};
-use crate::pieces::put_text;
+use crate::place::{Marks, Place};
 use crate::starts::put_at_start;
-use checker::packed_verdict;
+use checker::check;
 use text::bytes::put_bytes;
 use types::pages::Printed;
-use types::refusals::Refusal;
+use types::refusals::{Refusal, refusal_number};
+use types::rules::Verdict;
 
 // No line has more bytes.
 pub const LINE_LIMIT: usize = 81;
 
-// The number of a refusal and its word.
-fn put_heading(line: &mut [u8], number: u32) -> usize
-    requires { (1 ≤ number) × (number ≤ 10) × (11 ≤ length line.old) }
-    ensures { Added 0 (spec.heading number) 11 line.old line.new result }
+// The word of a refusal of the check, which gives none of the others.
+fn word_of(why: Refusal) -> &'static [u8]
+    ensures { result.now ≡ get_or spec.words (refusal_number why) [] }
 {
-    match number {
-        1 => put_text(line, 0, b"1 length: "),
-        2 => put_text(line, 0, b"2 base: "),
-        3 => put_text(line, 0, b"3 reset: "),
-        4 => put_text(line, 0, b"4 mark: "),
-        5 => put_text(line, 0, b"5 code: "),
-        6 => put_text(line, 0, b"6 cut off: "),
-        7 => put_text(line, 0, b"7 overlap: "),
-        8 => put_text(line, 0, b"8 flow: "),
-        9 => put_text(line, 0, b"9 widths: "),
-        _ => put_text(line, 0, b"10 return: "),
+    match why {
+        Refusal::Length => b"length",
+        Refusal::Base => b"base",
+        Refusal::Reset => b"reset",
+        Refusal::Mark => b"mark",
+        Refusal::Code => b"code",
+        Refusal::CutOff => b"cut off",
+        Refusal::Overlap => b"overlap",
+        Refusal::Flow => b"flow",
+        Refusal::Widths => b"widths",
+        Refusal::Return => b"return",
+        _ => b"",
     }
 }
 
-// What is said of a refusal at an offset, by its number.
-fn put_detail(
-    line: &mut [u8],
-    from: usize,
-    image: &[u8],
-    marks: &[u8],
+// The number of a refusal and its word.
+#[tactic(auto, unfolding(reports::specs::Explanation::heading))]
+fn put_heading(line: &mut Line, why: Refusal)
+    requires { HasRoom line.old (spec.heading (refusal_number why)) }
+    ensures { line.new ≡ line.old ++ spec.heading (refusal_number why) }
+{
+    line.push_decimal(refusal_number(why) as u64);
+    line.push_text(b" ");
+    line.push_text(word_of(why));
+    line.push_text(b": ");
+}
+
+// What is said of a refusal at an offset.
+#[tactic(auto, unfolding(reports::specs::Explanation::detail))]
+fn put_detail<'a>(
+    line: &mut Line,
+    image: &'a [u8],
+    marks: &'a [u8],
     base: u32,
     reset: u32,
     at: usize,
-    number: u32,
-) -> usize
-    requires { Explainable image.now marks.now base at number × (from + 69 ≤ length line.old) }
-    ensures { Added from (spec.detail image.now marks.now base reset at number) 69
-        line.old line.new result }
+    why: Refusal,
+)
+    requires refused { verdict image.now marks.now base reset ≡ Verdict.Refused why at }
+    requires room { HasRoom line.old (spec.detail image.now marks.now base reset at (refusal_number why)) }
+    ensures { line.new ≡ line.old ++ spec.detail image.now marks.now base reset at (refusal_number why) }
 {
-    match number {
-        1 => put_lengths(line, from, image.len(), marks.len()),
-        2 => put_base(line, from, base, image.len()),
-        3 => put_reset(line, from, marks, base, reset),
-        4 => put_mark(line, from, marks, base, at),
-        _ => put_at_start(line, from, image, marks, base, at, number),
+    match why {
+        Refusal::Length => put_lengths(line, image.len(), marks.len()),
+        Refusal::Base => put_base(line, base, image.len()),
+        Refusal::Reset => put_reset(line, &Marks { bytes: marks, base }, reset),
+        Refusal::Mark => put_mark(line, &Marks { bytes: marks, base }, at),
+        _ => {
+            let marks = Marks { bytes: marks, base };
+            put_at_start(line, &Place { image, marks, at }, why);
+        }
     }
 }
 
-// The line of the check's answer, as the check packs it.
-fn put_line(
-    line: &mut [u8],
-    image: &[u8],
-    marks: &[u8],
-    base: u32,
-    reset: u32,
-    answer: u32,
-) -> usize
-    requires { (answer ≡ packed_verdict (verdict image.now marks.now base reset))
-        × (spec.line_limit ≤ length line.old) }
-    ensures { Added 0 (spec.explanation image.now marks.now base reset) spec.line_limit
-        line.old line.new result }
+// The line that explains the check's verdict.
+#[tactic(auto, unfolding(reports::specs::Explanation::explanation, reports::specs::Explanation::line_by))]
+fn explanation(image: &[u8], marks: &[u8], base: u32, reset: u32) -> Line
+    ensures { result ≡ spec.explanation image.now marks.now base reset }
 {
-    let number = answer / 65_536;
-    if number == 0 {
-        return put_text(line, 0, b"accepted\n");
+    let mut line = Line::new();
+    match check(image, marks, base, reset) {
+        Verdict::Accepted => line.push_text(b"accepted\n"),
+        Verdict::Refused { why, offset } => {
+            put_heading(&mut line, why);
+            put_detail(&mut line, image, marks, base, reset, offset as usize, why);
+            line.push_text(b"\n");
+        }
     }
-    let at = (answer % 65_536) as usize;
-    let mut end = put_heading(line, number);
-    end = put_detail(line, end, image, marks, base, reset, at, number);
-    put_text(line, end, b"\n")
+    line
 }
 
 // Writes the line that explains the check's verdict at the front of a page, where that has room for it.
+#[tactic(auto, unfolding(reports::specs::Explanation::explained))]
 pub fn explain(image: &[u8], marks: &[u8], base: u32, reset: u32, page: &mut [u8]) -> Printed
     ensures answer { result ≡ spec.explained image.now marks.now base reset page.old }
     ensures page { page.new ≡ spec.page_explained image.now marks.now base reset page.old }
     ensures short { length (spec.explanation image.now marks.now base reset) ≤ spec.line_limit }
 {
-    let answer = packed_verdict(image, marks, base, reset);
-    let mut line = [0u8; LINE_LIMIT];
-    let size = put_line(&mut line, image, marks, base, reset, answer);
-    if page.len() < size {
+    let line = explanation(image, marks, base, reset);
+    let text = line.text();
+    if page.len() < text.len() {
         return Printed::NotPrinted {
             why: Refusal::Page,
             offset: 0,
         };
     }
-    put_bytes(page, &line[..size]);
-    Printed::Rows(size)
+    put_bytes(page, text);
+    Printed::Rows(text.len())
 }

@@ -1,12 +1,10 @@
 // What is said of 1 to 4, which speak of no instruction.
-ghost use Rattle.std.specs.Prelude.{◌≡◌, ◌+◌, ◌≤◌, ◌<◌, length, get_or};
-ghost use Rattle.types.specs.Addresses.{address_limit};
+ghost use Rattle.std.specs.Prelude.{◌≡◌, ◌++◌, ◌+◌, ◌<◌, length, get_or};
 ghost use Rattle.reports.specs.Explanation as spec;
-ghost use Rattle.explainer.specs.Added.{Added};
+ghost use Rattle.explainer.specs.Room.{HasRoom};
 
-use crate::pieces::{ADDRESS_DIGITS, put_decimal, put_fields, put_hex, put_text};
-use checker::owed::mark_in;
-use fields::byte_at;
+use crate::line::{ADDRESS_DIGITS, Line};
+use crate::place::Marks;
 use image::is_start;
 use image::marks::mark_kind;
 
@@ -17,99 +15,96 @@ const GIVEN_DIGITS: usize = 8;
 const RESET_MARK: u8 = 1;
 
 // 1: the two lengths.
-pub(crate) fn put_lengths(line: &mut [u8], from: usize, image: usize, marks: usize) -> usize
-    requires { from + 54 ≤ length line.old }
-    ensures { Added from (spec.length_text image marks) 54 line.old line.new result }
+#[tactic(auto, unfolding(reports::specs::Explanation::length_text))]
+pub(crate) fn put_lengths(line: &mut Line, image: usize, marks: usize)
+    requires { HasRoom line.old (spec.length_text image marks) }
+    ensures { line.new ≡ line.old ++ spec.length_text image marks }
 {
-    let mut end = put_text(line, from, b"image ");
-    end = put_decimal(line, end, image as u64);
-    end = put_text(line, end, b", marks ");
-    put_decimal(line, end, marks as u64)
+    line.push_text(b"image ");
+    line.push_decimal(image as u64);
+    line.push_text(b", marks ");
+    line.push_decimal(marks as u64);
 }
 
 // 2: base and length.
-pub(crate) fn put_base(line: &mut [u8], from: usize, base: u32, size: usize) -> usize
-    requires { from + 37 ≤ length line.old }
-    ensures { Added from (spec.base_text base size) 37 line.old line.new result }
+#[tactic(auto, unfolding(reports::specs::Explanation::base_text))]
+pub(crate) fn put_base(line: &mut Line, base: u32, size: usize)
+    requires { HasRoom line.old (spec.base_text base size) }
+    ensures { line.new ≡ line.old ++ spec.base_text base size }
 {
-    let mut end = put_hex(line, from, GIVEN_DIGITS, base);
-    end = put_text(line, end, b", length ");
-    put_decimal(line, end, size as u64)
-}
-
-// An address lies in the image. Asks for an image that ends within the addresses.
-pub(crate) fn is_inside(marks: &[u8], base: u32, address: u32) -> bool
-    requires { base + length marks.now ≤ address_limit }
-    ensures { result ≡ spec.is_inside marks.now base address }
-{
-    if address < base {
-        return false;
-    }
-    address < base + marks.len() as u32
+    line.push_hex(GIVEN_DIGITS, base);
+    line.push_text(b", length ");
+    line.push_decimal(size as u64);
 }
 
 // Adds what is said of an address where no start stands.
-pub(crate) fn put_no_start(line: &mut [u8], at: usize, inside: bool) -> usize
-    requires { at + 17 ≤ length line.old }
-    ensures { Added at (spec.no_start_text inside) 17 line.old line.new result }
+#[tactic(auto, unfolding(reports::specs::Explanation::no_start_text))]
+pub(crate) fn put_no_start(line: &mut Line, inside: bool)
+    requires { HasRoom line.old (spec.no_start_text inside) }
+    ensures { line.new ≡ line.old ++ spec.no_start_text inside }
 {
     if inside {
-        return put_text(line, at, b"no start");
+        line.push_text(b"no start");
+    } else {
+        line.push_text(b"outside the image");
     }
-    put_text(line, at, b"outside the image")
 }
 
 // Adds what stands at an address: the fields of a start's mark, or that there is none.
-fn put_standing(line: &mut [u8], at: usize, marks: &[u8], base: u32, address: u32) -> usize
-    requires { (base + length marks.now ≤ address_limit) × (at + 17 ≤ length line.old) }
-    ensures { Added at (spec.standing marks.now base address) 17 line.old line.new result }
+#[tactic(auto, unfolding(reports::specs::Explanation::standing))]
+fn put_standing(line: &mut Line, marks: &Marks, address: u32)
+    requires { HasRoom line.old (spec.standing marks.now.bytes.now marks.now.base address) }
+    ensures { line.new ≡ line.old ++ spec.standing marks.now.bytes.now marks.now.base address }
 {
-    let mark = mark_in(marks, base, address);
+    let mark = marks.mark_at(address);
     if is_start(mark) {
-        return put_fields(line, at, false, mark);
+        line.push_fields(false, mark);
+    } else {
+        put_no_start(line, marks.is_inside(address));
     }
-    put_no_start(line, at, is_inside(marks, base, address))
 }
 
 // 3: the reset address, the mark that it requires and what stands there.
-pub(crate) fn put_reset(line: &mut [u8], from: usize, marks: &[u8], base: u32, reset: u32) -> usize
-    requires { (base + length marks.now ≤ address_limit) × (from + 48 ≤ length line.old) }
-    ensures { Added from (spec.reset_text marks.now base reset) 48 line.old line.new result }
+#[tactic(auto, unfolding(reports::specs::Explanation::reset_text))]
+pub(crate) fn put_reset(line: &mut Line, marks: &Marks, reset: u32)
+    requires { HasRoom line.old (spec.reset_text marks.now.bytes.now marks.now.base reset) }
+    ensures { line.new ≡ line.old ++ spec.reset_text marks.now.bytes.now marks.now.base reset }
 {
-    let mut end = put_hex(line, from, GIVEN_DIGITS, reset);
-    end = put_text(line, end, b" must be ");
-    end = put_fields(line, end, false, RESET_MARK);
-    end = put_text(line, end, b", is ");
-    put_standing(line, end, marks, base, reset)
+    line.push_hex(GIVEN_DIGITS, reset);
+    line.push_text(b" must be ");
+    line.push_fields(false, RESET_MARK);
+    line.push_text(b", is ");
+    put_standing(line, marks, reset);
 }
 
 // Adds which part of a mark is not of the form.
-fn put_part(line: &mut [u8], at: usize, mark: u8) -> usize
-    requires { at + 23 ≤ length line.old }
-    ensures { Added at (spec.unformed_part mark) 23 line.old line.new result }
+#[tactic(auto, unfolding(reports::specs::Explanation::unformed_part))]
+fn put_part(line: &mut Line, mark: u8)
+    requires { HasRoom line.old (spec.unformed_part mark) }
+    ensures { line.new ≡ line.old ++ spec.unformed_part mark }
 {
     if !is_start(mark) {
-        return put_text(line, at, b"bits without a start");
+        line.push_text(b"bits without a start");
+    } else if 128 <= mark {
+        line.push_text(b"bit 7");
+    } else if mark_kind(mark) == 3 {
+        line.push_text(b"kind 3");
+    } else {
+        line.push_text(b"return widths of kind N");
     }
-    if 128 <= mark {
-        return put_text(line, at, b"bit 7");
-    }
-    if mark_kind(mark) == 3 {
-        return put_text(line, at, b"kind 3");
-    }
-    put_text(line, at, b"return widths of kind N")
 }
 
 // 4: address and mark byte, and which part is not of the form.
-pub(crate) fn put_mark(line: &mut [u8], from: usize, marks: &[u8], base: u32, at: usize) -> usize
-    requires { (at < length marks.now) × (base + length marks.now ≤ address_limit) × (from + 38 ≤ length line.old) }
-    ensures { Added from (spec.mark_text (base + at) (get_or marks.now at 0)) 38
-        line.old line.new result }
+#[tactic(auto, unfolding(reports::specs::Explanation::mark_text))]
+pub(crate) fn put_mark(line: &mut Line, marks: &Marks, at: usize)
+    requires inside { at < length marks.now.bytes.now }
+    requires room { HasRoom line.old (spec.mark_text (marks.now.base + at) (get_or marks.now.bytes.now at 0)) }
+    ensures { line.new ≡ line.old ++ spec.mark_text (marks.now.base + at) (get_or marks.now.bytes.now at 0) }
 {
-    let mark = byte_at(marks, at);
-    let mut end = put_hex(line, from, ADDRESS_DIGITS, base + at as u32);
-    end = put_text(line, end, b" has ");
-    end = put_hex(line, end, 2, mark as u32);
-    end = put_text(line, end, b": ");
-    put_part(line, end, mark)
+    let mark = marks.bytes[at];
+    line.push_hex(ADDRESS_DIGITS, marks.base + at as u32);
+    line.push_text(b" has ");
+    line.push_hex(2, mark as u32);
+    line.push_text(b": ");
+    put_part(line, mark);
 }

@@ -1,23 +1,24 @@
 -- The marks that are read are those of the list; the explanation has room behind the answer's line.
 -- Assumes nothing.
 use Rattle.std.specs.Prelude.{Ok, Err}
+use Rattle.std.specs.Result.{result_unwrap_or}
 use mathlib.Core.Path.{◌≡◌, refl, sym, ap, ◌∙◌}
+use mathlib.Core.Bool.{true, false}
 use mathlib.Core.List.{List, [], ◌++◌, append-nil}
 use Prim.Native.Nat.{ℕ, ◌+◌, ◌-◌, ◌≤◌, ◌<◌}
 use native.Mathlib.Omega.{arith}
-use borrow.Author.Tests.{le-leb, lt-leb}
+use borrow.Author.Tests.{le-leb}
 use borrow.Rule.Slice.PartMut.{put_mid}
 use lib.ListN.{length, take, drop}
 use Rattle.types.specs.declared.lists.Header.{Header}
-use Rattle.types.specs.Answers.{ListRead, refused_at, Printed}
+use Rattle.types.specs.Answers.{ListRead, Printed}
 use Rattle.types.specs.declared.refusals.Refusal.{Refusal}
 use Rattle.text.proofs.Pages.{Front, front_next, part_room}
-use Rattle.types.specs.Addresses.{image_limit}
 use Rattle.lists.specs.MarkList.{read_list, marks_read, marks_by}
 use Rattle.reports.specs.PrintedPage.{page_after}
 use Rattle.reports.specs.Explanation.{line_limit, explanation, explained, page_explained}
 use Rattle.answer.specs.AnswerLine as answer
-use Rattle.answer.specs.AnswerLine.{list_limit, Put, line_for, answer_for, answer_line}
+use Rattle.answer.specs.AnswerLine.{are_within_limits, Put, line_for, answer_for, answer_line}
 use Rattle.answer.proofs.PutLaws.{front_part}
 use Rattle.explanation.specs.Explained.{explanation_as, list_explanation, files_explanation, answer_explained}
 use Rattle.explanation.specs.Explained.{text_limit}
@@ -46,38 +47,26 @@ module _ (image marks : List ℕ) (base reset : ℕ) (page left : List ℕ) (roo
   unfolding explained
   whole = rw (le-leb (length line) (length page) (omega arith))
 
-  -- tells the answers apart
-  abbrev rows : Printed → ℕ
-  rows (Err r) = 0
-  rows (Ok n) = n + 1
-
-  abbrev size_of : Printed → ℕ
-  size_of (Err r) = 0
-  size_of (Ok n) = n
-
-  pub line_size_lem : (n : ℕ) → explained image marks base reset page ≡ Ok n → n ≡ length line
-  line_size_lem n e = ap size_of (sym e ∙ whole)
-
-  pub never_short : {P : Type 0} (why : Refusal) (at : ℕ)
-      → explained image marks base reset page ≡ refused_at why at → P
-  never_short why at e = absurd (omega (arith, ap rows (sym e ∙ whole)))
+  pub line_size : (told : Printed) (n : ℕ) → told ≡ explained image marks base reset page
+      → n ≡ result_unwrap_or told 0 → n ≡ length line
+  line_size told n e size = size ∙ ap (λ a. result_unwrap_or a 0) (e ∙ whole)
 
   pub line_left : left ≡ line ++ drop (length line) page
   unfolding page_explained page_after
   line_left = kept ∙ (rw whole refl)
 
 -- a list that is read, explained
-pub explained_by : (image text marks read page left : List ℕ) (h : Header) (n : ℕ) → length marks ≡ length image
+pub explained_by : (image text marks read page left : List ℕ) (h : Header) (told : Printed) (n : ℕ) → length marks ≡ length image
     → read_list text marks ≡ Ok h → read ≡ marks_read text marks → line_limit ≤ length page
     → length (explanation image read h.base h.reset) ≤ line_limit
     → left ≡ page_explained image read h.base h.reset page
-    → explained image read h.base h.reset page ≡ Ok n
+    → told ≡ explained image read h.base h.reset page → n ≡ result_unwrap_or told 0
     → (n ≡ length (list_explanation image text)) × (left ≡ list_explanation image text ++ drop n page) ×
     (n ≤ line_limit)
-explained_by image text marks read page left h n alike e m room short kept told =
+explained_by image text marks read page left h told n alike e m room short kept answer taken =
     let same : explanation image read h.base h.reset ≡ list_explanation image text =
     rw m (list_explained image text marks alike h e) in
-    let size = line_size_lem image read h.base h.reset page left room short kept n told in (
+    let size = line_size image read h.base h.reset page left room short kept told n answer taken in (
       size ∙ ap length same,
       rw (size, ← same) (line_left image read h.base h.reset page left room short kept),
       omega arith,
@@ -86,22 +75,14 @@ explained_by image text marks read page left h n alike e m room short kept told 
 -- ---- over the limits nothing follows
 
 module _ (image text : List ℕ) where
-  pub long_list : list_limit < length text → answer_explained image text ≡ answer_line image text
+  pub over_limits : are_within_limits image text ≡ false → answer_explained image text ≡ answer_line image text
   unfolding answer_explained files_explanation
-  long_list over = rw (lt-leb (length text) list_limit over) (append-nil (answer_line image text))
+  over_limits over = rw over (append-nil (answer_line image text))
 
-  pub long_image : length text ≤ list_limit → image_limit < length image
-      → answer_explained image text ≡ answer_line image text
-  unfolding answer_explained files_explanation
-  long_image short over =
-      rw (le-leb (length text) list_limit short, lt-leb (length image) image_limit over)
-      (append-nil (answer_line image text))
-
-  pub within_limits : length text ≤ list_limit → length image ≤ image_limit
+  pub within_limits : are_within_limits image text ≡ true
       → answer_explained image text ≡ answer_line image text ++ list_explanation image text
   unfolding answer_explained files_explanation
-  within_limits short few =
-      rw (le-leb (length text) list_limit short, le-leb (length image) image_limit few)
+  within_limits within = rw within
 
   -- ---- both lines on a page
 

@@ -8,7 +8,7 @@ use Rattle.types.specs.Addresses.{image_limit}
 use Rattle.lists.specs.MarkList.{is_old, address_digits, header_shown, marks_of, read_as}
 use Rattle.reports.specs.Explanation.{line_limit, explanation}
 use Rattle.answer.specs.AnswerLine as answer
-use Rattle.answer.specs.AnswerLine.{list_limit, answer_line}
+use Rattle.answer.specs.AnswerLine.{are_within_limits, answer_line}
 
 -- by the marks, the base and the reset address of a list; a list that is refused has none, and nothing is explained
 unfoldable pub explanation_as : ListRead → List ℕ → List ℕ → List ℕ
@@ -23,7 +23,7 @@ list_explanation image text = explanation_as (read_as (is_old text) (header_show
 -- nor is anything of a file over its limit
 unfoldable pub files_explanation : List ℕ → List ℕ → List ℕ
 files_explanation image text =
-    pick (leb (length text) list_limit && leb (length image) image_limit) (list_explanation image text) []
+    pick (are_within_limits image text) (list_explanation image text) []
 
 -- 'the same one line', which is that of the program check, and 'the explanation' behind it
 unfoldable pub answer_explained : List ℕ → List ℕ → List ℕ

@@ -6,13 +6,11 @@ ghost use Rattle.std.specs.Prelude.{◌≡◌, ◌++◌, ◌≤◌, length, take
 ghost use Rattle.reports.specs.Explanation.{line_limit};
 ghost use Rattle.explanation.specs.Explained as spec;
 
-use answer::answers::{LIST_LIMIT, answer_for};
+use answer::answers::{answer_for, are_within_limits, zeros};
 use answer::lines::put_answer;
 use explainer::{LINE_LIMIT, explain};
 use image::IMAGE_LIMIT;
 use marklist::reader::read_list;
-use types::lists::ListRead;
-use types::pages::Printed;
 
 // The most bytes of both lines: an answer's has up to 14.
 pub const TEXT_LIMIT: usize = 14 + LINE_LIMIT;
@@ -26,17 +24,15 @@ fn put_explanation(image: &[u8], text: &[u8], marks: &mut [u8], page: &mut [u8])
         ≡ spec.list_explanation image.now text.now ++ drop result page.old)
         × (result ≤ line_limit) }
 {
-    match read_list(text, marks) {
-        ListRead::NotRead(_) => 0,
-        ListRead::Read(h) => match explain(image, marks, h.base, h.reset, page) {
-            Printed::Rows(size) => size,
-            Printed::NotPrinted { why: _, offset: _ } => 0,
-        },
-    }
+    let Ok(h) = read_list(text, marks) else {
+        return 0;
+    };
+    explain(image, marks, h.base, h.reset, page).unwrap_or(0)
 }
 
 // Writes the line of the answer for the bytes of two files at the front of a page, and the line that explains it behind
 // it where there is one, and returns the length of both. Asks for room for the longest lines.
+#[tactic(auto, using(answer::proofs::AnswerLaws::within_few, std::proofs::lemmas::Grind::common_steps))]
 pub fn put_explained(image: &[u8], text: &[u8], page: &mut [u8]) -> usize
     requires { spec.text_limit ≤ length page.old }
     ensures text { (result ≡ length (spec.answer_explained image.now text.now))
@@ -45,12 +41,9 @@ pub fn put_explained(image: &[u8], text: &[u8], page: &mut [u8]) -> usize
     ensures part { (result ≤ length page.new) × (result ≡ length (take result page.new)) }
 {
     let at = put_answer(page, answer_for(image, text));
-    if LIST_LIMIT < text.len() {
+    if !are_within_limits(image, text) {
         return at;
     }
-    if IMAGE_LIMIT < image.len() {
-        return at;
-    }
-    let mut marks = [0u8; IMAGE_LIMIT];
+    let mut marks = zeros::<IMAGE_LIMIT>();
     at + put_explanation(image, text, &mut marks[..image.len()], &mut page[at..])
 }

@@ -22,11 +22,6 @@ field_more at n bytes = rw (number_more n (drop at bytes), get_or-drop at bytes 
 abbrev pub Read : List ℕ → ℕ → ℕ → ℕ → ℕ → Type 0
 Read bytes at size value i = (i ≤ size) × (value ≡ field_at (at + i) (size - i) bytes) × (value < 256 ^ (size - i))
 
-pub none_read : (bytes : List ℕ) (at size : ℕ) → Read bytes at size 0 size
-none_read bytes at size =
-    let none : size - size ≡ 0 = omega arith in
-    (omega arith, rw none refl, rw none (omega arith))
-
 module _ (bytes : List ℕ) (at size value i : ℕ) (some : 0 < i) (r : Read bytes at size value i) where
   pub room_for_one : size ≤ 8 → value * 256 + 255 ≤ 18_446_744_073_709_551_615
   room_for_one few =
@@ -43,11 +38,3 @@ module _ (bytes : List ℕ) (at size value i : ℕ) (some : 0 < i) (r : Read byt
         rw (more, field_more (at + (i - 1)) (size - i) bytes, on, ← r.1, ← e) (omega arith),
         rw (more, pow-suc 256 (size - i)) (omega (arith, r.2)),
       )
-
-pub all_read : (bytes : List ℕ) (at size value i : ℕ) → i ≤ 0 → Read bytes at size value i
-    → (value ≡ field_at at size bytes) × (value < 256 ^ size)
-all_read bytes at size value i none r =
-    let end : i ≡ 0 = omega arith in
-    let whole : size - i ≡ size = omega arith in
-    let first : at + i ≡ at = omega arith in
-    (rw (whole, first) at r.1, rw whole at r.2)

@@ -9,7 +9,7 @@ ghost use Rattle.fields.specs.Fields as spec;
 pub fn byte_at(bytes: &[u8], at: usize) -> u8
     ensures { result ≡ get_or bytes.now at 0 }
 {
-    if at < bytes.len() { bytes[at] } else { 0 }
+    bytes.get(at).copied().unwrap_or(0)
 }
 
 // A word of its two bytes.
@@ -30,25 +30,21 @@ pub fn long_of(low: u8, high: u8, last: u8) -> u32
 pub fn number(bytes: &[u8]) -> u64
     ensures { result ≡ spec.number (take 8 bytes.now) }
 {
-    let mut value: u64 = 0;
-    let mut i = bytes.len();
-    while 0 < i {
-        i -= 1;
-        value = (value << 8) + bytes[i] as u64;
-    }
-    value
+    bytes
+        .iter()
+        .rev()
+        .fold(0, |value, byte| (value << 8) + *byte as u64)
 }
 
 // The field of a size at a place; past the end stands 0. Asks for a place whose sum with the size is a number, and for
 // no more bytes than 64 bits hold. Byte by byte: what goes on from the state that it reads is faster so.
+#[tactic(auto, using(crate::proofs::FieldReading::room_for_one))]
 pub fn field_at(bytes: &[u8], at: usize, size: usize) -> u64
     requires { (at + size < 18_446_744_073_709_551_616) × (size ≤ 8) }
     ensures { (result ≡ spec.field_at at size bytes.now) × (result < 256 ^ size) }
 {
-    let mut value: u64 = 0;
-    let mut i = size;
-    while 0 < i {
-        i -= 1;
+    let mut value = 0;
+    for i in (0..size).rev() {
         value = value * 256 + byte_at(bytes, at + i) as u64;
     }
     value
@@ -87,11 +83,9 @@ pub fn put_field(bytes: &mut [u8], at: usize, size: usize, given: u64)
     ensures { bytes.new ≡ sets bytes.old at (spec.low_bytes size given) }
 {
     let mut value = given;
-    let mut i = 0;
-    while i < size {
-        bytes[at + i] = (value % 256) as u8;
+    for byte in &mut bytes[at..at + size] {
+        *byte = (value % 256) as u8;
         value /= 256;
-        i += 1;
     }
 }
 
@@ -101,10 +95,8 @@ pub fn put_fields(bytes: &mut [u8], from: usize, size: usize, values: &[u64])
     ensures { bytes.new ≡ sets bytes.old from (spec.joined size values.now) }
 {
     let mut at = from;
-    let mut i = 0;
-    while i < values.len() {
-        put_field(bytes, at, size, values[i]);
+    for value in values {
+        put_field(bytes, at, size, *value);
         at += size;
-        i += 1;
     }
 }

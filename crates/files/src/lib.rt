@@ -1,6 +1,8 @@
-// Reading the files that a program's arguments name.
+// Reading the files that a program's arguments name. Each program keeps its own few lines over it: a function for all
+// of them would take their limits, and what they make of the files with its contract, and be no plainer.
 #![tactic(auto)]
 
+ghost use Rattle.std.specs.Prelude.{◌≤◌, length, IfSome};
 ghost use Rattle.std.specs.Counts.{IsPrefixLen};
 
 use std::env::FillError;
@@ -13,8 +15,7 @@ const PATH_LIMIT: usize = 4_096;
 
 // Nothing is left to read. A read that fails does not show that.
 fn is_ended(file: &mut impl Read) -> bool {
-    let mut byte = [0u8; 1];
-    matches!(file.read(&mut byte), Ok(0))
+    matches!(file.read(&mut [0]), Ok(0))
 }
 
 // Reads until the buffer is full, nothing comes or a read fails, and returns how many bytes came.
@@ -31,17 +32,9 @@ pub fn read_full(file: &mut impl Read, buffer: &mut [u8]) -> usize
     done
 }
 
-// All of a buffer.
-fn whole(buffer: &[u8]) -> usize
-    ensures { IsPrefixLen result buffer.now }
-{
-    buffer.len()
-}
-
 // Whether the program was given an argument of this number.
 fn is_given(env: &impl Env, argument: usize) -> bool {
-    let mut nothing = [0u8; 0];
-    !matches!(env.arg(argument, &mut nothing), Err(FillError::NotPresent))
+    !matches!(env.arg(argument, &mut []), Err(FillError::NotPresent))
 }
 
 // Whether the program was given so many words, its own name counted.
@@ -51,28 +44,36 @@ fn is_given_words(env: &impl Env, words: usize) -> bool {
 
 // The open file that an argument names.
 fn open_named<R: Files + Env>(rt: &R, argument: usize) -> Option<R::File> {
-    let mut path = [0u8; PATH_LIMIT];
+    let mut path = [0; PATH_LIMIT];
     let length = rt.arg(argument, &mut path).ok()?;
     let name = str::from_utf8(&path[..length]).ok()?;
     File::open(rt, name).ok()
 }
 
-// Reads the file that an argument names to the front of a buffer, and returns its length. The program takes so many
-// words, its own name counted; where it was given more or fewer, no file is read. The buffer has a byte more than the
-// file may have; a file that can't be read counts as one that fills it.
-pub fn read_named<R: Files + Env>(rt: &R, argument: usize, words: usize, buffer: &mut [u8]) -> usize
-    ensures { IsPrefixLen result buffer.new }
+// How many bytes the file that an argument names has, which it reads to the front of a buffer; nothing where the file
+// can't be read, or is longer.
+fn read_whole<R: Files + Env>(rt: &R, argument: usize, buffer: &mut [u8]) -> Option<usize>
+    ensures { IfSome result (λ size. IsPrefixLen size buffer.new) }
+{
+    let mut file = open_named(rt, argument)?;
+    let size = read_full(&mut file, buffer);
+    is_ended(&mut file).then_some(size)
+}
+
+// The file that an argument names, read to the front of a buffer. The program takes so many words, its own name
+// counted; where it was given more or fewer, no file is read. The buffer has a byte more than the file may have; a file
+// that can't be read counts as one that fills it.
+pub fn read_named<'a, R: Files + Env>(
+    rt: &R,
+    argument: usize,
+    words: usize,
+    buffer: &'a mut [u8],
+) -> &'a [u8]
+    ensures { length result.now ≤ length buffer.old }
 {
     if !is_given_words(rt, words) {
-        return whole(buffer);
+        return buffer;
     }
-    let Some(mut file) = open_named(rt, argument) else {
-        return whole(buffer);
-    };
-    let size = read_full(&mut file, buffer);
-    if is_ended(&mut file) {
-        size
-    } else {
-        whole(buffer)
-    }
+    let size = read_whole(rt, argument, buffer).unwrap_or(buffer.len());
+    &buffer[..size]
 }

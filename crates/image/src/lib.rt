@@ -98,27 +98,17 @@ fn reset_fits(marks: &[u8], base: u32, reset: u32) -> bool
 pub fn bad_mark(marks: &[u8]) -> usize
     ensures { result ≡ bad_mark marks.now }
 {
-    let mut i = 0;
-    while i < marks.len() {
-        if !is_formed(byte_at(marks, i)) {
-            return i;
-        }
-        i += 1;
-    }
-    i
+    marks
+        .iter()
+        .position(|mark| !is_formed(*mark))
+        .unwrap_or(marks.len())
 }
 
-// Every mark has the form. The loop goes through all of them, without a branch that hangs on a mark.
+// Every mark has the form. The fold goes through all of them, without a branch that hangs on a mark.
 fn all_formed(marks: &[u8]) -> bool
     ensures { result ≡ all_formed marks.now }
 {
-    let mut bad = 0;
-    let mut i = 0;
-    while i < marks.len() {
-        bad = bad | malformed(marks[i]);
-        i += 1;
-    }
-    bad == 0
+    marks.iter().fold(0, |bad, mark| bad | malformed(*mark)) == 0
 }
 
 // 1, 2: what every call tests of an image of so many bytes at a base, with so many marks.

@@ -1,4 +1,4 @@
-// The interface for loaders written in C (include/m7700.h): numbers and slices, each slice as a pointer and a length.
+// The functions of the C interface (include/m7700.h), over numbers and slices. The crate loader_c gives them to C.
 #![tactic(auto)]
 
 ghost use Rattle.std.specs.Prelude.{◌≡◌, ◌≤◌, length};
@@ -19,21 +19,20 @@ use explainer::explain;
 use locator::locate;
 use marklist::reader::read_list;
 use marklist::writer::write_list;
-use packing::{pack_built, pack_located, pack_printed, pack_read, pack_run, pack_written, pass_on};
+use packing::{pack_built, pack_count, pack_read, pack_run, pack_written, pass_on};
 use printer::print_accepted;
 use runs::bytes::run;
 
 // The check: 0 where the image is accepted, else the number of the first broken rule and its offset.
-#[unsafe(no_mangle)]
-pub extern "C" fn m7700_check(image: &[u8], marks: &[u8], base: u32, reset: u32) -> u32
+pub fn m7700_check(image: &[u8], marks: &[u8], base: u32, reset: u32) -> u32
     ensures { result ≡ packed_verdict (verdict image.now marks.now base reset) }
 {
     packed_verdict(image, marks, base, reset)
 }
 
 // The reader of mark lists: 0 in the low byte and the list's base and reset above it, or the number that refuses it.
-#[unsafe(no_mangle)]
-pub extern "C" fn m7700_read_list(text: &[u8], marks: &mut [u8]) -> u64
+#[tactic(auto, using(crate::proofs::Answers::read_fits))]
+pub fn m7700_read_list(text: &[u8], marks: &mut [u8]) -> u64
     ensures answer { result ≡ packed_read (read_list text.now marks.old) }
     ensures marks { marks.new ≡ marks_read text.now marks.old }
 {
@@ -41,8 +40,8 @@ pub extern "C" fn m7700_read_list(text: &[u8], marks: &mut [u8]) -> u64
 }
 
 // The writer of mark lists: 0 in the low byte and the list's length above it, or the number that refuses it.
-#[unsafe(no_mangle)]
-pub extern "C" fn m7700_write_list(marks: &[u8], base: u32, reset: u32, page: &mut [u8]) -> u64
+#[tactic(auto, using(crate::proofs::Answers::written_fits))]
+pub fn m7700_write_list(marks: &[u8], base: u32, reset: u32, page: &mut [u8]) -> u64
     ensures answer { result ≡ packed_written (write_list marks.now base reset page.old) }
     ensures page { page.new ≡ page_written marks.now base reset page.old }
 {
@@ -50,8 +49,7 @@ pub extern "C" fn m7700_write_list(marks: &[u8], base: u32, reset: u32, page: &m
 }
 
 // The builder of marks: 0 where they were built, or the number that refuses the routine list.
-#[unsafe(no_mangle)]
-pub extern "C" fn m7700_build_marks(
+pub fn m7700_build_marks(
     image: &[u8],
     base: u32,
     reset: u32,
@@ -66,14 +64,7 @@ pub extern "C" fn m7700_build_marks(
 
 // The printed page: 0 in the low byte and the length of the rows above it; or the number that refuses it, with the
 // check's offset above it.
-#[unsafe(no_mangle)]
-pub extern "C" fn m7700_print(
-    image: &[u8],
-    marks: &[u8],
-    base: u32,
-    reset: u32,
-    page: &mut [u8],
-) -> u64
+pub fn m7700_print(image: &[u8], marks: &[u8], base: u32, reset: u32, page: &mut [u8]) -> u64
     ensures answer { result ≡ packed_printed (printed image.now marks.now base reset page.old) }
     ensures page { page.new ≡ page_printed image.now marks.now base reset page.old }
 {
@@ -81,30 +72,23 @@ pub extern "C" fn m7700_print(
     if refusal != 0 {
         return pass_on(refusal);
     }
-    pack_printed(print_accepted(image, marks, base, page))
+    pack_count(print_accepted(image, marks, base, page))
 }
 
 // The line that says what the check's refusal is about: 0 in the low byte and its length above it; or 15 for want of
 // room.
-#[unsafe(no_mangle)]
-pub extern "C" fn m7700_explain(
-    image: &[u8],
-    marks: &[u8],
-    base: u32,
-    reset: u32,
-    page: &mut [u8],
-) -> u64
+#[tactic(auto, using(explainer::proofs::Answers::explained_fits))]
+pub fn m7700_explain(image: &[u8], marks: &[u8], base: u32, reset: u32, page: &mut [u8]) -> u64
     ensures answer { result ≡ packed_printed (explained image.now marks.now base reset page.old) }
     ensures page { page.new ≡ page_explained image.now marks.now base reset page.old }
     ensures short { length (explanation image.now marks.now base reset) ≤ line_limit }
 {
-    pack_printed(explain(image, marks, base, reset, page))
+    pack_count(explain(image, marks, base, reset, page))
 }
 
 // Where addresses lie: 0 in the low byte and the number of marks read above it; or the number that refuses them, with
 // the check's offset above it.
-#[unsafe(no_mangle)]
-pub extern "C" fn m7700_locate(
+pub fn m7700_locate(
     image: &[u8],
     marks: &[u8],
     base: u32,
@@ -121,18 +105,12 @@ pub extern "C" fn m7700_locate(
     if refusal != 0 {
         return pass_on(refusal);
     }
-    pack_located(locate(image, marks, base, addresses, places))
+    pack_count(locate(image, marks, base, addresses, places))
 }
 
 // A run of the machine: 0 in the low byte and the end, the steps and the calls above it, or the number that refuses it.
-#[unsafe(no_mangle)]
-pub extern "C" fn m7700_run(
-    image: &[u8],
-    base: u32,
-    state: &mut [u8],
-    ram: &mut [u8],
-    steps: u32,
-) -> u64
+#[tactic(auto, using(crate::proofs::Counts::run_fits))]
+pub fn m7700_run(image: &[u8], base: u32, state: &mut [u8], ram: &mut [u8], steps: u32) -> u64
     ensures answer { result
         ≡ packed_run
         (ran_bytes (memory ram.old image.now base) state.old steps).answer }
@@ -145,8 +123,8 @@ pub extern "C" fn m7700_run(
 }
 
 // A step of the machine: a run of one.
-#[unsafe(no_mangle)]
-pub extern "C" fn m7700_step(image: &[u8], base: u32, state: &mut [u8], ram: &mut [u8]) -> u64
+#[tactic(auto, using(crate::proofs::Counts::run_fits))]
+pub fn m7700_step(image: &[u8], base: u32, state: &mut [u8], ram: &mut [u8]) -> u64
     ensures answer { result ≡ packed_run (ran_bytes (memory ram.old image.now base) state.old 1).answer }
     ensures state { state.new
         ≡ (ran_bytes (memory ram.old image.now base) state.old 1).state }

@@ -17,7 +17,7 @@ use Rattle.types.specs.Status.{mask_m, mask_x, is_set, status_of}
 use Rattle.prelude.specs.Choice.{bit}
 use Rattle.semantics.specs.Step.{widths_after}
 use Rattle.prelude.proofs.Choice.{one_of}
-use Rattle.machine.specs.declared.fetch.Fetched.{Fetched}
+use Rattle.machine.specs.declared.fetched.Fetched.{Fetched}
 use Rattle.machine.specs.Fetches.{instruction}
 
 pub m_at_most : (effect : WidthEffect) (m operand : ℕ) → m ≤ 1 → m_after effect m operand ≤ 1

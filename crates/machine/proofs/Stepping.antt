@@ -10,7 +10,6 @@ use Prim.Native.Nat.{ℕ, ◌-◌, ◌%◌, ◌<◌}
 use lib.ListN.{get_or}
 use Rattle.cpu.specs.File.{registers_of}
 use Rattle.types.specs.declared.code.Kind.{Kind}
-use Rattle.types.specs.Answers.{Decoded, StepAnswer}
 use Rattle.types.specs.declared.code.Flow.{Flow}
 use Rattle.types.specs.declared.code.Instruction.{Instruction}
 use Rattle.types.specs.declared.machine.CallChange.{CallChange}
@@ -22,11 +21,9 @@ use Rattle.semantics.specs.Memory.{Memory}
 use Rattle.instructions.specs.Successors.{next_address, target_address}
 use Rattle.semantics.specs.Step.{Plan, Stepped, stops, changes, change, operates, calls, plan_by, fetched, on_decoded}
 use Rattle.semantics.specs.Step.{step, plan_by_within, step_within}
-use Rattle.machine.specs.declared.commit.StepResult.{StepResult}
-use Rattle.machine.specs.declared.fetch.Fetched.{Fetched}
-use Rattle.machine.specs.declared.fetch.Fetch.{Fetch}
-use Rattle.machine.specs.Fetches.{instruction, decoded_as, is_branch}
-use Rattle.machine.specs.StepResults.{state, core_at, step_result, left, finished, goes_on_by}
+use Rattle.machine.specs.declared.fetched.Fetched.{Fetched}
+use Rattle.machine.specs.Fetches.{Fetch, instruction, decoded_as, is_branch}
+use Rattle.machine.specs.StepResults.{state, core_at, left, finished, goes_on_by}
 use Rattle.machine.proofs.Finishing.{place_kept, core_kept}
 
 module _ (i : Fetched) (m : Memory) (place depth : ℕ) (file opens : List ℕ) (inside : place < address_limit) where
@@ -97,11 +94,10 @@ module _ (i : Fetched) (m : Memory) (place depth : ℕ) (file opens : List ℕ) 
         → after ≡ on_decoded (Ok there) m (state c opens)
     by_return kind last e e' e'' = by_plan (plan_by c there m last (Flow.Return kind)) e'' (rw (e, e') refl)
 
-    pub by_halt : (t : StepResult) → flow ≡ Flow.Halt → t ≡ step_result (Err Stop.Halt) place depth
-        → after ≡ left t file opens m.ram
+    pub by_halt : flow ≡ Flow.Halt → after ≡ left place depth (Err Stop.Halt) file opens m.ram
         → after ≡ on_decoded (Ok there) m (state c opens)
     unfolding plan_by_within
-    by_halt t e e' e'' = by_plan (stops Stop.Halt) (rw (e'', e') refl) (rw e halted)
+    by_halt e e' = by_plan (stops Stop.Halt) e' (rw e halted)
       where
         halted : stops Stop.Halt ≡ plan_by c there m opened Flow.Halt
         halted = refl
@@ -123,12 +119,12 @@ module _ (m : Memory) (place depth : ℕ) (file opens : List ℕ) (found : Fetch
         → after ≡ step m (state (core_at place depth file) opens)
     step_whole i e e' = by_fetch (rw e e')
 
-    pub step_uncarried : (t : StepResult) → found ≡ Err Undecoded.NotCarried
-        → t ≡ step_result (Err Stop.Uncarried) place depth
-        → after ≡ left t file opens m.ram → after ≡ step m (state (core_at place depth file) opens)
-    step_uncarried t e e' e'' = by_fetch (rw (e, e'', e', core_kept place depth file) refl)
+    pub step_uncarried : found ≡ Err Undecoded.NotCarried
+        → after ≡ left place depth (Err Stop.Uncarried) file opens m.ram
+        → after ≡ step m (state (core_at place depth file) opens)
+    step_uncarried e e' = by_fetch (rw (e, e', core_kept place depth file) refl)
 
-    pub step_outside : (t : StepResult) → found ≡ Err Undecoded.CutOff
-        → t ≡ step_result (Err Stop.Outside) place depth
-        → after ≡ left t file opens m.ram → after ≡ step m (state (core_at place depth file) opens)
-    step_outside t e e' e'' = by_fetch (rw (e, e'', e', core_kept place depth file) refl)
+    pub step_outside : found ≡ Err Undecoded.CutOff
+        → after ≡ left place depth (Err Stop.Outside) file opens m.ram
+        → after ≡ step m (state (core_at place depth file) opens)
+    step_outside e e' = by_fetch (rw (e, e', core_kept place depth file) refl)

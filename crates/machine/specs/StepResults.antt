@@ -1,16 +1,16 @@
 -- A step's end as the code has it, beside what is lent to it, as the definition's.
 -- Assumes nothing.
-use Rattle.std.specs.Prelude.{ℕ, ◌/◌, ◌%◌, Bool, List, Some, None, Option}
+use Rattle.std.specs.Prelude.{ℕ, ◌/◌, ◌%◌, Bool, List, Result, Ok, Err}
 use Rattle.cpu.specs.File.{registers_of}
-use Rattle.machine.specs.declared.commit.StepResult.{StepResult}
-use Rattle.machine.specs.declared.fetch.Fetched.{Fetched}
+use Rattle.machine.specs.declared.commit.Completed.{Completed}
+use Rattle.machine.specs.declared.fetched.Fetched.{Fetched}
 use Rattle.machine.specs.Fetches.{instruction}
-use Rattle.types.specs.Answers.{StepAnswer}
 use Rattle.types.specs.declared.machine.Core.{Core}
 use Rattle.types.specs.declared.machine.State.{State}
+use Rattle.types.specs.declared.machine.Stop.{Stop}
 use Rattle.prelude.specs.Choice.{pick}
 use Rattle.types.specs.Addresses.{bank_size}
-use Rattle.instructions.specs.Successors.{next_address, in_bank_after, target_address}
+use Rattle.instructions.specs.Successors.{next_address, target_address}
 use Rattle.semantics.specs.Memory.{Memory}
 use Rattle.semantics.specs.Step.{Plan, Stepped, stepped, finish}
 
@@ -26,11 +26,14 @@ core_at place depth file = record {
   depth = depth;
 }
 
-abbrev pub step_result : StepAnswer → ℕ → ℕ → StepResult
-step_result answer place depth = record { answer = answer; place = place; depth = depth }
+abbrev pub StepResult : Type 0
+StepResult = Result Completed Stop
 
-abbrev pub left : StepResult → List ℕ → List ℕ → List ℕ → Stepped
-left t file calls ram = stepped t.answer (state (core_at t.place t.depth file) calls) ram
+-- what a step leaves; one that stops leaves the place of execution and the open calls as they were
+abbrev pub left : ℕ → ℕ → StepResult → List ℕ → List ℕ → List ℕ → Stepped
+left place depth (Ok c) file calls ram =
+    stepped (Ok c.completion) (state (core_at c.place c.depth file) calls) ram
+left place depth (Err stop) file calls ram = stepped (Err stop) (state (core_at place depth file) calls) ram
 
 -- what a plan for an instruction comes to
 abbrev pub finished : Plan → Fetched → Memory → ℕ → ℕ → List ℕ → List ℕ → Stepped
@@ -41,8 +44,3 @@ abbrev pub goes_on_by : Bool → Fetched → ℕ → Bool → ℕ
 goes_on_by branches i place taken =
     pick branches (pick taken (target_address (instruction i) place) (next_address place i.length))
     (next_address place i.length)
-
--- a word that was read, as an address of the bank of the address just after an instruction of n bytes
-abbrev pub in_next_bank : ℕ → ℕ → Option ℕ → Option ℕ
-in_next_bank place n (Some address) = Some (in_bank_after place n address)
-in_next_bank place n None = None

@@ -1,9 +1,8 @@
 // A step's end: registers, RAM and the place of execution as its effect has them, or all as before where it stops.
-ghost use Rattle.std.specs.Prelude.{◌≡◌, List, ℕ, eqb, length};
-ghost use Rattle.cpu.specs.File.{registers_of, file_size};
+ghost use Rattle.std.specs.Prelude.{◌≡◌, List, ℕ, eqb};
+ghost use Rattle.cpu.specs.File.{registers_of};
 ghost use Rattle.cpu.specs.CodeEffects.{as_effect, InFile};
 ghost use Rattle.memory.specs.Listed.{listed};
-ghost use Rattle.types.specs.declared.machine.StepAnswer.{StepAnswer};
 ghost use Rattle.types.specs.declared.machine.CallChange.{CallChange};
 ghost use Rattle.semantics.specs.Arithmetic.{with_widths};
 ghost use Rattle.semantics.specs.Memory.{memory};
@@ -12,34 +11,25 @@ ghost use Rattle.types.specs.Status.{mask_m, mask_x, is_set, status_of};
 ghost use Rattle.prelude.specs.Choice.{bit};
 ghost use Rattle.semantics.specs.Step as spec;
 ghost use Rattle.machine.specs.Fetches.{instruction};
-ghost use Rattle.machine.specs.StepResults.{step_result, left, finished};
+ghost use Rattle.machine.specs.StepResults.{left, finished};
 
-use crate::fetch::Fetched;
+use crate::fetched::Fetched;
 use cpu::effects::Effect;
 use cpu::file::{FILE_SIZE, PS};
 use cpu::flags::{bit_at, with_widths};
 use entries::{effect_of, keeps_widths};
 use memory::stores::{served_all, write};
 use successors::widths::{m_after, x_after};
-use types::machine::{Served, Status, StepAnswer, Stop};
+use types::addresses::Address;
+use types::machine::{Completion, Status, Stop};
 
-// How a step ended, the place of execution after it, and how many calls are open then.
+// A step that met no stop: whether it was a call, the place of execution after it, and how many calls are open then. A
+// step that stops leaves both as they were.
 #[derive(Clone, Copy)]
-pub struct StepResult {
-    pub answer: StepAnswer,
+pub struct Completed {
+    pub completion: Completion,
     pub place: u32,
     pub depth: usize,
-}
-
-// A step that stopped.
-pub(crate) fn stopped(stop: Stop, place: u32, depth: usize) -> StepResult
-    ensures { result ≡ step_result (StepAnswer.Stopped stop) place depth }
-{
-    StepResult {
-        answer: StepAnswer::Stopped(stop),
-        place,
-        depth,
-    }
 }
 
 // The status that an operation leaves, at the widths after its instruction.
@@ -60,17 +50,14 @@ fn settled(i: Fetched, before: u16, after: u16) -> u16
 
 // The registers after an instruction.
 pub(crate) fn put(registers: &mut [u16; FILE_SIZE], i: Fetched, effect: Effect)
-    requires { (length registers.old ≡ file_size) × InFile effect }
-    ensures { (registers_of registers.new
+    requires { InFile effect }
+    ensures { registers_of registers.new
         ≡ spec.widths_after (instruction i) (registers_of registers.old)
-        (as_effect effect (registers_of registers.old)).registers)
-        × (length registers.new ≡ file_size) }
+        (as_effect effect (registers_of registers.old)).registers }
 {
     let before = registers[PS];
-    let first = effect.first;
-    let second = effect.second;
-    registers[first] = effect.value;
-    registers[second] = effect.other;
+    registers[effect.first] = effect.value;
+    registers[effect.second] = effect.other;
     registers[PS] = settled(i, before, effect.status);
 }
 
@@ -80,31 +67,25 @@ pub(crate) fn finish(
     base: u32,
     i: Fetched,
     effect: Effect,
-    to: u32,
-    place: u32,
+    to: Address,
     depth: usize,
     registers: &mut [u16; FILE_SIZE],
     ram: &mut [u8],
-) -> StepResult
-    requires { (length registers.old ≡ file_size) × InFile effect }
-    ensures { ((calls : List ℕ) → left result registers.new calls ram.new
+) -> Result<Completed, Stop>
+    requires { InFile effect }
+    ensures { (calls : List ℕ) → left i.place depth result registers.new calls ram.new
         ≡ finished
         (spec.changes
         (spec.change (as_effect effect (registers_of registers.old)).registers to CallChange.Keep
         (listed effect.stores)))
-        i (memory ram.old image.now base) place depth registers.old calls)
-        × (length registers.new ≡ file_size) }
+        i (memory ram.old image.now base) i.place depth registers.old calls }
 {
-    let stores = effect.stores;
-    let served = served_all(ram, image, base, stores);
-    if let Served::Unserved(stop) = served {
-        return stopped(stop, place, depth);
-    }
-    write(ram, stores);
+    served_all(ram, image, base, effect.stores)?;
+    write(ram, effect.stores);
     put(registers, i, effect);
-    StepResult {
-        answer: StepAnswer::Completed,
-        place: to,
+    Ok(Completed {
+        completion: Completion::Ordinary,
+        place: to.number(),
         depth,
-    }
+    })
 }

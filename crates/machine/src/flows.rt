@@ -1,91 +1,81 @@
 // What a step does by its flow: operations, jumps and calls.
-ghost use Rattle.std.specs.Prelude.{◌≡◌, List, [], ℕ, ◌≤◌, ◌<◌, length};
-ghost use Rattle.cpu.specs.File.{registers_of, file_size};
+ghost use Rattle.std.specs.Prelude.{◌≡◌, List, [], ℕ, ◌≤◌, Ok};
+ghost use Rattle.cpu.specs.File.{registers_of};
 ghost use Rattle.memory.specs.Listed.{listed};
 ghost use Rattle.types.specs.declared.machine.CallChange.{CallChange};
-ghost use Rattle.types.specs.Addresses.{address_limit};
 ghost use Rattle.semantics.specs.Memory.{Memory, memory};
 ghost use Rattle.instructions.specs.Successors.{target_address, kind_number};
 ghost use Rattle.semantics.specs.Step as spec;
-ghost use Rattle.operations.specs.Table.{Tasked};
-ghost use Rattle.machine.specs.Fetches.{instruction, Bounded};
+ghost use Rattle.machine.specs.Fetches.{instruction};
 ghost use Rattle.machine.specs.StepResults.{core_at, left, finished, goes_on_by};
 
-use crate::commit::{StepResult, finish, put, stopped};
-use crate::fetch::Fetched;
+use crate::commit::{Completed, finish, put};
+use crate::fetched::Fetched;
 use actions::effect_by;
 use actions::tasks::operand_use_of;
 use addressing::access::is_short;
-use addressing::reach::{DataRead, data_of};
+use addressing::reach::data_of;
 use cpu::effects::{leaves, pushed_at, puts, store};
 use cpu::file::{FILE_SIZE, PS, S};
 use cpu::flags::is_set;
 use entries::{accumulator_of, mode_of, target_form_of, width_of};
 use memory::stores::{Stores, served_all, write};
-use operations::table::{TaskTable, task_at};
-use successors::{kind_number, next_address, target_of};
-use types::addresses::BANK_SIZE;
+use operations::table::task_at;
+use successors::{next_address, target_of};
+use types::addresses::{Address, BANK_SIZE};
 use types::code::Kind;
-use types::machine::{CALL_LIMIT, OperandUse, RECORD_UNIT, Served, Status, StepAnswer, Stop};
+use types::machine::{CALL_LIMIT, Completion, OperandUse, RECORD_UNIT, Status, Stop};
 
 // Where an instruction goes by its target.
-fn target(i: Fetched, place: u32) -> u32
-    requires { (place < address_limit) × Bounded i }
-    ensures { result ≡ target_address (instruction i) place }
+fn target(i: Fetched) -> Address
+    ensures { result ≡ target_address (instruction i) i.place }
 {
-    target_of(target_form_of(i.number), place, i.length, i.operand)
+    target_of(
+        target_form_of(i.number),
+        i.address(),
+        i.length,
+        i.operand,
+    )
 }
 
 // Where an operation goes on.
-fn goes(branches: bool, taken: bool, i: Fetched, place: u32) -> u32
-    requires { (place < address_limit) × Bounded i }
-    ensures { result ≡ goes_on_by branches i place taken }
+fn goes(branches: bool, taken: bool, i: Fetched) -> Address
+    ensures { result ≡ goes_on_by branches i i.place taken }
 {
-    if branches {
-        if taken {
-            return target(i, place);
-        }
+    if branches && taken {
+        target(i)
+    } else {
+        next_address(i.address(), i.length)
     }
-    next_address(place, i.length)
 }
 
 // ADC and SBC with D=1.
 fn is_decimal(access: OperandUse, registers: &[u16; FILE_SIZE]) -> bool
     ensures { result ≡ spec.is_decimal access (registers_of registers.now) }
 {
-    match access {
-        OperandUse::Operand => false,
-        OperandUse::Addend => is_set(Status::D, registers[PS]),
-        OperandUse::Address => false,
-        OperandUse::Pull => false,
-        OperandUse::DirectWord => false,
-    }
+    matches!(access, OperandUse::Addend) && is_set(Status::D, registers[PS])
 }
 
 // An operation: decimal mode, then the reads, then the operation, then its stores.
 pub(crate) fn operates(
-    tasks: &TaskTable,
     image: &[u8],
     base: u32,
     branches: bool,
     i: Fetched,
-    place: u32,
     depth: usize,
     registers: &mut [u16; FILE_SIZE],
     ram: &mut [u8],
-) -> StepResult
-    requires { Tasked tasks.now × (place < address_limit) × Bounded i × (length registers.old ≡ file_size) }
-    ensures { ((calls : List ℕ) → left result registers.new calls ram.new
+) -> Result<Completed, Stop>
+    ensures { (calls : List ℕ) → left i.place depth result registers.new calls ram.new
         ≡ finished
-        (spec.operates (core_at place depth registers.old) (instruction i)
-        (memory ram.old image.now base) (goes_on_by branches i place))
-        i (memory ram.old image.now base) place depth registers.old calls)
-        × (length registers.new ≡ file_size) }
+        (spec.operates (core_at i.place depth registers.old) (instruction i)
+        (memory ram.old image.now base) (goes_on_by branches i i.place))
+        i (memory ram.old image.now base) i.place depth registers.old calls }
 {
-    let task = task_at(tasks, i.number);
+    let task = task_at(i.number);
     let access = operand_use_of(task);
     if is_decimal(access, registers) {
-        return stopped(Stop::Decimal, place, depth);
+        return Err(Stop::Decimal);
     }
     let status = registers[PS];
     let short = is_short(
@@ -95,38 +85,29 @@ pub(crate) fn operates(
     );
     let mode = mode_of(i.number);
     let named = accumulator_of(i.number);
-    let read = data_of(
+    let given = data_of(
         ram, image, base, access, mode, named, registers, short, i.operand,
-    );
-    let DataRead::Found(given) = read else {
-        return stopped(Stop::Unmapped, place, depth);
-    };
-    let next = next_address(place, i.length);
+    )
+    .ok_or(Stop::Unmapped)?;
+    let next = next_address(i.address(), i.length);
     let effect = effect_by(task, mode, short, i.operand, next, given, registers);
-    let to = goes(branches, effect.taken, i, place);
-    finish(image, base, i, effect, to, place, depth, registers, ram)
+    let to = goes(branches, effect.taken, i);
+    finish(image, base, i, effect, to, depth, registers, ram)
 }
 
 // A jump.
-pub(crate) fn jumps(
-    i: Fetched,
-    place: u32,
-    depth: usize,
-    registers: &mut [u16; FILE_SIZE],
-) -> StepResult
-    requires { (place < address_limit) × Bounded i × (length registers.old ≡ file_size) }
-    ensures { ((m : Memory) (calls : List ℕ) → left result registers.new calls m.ram
+pub(crate) fn jumps(i: Fetched, depth: usize, registers: &mut [u16; FILE_SIZE]) -> Completed
+    ensures { (m : Memory) (calls : List ℕ) → left i.place depth (Ok result) registers.new calls m.ram
         ≡ finished
         (spec.changes
-        (spec.change (registers_of registers.old) (target_address (instruction i) place) CallChange.Keep []))
-        i m place depth registers.old calls)
-        × (length registers.new ≡ file_size) }
+        (spec.change (registers_of registers.old) (target_address (instruction i) i.place) CallChange.Keep []))
+        i m i.place depth registers.old calls }
 {
     let status = registers[PS];
     put(registers, i, leaves(status));
-    StepResult {
-        answer: StepAnswer::Completed,
-        place: target(i, place),
+    Completed {
+        completion: Completion::Ordinary,
+        place: target(i).number(),
         depth,
     }
 }
@@ -142,12 +123,12 @@ pub(crate) fn return_bytes(kind: Kind) -> u16
 }
 
 // A return address onto the stack, the highest byte first.
-fn pushes_return(s: u16, next: u32, kind: Kind) -> Stores
+fn pushes_return(s: u16, next: Address, kind: Kind) -> Stores
     ensures { (place depth : ℕ) (file : List ℕ) (i : Fetched) → s ≡ (registers_of file).s
         → next ≡ spec.next (core_at place depth file) (instruction i)
         → listed result ≡ spec.pushes_return (core_at place depth file) (instruction i) kind }
 {
-    let address = next as u64;
+    let address = next.number() as u64;
     let first = s as u64;
     let second = pushed_at(s, 1) as u64;
     let third = pushed_at(s, 2) as u64;
@@ -162,10 +143,10 @@ fn pushes_return(s: u16, next: u32, kind: Kind) -> Stores
 }
 
 // The record of an open call.
-fn entry_of(address: u32, kind: Kind) -> u64
+fn entry_of(address: Address, kind: Kind) -> u64
     ensures { result ≡ spec.call_record address (kind_number kind) }
 {
-    address as u64 + RECORD_UNIT * kind_number(kind) as u64
+    address.number() as u64 + RECORD_UNIT * u8::from(kind) as u64
 }
 
 // A call, unless too many are open or its pushes are not served.
@@ -175,28 +156,23 @@ pub(crate) fn calls_to(
     base: u32,
     i: Fetched,
     kind: Kind,
-    place: u32,
     depth: usize,
     registers: &mut [u16; FILE_SIZE],
     calls: &mut [u64; CALL_LIMIT],
     ram: &mut [u8],
-) -> StepResult
-    requires { (place < address_limit) × Bounded i × (length registers.old ≡ file_size) × (depth ≤ spec.call_limit) }
-    ensures { (left result registers.new calls.new ram.new
-        ≡ finished (spec.calls (core_at place depth registers.old) (instruction i) kind) i
-        (memory ram.old image.now base) place depth registers.old calls.old)
-        × (length registers.new ≡ file_size) }
+) -> Result<Completed, Stop>
+    requires { depth ≤ spec.call_limit }
+    ensures { left i.place depth result registers.new calls.new ram.new
+        ≡ finished (spec.calls (core_at i.place depth registers.old) (instruction i) kind) i
+        (memory ram.old image.now base) i.place depth registers.old calls.old }
 {
     if CALL_LIMIT <= depth {
-        return stopped(Stop::Deep, place, depth);
+        return Err(Stop::Deep);
     }
-    let next = next_address(place, i.length);
+    let next = next_address(i.address(), i.length);
     let s = registers[S];
     let stores = pushes_return(s, next, kind);
-    let served = served_all(ram, image, base, stores);
-    if let Served::Unserved(stop) = served {
-        return stopped(stop, place, depth);
-    }
+    served_all(ram, image, base, stores)?;
     write(ram, stores);
     calls[depth] = entry_of(next, kind);
     let status = registers[PS];
@@ -205,9 +181,9 @@ pub(crate) fn calls_to(
         i,
         puts(S, pushed_at(s, return_bytes(kind)), status),
     );
-    StepResult {
-        answer: StepAnswer::Called,
-        place: target(i, place),
+    Ok(Completed {
+        completion: Completion::Call,
+        place: target(i).number(),
         depth: depth + 1,
-    }
+    })
 }

@@ -3,6 +3,7 @@
 
 pub mod commit;
 mod fetch;
+mod fetched;
 mod flows;
 mod returning;
 pub mod step;

@@ -1,58 +1,42 @@
 // What a return does: the pulls, then whether it goes astray.
-ghost use Rattle.std.specs.Prelude.{◌≡◌, List, ℕ, ◌<◌, length};
-ghost use Rattle.cpu.specs.File.{registers_of, file_size};
-ghost use Rattle.memory.specs.Reads.{long_read};
+ghost use Rattle.std.specs.Prelude.{◌≡◌, List, ℕ, ◌<◌};
+ghost use Rattle.cpu.specs.File.{registers_of};
+ghost use Rattle.memory.specs.Reads.{read_of};
 ghost use Rattle.types.specs.declared.code.Flow.{Flow};
-ghost use Rattle.types.specs.Addresses.{address_limit};
 ghost use Rattle.semantics.specs.Memory.{Memory, memory, evaluate};
 ghost use Rattle.semantics.specs.Step as spec;
 ghost use Rattle.machine.specs.Fetches.{instruction};
-ghost use Rattle.machine.specs.StepResults.{core_at, left, finished, in_next_bank};
+ghost use Rattle.machine.specs.StepResults.{core_at, left, finished};
 
-use crate::commit::{StepResult, put, stopped};
-use crate::fetch::Fetched;
+use crate::commit::{Completed, put};
+use crate::fetched::Fetched;
 use crate::flows::return_bytes;
 use cpu::effects::{pulled_at, puts};
 use cpu::file::{FILE_SIZE, PS, S};
-use memory::reads::{LongRead, WordRead, long_from, word_from};
-use successors::{in_bank_after, kind_number};
+use memory::reads::{long_from, word_from};
+use successors::in_bank_after;
+use types::addresses::Address;
 use types::code::Kind;
-use types::machine::{RECORD_UNIT, StepAnswer, Stop};
+use types::machine::{Completion, RECORD_UNIT, Stop};
 
-// A word as an address of the bank of the address just after an instruction of n bytes.
-fn in_next_bank(place: u32, n: u8, read: WordRead) -> LongRead
-    requires { place < address_limit }
-    ensures { result ≡ in_next_bank place n read }
-{
-    match read {
-        WordRead::Word(address) => LongRead::Long(in_bank_after(place, n, address as u32)),
-        WordRead::Unmapped => LongRead::Unmapped,
-    }
-}
-
-// The return address that an instruction of n bytes pulls.
-fn pulls_return(
-    ram: &[u8],
-    image: &[u8],
-    base: u32,
-    s: u16,
-    place: u32,
-    n: u8,
-    kind: Kind,
-) -> LongRead
-    requires { place < address_limit }
-    ensures { (depth : ℕ) (file : List ℕ) (i : Fetched) → s ≡ (registers_of file).s → n ≡ i.length
-        → result
-        ≡ long_read
+// The return address that an instruction pulls.
+fn pulls_return(ram: &[u8], image: &[u8], base: u32, i: Fetched, s: u16, kind: Kind) -> Option<Address>
+    ensures { (depth : ℕ) (file : List ℕ) → s ≡ (registers_of file).s → result
+        ≡ read_of
         (evaluate (memory ram.now image.now base)
-        (spec.pulls_return (core_at place depth file) (instruction i) kind)) }
+        (spec.pulls_return (core_at i.place depth file) (instruction i) kind)) }
 {
     let first = pulled_at(s, 1) as u64;
     let second = pulled_at(s, 2) as u64;
     let third = pulled_at(s, 3) as u64;
     match kind {
-        Kind::ByRts => in_next_bank(place, n, word_from(ram, image, base, first, second)),
-        Kind::ByRtl => long_from(ram, image, base, first, second, third),
+        Kind::ByRts => {
+            let address = word_from(ram, image, base, first, second)?;
+            Some(in_bank_after(i.address(), i.length, address))
+        }
+        Kind::ByRtl => Some(Address::new(long_from(
+            ram, image, base, first, second, third,
+        )?)),
     }
 }
 
@@ -62,35 +46,32 @@ fn returns_to(
     i: Fetched,
     opened: u64,
     kind: Kind,
-    address: u32,
-    place: u32,
+    address: Address,
     depth: usize,
     registers: &mut [u16; FILE_SIZE],
-) -> StepResult
-    requires { length registers.old ≡ file_size }
-    ensures { ((m : Memory) (calls : List ℕ) → left result registers.new calls m.ram
+) -> Result<Completed, Stop>
+    ensures { (m : Memory) (calls : List ℕ) → left i.place depth result registers.new calls m.ram
         ≡ finished
-        (spec.returns_to (core_at place depth registers.old) (instruction i) opened kind address)
-        i m place depth registers.old calls)
-        × (length registers.new ≡ file_size) }
+        (spec.returns_to (core_at i.place depth registers.old) (instruction i) opened kind address)
+        i m i.place depth registers.old calls }
 {
     if depth == 0 {
-        return stopped(Stop::Astray, place, depth);
+        return Err(Stop::Astray);
     }
-    if opened / RECORD_UNIT % 256 != kind_number(kind) as u64 {
-        return stopped(Stop::Astray, place, depth);
+    if opened / RECORD_UNIT % 256 != u8::from(kind) as u64 {
+        return Err(Stop::Astray);
     }
-    if opened % RECORD_UNIT != address as u64 {
-        return stopped(Stop::Astray, place, depth);
+    if opened % RECORD_UNIT != address.number() as u64 {
+        return Err(Stop::Astray);
     }
     let s = pulled_at(registers[S], return_bytes(kind));
     let status = registers[PS];
     put(registers, i, puts(S, s, status));
-    StepResult {
-        answer: StepAnswer::Completed,
-        place: address,
+    Ok(Completed {
+        completion: Completion::Ordinary,
+        place: address.number(),
         depth: depth - 1,
-    }
+    })
 }
 
 // A return.
@@ -100,22 +81,23 @@ pub(crate) fn returns(
     i: Fetched,
     opened: u64,
     kind: Kind,
-    place: u32,
     depth: usize,
     registers: &mut [u16; FILE_SIZE],
     ram: &[u8],
-) -> StepResult
-    requires { (place < address_limit) × (length registers.old ≡ file_size) }
-    ensures { ((calls : List ℕ) → left result registers.new calls ram.now
+) -> Result<Completed, Stop>
+    ensures { (calls : List ℕ) → left i.place depth result registers.new calls ram.now
         ≡ finished
-        (spec.plan_by (core_at place depth registers.old) (instruction i)
+        (spec.plan_by (core_at i.place depth registers.old) (instruction i)
         (memory ram.now image.now base) opened (Flow.Return kind))
-        i (memory ram.now image.now base) place depth registers.old calls)
-        × (length registers.new ≡ file_size) }
+        i (memory ram.now image.now base) i.place depth registers.old calls }
 {
-    let pulled = pulls_return(ram, image, base, registers[S], place, i.length, kind);
-    match pulled {
-        LongRead::Long(address) => returns_to(i, opened, kind, address, place, depth, registers),
-        LongRead::Unmapped => stopped(Stop::Unmapped, place, depth),
-    }
+    let pulled = pulls_return(ram, image, base, i, registers[S], kind);
+    returns_to(
+        i,
+        opened,
+        kind,
+        pulled.ok_or(Stop::Unmapped)?,
+        depth,
+        registers,
+    )
 }

@@ -3,15 +3,17 @@
 -- Assumes nothing.
 use mathlib.Core.Path.{◌≡◌, refl, sym, ap, ◌∙◌}
 use mathlib.Core.List.{List, [], ◌∷◌, ◌++◌, append-nil, append_assoc}
-use Prim.Native.Nat.{ℕ, zero, suc, ◌+◌, ◌-◌, ◌*◌, ◌≤◌, ◌<◌}
-use native.Mathlib.Nat.{add-zero, mul-suc}
+use Prim.Native.Nat.{ℕ, suc, ◌+◌, ◌-◌, ◌≤◌, ◌<◌}
+use native.Mathlib.Nat.{add-zero}
 use native.Mathlib.Numerals.{add-one}
 use native.Mathlib.Omega.{arith}
 use lib.ListN.{length, get_or, take, drop, set, length-append, length-drop, length-set, drop_of_length-le}
-use lib.Seq.{drop-cons, drop-drop, take_at, take-suc-set, take_all, append_snoc, drop-length}
+use lib.Seq.{drop-cons, drop-drop, take_at, take-suc-set, take_all, append_snoc}
 use borrow.Rule.Slice.PartMut.{put_mid}
+use Rattle.std.specs.List.{sum_by}
+use Rattle.std.proofs.lemmas.List.Sums.{sum_by-cons}
 use Rattle.lists.specs.MarkList.{line_of, lines, mark_shown, line_size, marks_shown, lines_left}
-use Rattle.lists.proofs.MarkList.{length_line_of, size_most, shown_line}
+use Rattle.lists.proofs.MarkList.{length_line_of, shown_line}
 use Rattle.text.proofs.Pages.{Front, front_next}
 
 module _ (digits : ℕ) where
@@ -112,40 +114,17 @@ module _ (digits : ℕ) where
 
   -- ---- the lines measured
 
-  abbrev pub Measured : List ℕ → ℕ → ℕ → Type 0
-  Measured marks size i =
-      (i ≤ length marks) × ((address : ℕ) → size ≡ length (lines digits address (drop i marks)))
-      × (size + (digits + 11) * i ≤ (digits + 11) * length marks)
-
-  pub none_measured : (marks : List ℕ) → Measured marks 0 (length marks)
+  pub lines_measured : (address : ℕ) (marks : List ℕ)
+      → length (lines digits address marks) ≡ sum_by (line_size digits) marks
   unfolding lines
-  none_measured marks = (omega arith, λ address. rw (drop-length marks), omega arith)
-
-  pub one_more_measured : (marks : List ℕ) (i size k : ℕ) → 0 < i → k ≡ line_size digits (get_or marks (i - 1) 0)
-      → Measured marks size i
-      → Measured marks (size + k) (i - 1)
-  unfolding lines
-  one_more_measured marks zero size k some e m = absurd (omega arith)
-  one_more_measured marks (suc j) size k some e m =
-      let before : suc j - 1 ≡ j = omega arith in
-      let here : k ≡ line_size digits (get_or marks j 0) = rw before at e in
-      let small = size_most digits (get_or marks j 0) in
-      let most = rw (mul-suc (digits + 11) j) at m.2 in
-      let mark = get_or marks j 0 in (
-        omega (arith, m.0),
-        λ address. rw (
-          before,
-          drop-cons marks j 0 m.0,
-          length-append (line_of digits address mark) (lines digits (address + 1) (drop (suc j)
-              marks)),
-        ) (omega (arith, length_line_of digits address mark, m.1 (address + 1), here)),
-        rw before (omega (arith, most, here, small)),
+  lines_measured address [] = refl
+  lines_measured address (mark ∷ marks) =
+      rw (
+        length-append (line_of digits address mark) (lines digits (address + 1) marks),
+        length_line_of digits address mark,
+        lines_measured (address + 1) marks,
+        sum_by-cons (line_size digits) mark marks,
       )
-
-  pub all_measured : (marks : List ℕ) (i size : ℕ) → i ≤ 0 → Measured marks size i → (address : ℕ)
-      → size ≡ length (lines digits address marks)
-  all_measured marks zero size none m address = m.1 address
-  all_measured marks (suc i) size none m address = absurd (omega arith)
 
   -- ---- the lines written
 

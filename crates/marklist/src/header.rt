@@ -56,14 +56,9 @@ pub(crate) fn put_header(page: &mut [u8], old: bool, h: Header)
 fn length_digits_shown(text: &[u8]) -> usize
     ensures { result ≡ spec.length_digits_shown text.now }
 {
-    let mut i = 0;
-    while i < LENGTH_DIGITS {
-        if byte_at(text, LENGTH_PLACE + i) == TAB {
-            return i;
-        }
-        i += 1;
-    }
-    i
+    (0..LENGTH_DIGITS)
+        .find(|i| byte_at(text, LENGTH_PLACE + *i) == TAB)
+        .unwrap_or(LENGTH_DIGITS)
 }
 
 // A list is old: its first line ends behind four digits of the reset.

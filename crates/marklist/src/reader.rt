@@ -20,10 +20,8 @@ fn lines_end(text: &[u8], at: usize, old: bool, address: u32, count: u32) -> usi
         ≡ spec.lines_left (spec.digits_by old) address count (drop at text.now)) }
 {
     let mut place = at;
-    let mut i = 0;
-    while i < count {
+    for i in 0..count {
         place += line_size(old, mark_shown(&text[place..], old, address + i));
-        i += 1;
     }
     place
 }
@@ -96,12 +94,9 @@ pub fn fill_marks(text: &[u8], at: usize, old: bool, address: u32, marks: &mut [
         ≡ spec.lines_left (spec.digits_by old) address (length marks.old) (drop at text.now)) }
 {
     let mut place = at;
-    let mut i = 0;
-    while i < marks.len() {
-        let mark = mark_shown(&text[place..], old, address + i as u32);
-        marks[i] = mark;
-        place += line_size(old, mark);
-        i += 1;
+    for (i, mark) in marks.iter_mut().enumerate() {
+        *mark = mark_shown(&text[place..], old, address + i as u32);
+        place += line_size(old, *mark);
     }
     place
 }

@@ -20,18 +20,18 @@ pub fn is_routine_list(text: &[u8]) -> bool
 {
     let old = has_old_lines(text);
     let count = digits_by(old);
-    let mut at = 0;
+    let mut rest = text;
     let mut next = 0;
-    while at < text.len() {
-        let address = number(&text[at..], 0, 16, count);
+    while !rest.is_empty() {
+        let address = number(rest, 0, 16, count);
         if address < next {
             return false;
         }
-        let size = line_size(old, mark_shown(&text[at..], old, address));
+        let size = line_size(old, mark_shown(rest, old, address));
         if size == 0 {
             return false;
         }
-        at += size;
+        rest = &rest[size..];
         next = address + 1;
     }
     true

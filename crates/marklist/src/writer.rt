@@ -13,13 +13,7 @@ fn lines_size(marks: &[u8]) -> usize
     requires { length marks.now ≤ 65_536 }
     ensures { (address : ℕ) → result ≡ length (spec.lines spec.new_digits address marks.now) }
 {
-    let mut size = 0;
-    let mut i = marks.len();
-    while 0 < i {
-        i -= 1;
-        size += line_size(false, marks[i]);
-    }
-    size
+    marks.iter().map(|mark| line_size(false, *mark)).sum()
 }
 
 // Writes the lines of marks at the front of a page, each into the rest of it.
@@ -31,10 +25,8 @@ fn put_lines(page: &mut [u8], address: u32, marks: &[u8])
         ++ drop (length (spec.lines spec.new_digits address marks.now)) page.old }
 {
     let mut at = 0;
-    let mut i = 0;
-    while i < marks.len() {
-        at += put_line(&mut page[at..], address + i as u32, marks[i]);
-        i += 1;
+    for (i, mark) in marks.iter().enumerate() {
+        at += put_line(&mut page[at..], address + i as u32, *mark);
     }
 }
 

@@ -102,11 +102,8 @@ const STACK: u32 = 3 * ACCESS;
 
 const DIRECT_WORD: u32 = 4 * ACCESS;
 
-// A number for each operation: its task where its entry names A or no accumulator, and what is added where it names B.
-pub type TaskTable = [u32; 128];
-
-// The tasks by operation.
-const TASKS: TaskTable = [
+// The tasks by operation: its task where its entry names A or no accumulator, and what is added where it names B.
+static TASKS: [u32; 128] = [
     LEAVE, // Unassigned
     ADD + TO_NAMED + ADDEND, // ADC
     AND + TO_NAMED, // AND
@@ -237,28 +234,29 @@ const TASKS: TaskTable = [
     LEAVE,
 ];
 
-// The tasks, made once by whoever lends them on: a constant array is copied at each use. By which numbers they are kept
-// is left open; each does what its operation does, and no more is asked of it.
-pub fn tasks() -> TaskTable
-    ensures { Tasked result }
+// By which numbers the tasks are kept is left open; each does what its operation does, and no more is asked of it.
+fn tasks() -> &'static [u32; 128]
+    ensures { Tasked result.now }
 {
-    TASKS
+    &TASKS
 }
 
 // The task of an operation's two that an entry has.
 fn named(both: u32, n: u32) -> u32
     ensures { result ≡ part (column_of n) both }
 {
+    let with_a = both % 65_536;
     if n / 4_096 % 4 == 2 {
-        return both % 65_536 + both / 65_536;
+        with_a + both / 65_536
+    } else {
+        with_a
     }
-    both % 65_536
 }
 
-// The task of an entry, its number left open likewise. Asks for the table that `tasks` makes, lent.
-pub fn task_at(tasks: &TaskTable, n: u32) -> u32
-    requires { Tasked tasks.now }
+// The task of an entry, its number left open likewise.
+#[tactic(auto, unfolding(crate::specs::Table::Tasked))]
+pub fn task_at(n: u32) -> u32
     ensures { Does (unpacked n).accumulator (unpacked n).operation result }
 {
-    named(tasks[(n % 128) as usize], n)
+    named(tasks()[(n % 128) as usize], n)
 }

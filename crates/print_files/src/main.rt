@@ -12,11 +12,11 @@ const WORDS: usize = 3;
 
 // Reads both files, an unread one as one that is too long, and prints what they lead to.
 fn main(rt: HostRuntime) -> io::Result<()> {
-    let mut image = [0u8; IMAGE_LIMIT + 1];
-    let mut list = [0u8; LIST_LIMIT + 1];
+    let mut image = [0; IMAGE_LIMIT + 1];
+    let mut list = [0; LIST_LIMIT + 1];
     let mut page = longest_page();
-    let image_size = read_named(&rt, 1, WORDS, &mut image);
-    let list_size = read_named(&rt, 2, WORDS, &mut list);
-    let size = put_printout(&image[..image_size], &list[..list_size], &mut page);
+    let image = read_named(&rt, 1, WORDS, &mut image);
+    let list = read_named(&rt, 2, WORDS, &mut list);
+    let size = put_printout(image, list, &mut page);
     rt.write_all(&page[..size])
 }

@@ -1,7 +1,7 @@
 -- The answer and the page by the verdict. The rows of an accepted image have 36 bytes a start, which is what the room
 -- is tested against.
 -- Assumes nothing.
-use Rattle.std.specs.Prelude.{Ok}
+use Rattle.std.specs.Prelude.{Ok, Err}
 use mathlib.Core.Path.{◌≡◌, refl}
 use mathlib.Core.List.{List, ◌++◌}
 use Prim.Native.Nat.{ℕ, ◌≤◌, ◌<◌}
@@ -10,6 +10,7 @@ use borrow.Author.Tests.{le-leb, lt-leb}
 use lib.ListN.{length, drop}
 use Rattle.types.specs.Answers.{Printed, refused_at, Verdict}
 use Rattle.types.specs.declared.refusals.Refusal.{Refusal}
+use Rattle.types.specs.declared.refusals.Refused.{Refused}
 use Rattle.acceptance.specs.Image.{start_count}
 use Rattle.acceptance.specs.Verdict.{verdict}
 use Rattle.reports.specs.PrintedPage.{page_text, printed_by, printed, page_after, page_printed}
@@ -52,8 +53,7 @@ module _ (image marks : List ℕ) (base reset : ℕ) (page : List ℕ) where
   unfolding printed page_printed
   judged_page v now a is-verdict answer left = (rw is-verdict answer, rw (is-verdict, ← answer) left)
 
-  pub refused_page : (why : Refusal) (offset : ℕ) → verdict image marks base reset ≡ refused_at why offset
-      → (refused_at why offset ≡ printed image marks base reset page)
-      × (page ≡ page_printed image marks base reset page)
+  pub refused_page : (r : Refused) → verdict image marks base reset ≡ Err r
+      → (Err r ≡ printed image marks base reset page) × (page ≡ page_printed image marks base reset page)
   unfolding printed_by page_after
-  refused_page why offset e = judged_page (refused_at why offset) page (refused_at why offset) e refl refl
+  refused_page r e = judged_page (Err r) page (Err r) e refl refl

@@ -151,10 +151,8 @@ module _ (image marks : List ℕ) (base at : ℕ) where
           → page ≡ row_at image marks base at ++ drop row_size given
       whole_put f e there size page given e-mark e-size got = rw (whole_row f e) (rw (e-mark, e-size) at got)
 
-      pub uncarried_row : layout-here ≡ Err Undecoded.NotCarried → row_at image marks base at ≡ []
+      -- where no instruction is read there is none
+      pub unread_row : (why : Undecoded) → layout-here ≡ Err why → row_at image marks base at ≡ []
       unfolding row_of
-      uncarried_row e = rw e at by_layout
-
-      pub short_row : layout-here ≡ Err Undecoded.CutOff → row_at image marks base at ≡ []
-      unfolding row_of
-      short_row e = rw e at by_layout
+      unread_row Undecoded.NotCarried e = rw e at by_layout
+      unread_row Undecoded.CutOff e = rw e at by_layout

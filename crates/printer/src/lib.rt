@@ -3,61 +3,66 @@
 
 mod rows;
 
-ghost use Rattle.std.specs.Prelude.{◌≡◌, length};
-ghost use Rattle.types.specs.declared.rules.Verdict.{Verdict};
+ghost use Rattle.std.specs.Prelude.{◌≡◌, Ok, length};
 ghost use Rattle.reports.specs.PrintedPage.{page_text, printed_by, printed, page_after, page_printed};
 ghost use Rattle.acceptance.specs.Verdict.{IsAccepted};
 ghost use Rattle.printer.specs.Printable.{Printable};
 
 use crate::rows::{ROW_SIZE, put_rows};
-use checker::count_starts;
-use types::pages::Printed;
-use types::refusals::Refusal;
-use types::rules::Verdict;
-use view::plain::judge;
+use types::refusals::{Refusal, Refused};
+use view::View;
 
 // Prints the rows of an accepted image with so many starts, where the page has room for them.
-fn print_rows(image: &[u8], marks: &[u8], base: u32, starts: usize, page: &mut [u8]) -> Printed
-    requires { Printable image.now marks.now base starts }
+fn print_rows(view: View, starts: usize, page: &mut [u8]) -> Result<usize, Refused>
+    requires { Printable view.image.now view.marks.now view.base starts }
     ensures answer { result
-        ≡ printed_by Verdict.Accepted (length (page_text image.now marks.now base))
+        ≡ printed_by (Ok tt) (length (page_text view.entry.image.now view.entry.marks.now view.entry.base))
         (length page.old) }
     ensures page { page.new
-        ≡ page_after result (page_text image.now marks.now base) page.old }
+        ≡ page_after result (page_text view.entry.image.now view.entry.marks.now view.entry.base) page.old }
 {
     let size = starts * ROW_SIZE;
     if page.len() < size {
-        return Printed::NotPrinted {
+        return Err(Refused {
             why: Refusal::Page,
             offset: 0,
-        };
+        });
     }
-    put_rows(page, image, marks, base);
-    Printed::Rows(size)
+    put_rows(page, view);
+    Ok(size)
 }
 
 // Prints the rows of an image at the front of a page. Asks that the check accepted it, for callers who have its answer.
-pub fn print_accepted(image: &[u8], marks: &[u8], base: u32, page: &mut [u8]) -> Printed
+pub fn print_accepted(
+    image: &[u8],
+    marks: &[u8],
+    base: u32,
+    page: &mut [u8],
+) -> Result<usize, Refused>
     requires { IsAccepted image.now marks.now base }
     ensures answer { result
-        ≡ printed_by Verdict.Accepted (length (page_text image.now marks.now base))
+        ≡ printed_by (Ok tt) (length (page_text image.now marks.now base))
         (length page.old) }
     ensures page { page.new
         ≡ page_after result (page_text image.now marks.now base) page.old }
 {
-    print_rows(image, marks, base, count_starts(marks), page)
+    let view = View { image, marks, base };
+    print_rows(view, view.count_starts(), page)
 }
 
 // Prints the rows of any image at the front of a page. It is judged, and the room tested, before the first byte is
 // written.
-pub fn print(image: &[u8], marks: &[u8], base: u32, reset: u32, page: &mut [u8]) -> Printed
+pub fn print(
+    image: &[u8],
+    marks: &[u8],
+    base: u32,
+    reset: u32,
+    page: &mut [u8],
+) -> Result<usize, Refused>
     ensures answer { result ≡ printed image.now marks.now base reset page.old }
     ensures page { page.new ≡ page_printed image.now marks.now base reset page.old }
 {
-    let judged = judge(image, marks, base, reset);
-    let verdict = judged.verdict;
-    if let Verdict::Refused { why, offset } = verdict {
-        return Printed::NotPrinted { why, offset };
-    }
-    print_rows(image, marks, base, judged.starts, page)
+    let view = View { image, marks, base };
+    view.check(reset)?;
+    print_rows(view, view.count_starts(), page)
 }

@@ -1,10 +1,8 @@
 // The rows of a page: address, bytes, word, widths and kind of each start, in their columns.
 ghost use Rattle.std.specs.Prelude.{◌≡◌, ◌++◌, ◌+◌, ◌≤◌, ◌<◌, length, drop};
-ghost use Rattle.codepages.specs.Packing.{packed_pages, unpacked};
+ghost use Rattle.codepages.specs.Packing.{unpacked};
 ghost use Rattle.reports.specs.PrintedPage as spec;
 
-use codepages::{CodePages, pages};
-use decoder::LayoutRead;
 use entries::operations::syntax_word;
 use fields::byte_at;
 use image::is_start;
@@ -12,7 +10,7 @@ use image::marks::{mark_kind, mark_m, mark_x};
 use marklist::lines::{LINE_END, kind_letter};
 use text::bytes::put_bytes;
 use text::digits::{digit, put_field};
-use view::plain::layout_at;
+use view::View;
 
 // The bytes of a row, its line end among them.
 pub(crate) const ROW_SIZE: usize = 36;
@@ -37,11 +35,10 @@ const BLANK: u8 = b' ';
 fn cell(bytes: &[u8], k: usize) -> [u8; 3]
     ensures { result ≡ spec.cell bytes.now k }
 {
-    if bytes.len() <= k {
-        return [BLANK, BLANK, BLANK];
+    match bytes.get(k) {
+        Some(byte) => [digit(*byte / 16), digit(*byte % 16), BLANK],
+        None => [BLANK; 3],
     }
-    let byte = bytes[k];
-    [digit(byte / 16), digit(byte % 16), BLANK]
 }
 
 // Writes the cells of an instruction's bytes at the front of a page.
@@ -49,10 +46,8 @@ fn put_cells(page: &mut [u8], bytes: &[u8])
     requires { 18 ≤ length page.old }
     ensures { page.new ≡ spec.cells bytes.now ++ drop 18 page.old }
 {
-    let mut k = 0;
-    while k < CELL_COUNT {
+    for k in 0..CELL_COUNT {
         put_bytes(&mut page[k * CELL_SIZE..], &cell(bytes, k));
-        k += 1;
     }
 }
 
@@ -79,49 +74,36 @@ fn put_row(page: &mut [u8], address: u32, bytes: &[u8], number: u32, mark: u8)
 }
 
 // Writes the row of a place, nothing where no instruction starts, and returns its length.
-fn put_row_at(
-    page: &mut [u8],
-    image: &[u8],
-    marks: &[u8],
-    base: u32,
-    codes: &CodePages,
-    at: usize,
-) -> usize
-    requires { (codes.now ≡ packed_pages) × (base + at < 4_294_967_296)
-        × (length (spec.row_at image.now marks.now base at) ≤ length page.old) }
-    ensures { (result ≡ length (spec.row_at image.now marks.now base at))
+fn put_row_at(page: &mut [u8], view: View, at: usize) -> usize
+    requires { (view.base + at < 4_294_967_296)
+        × (length (spec.row_at view.image.now view.marks.now view.base at) ≤ length page.old) }
+    ensures { (result ≡ length (spec.row_at view.entry.image.now view.entry.marks.now view.entry.base at))
         × (page.new
-        ≡ spec.row_at image.now marks.now base at ++ drop result page.old) }
+        ≡ spec.row_at view.entry.image.now view.entry.marks.now view.entry.base at ++ drop result page.old) }
 {
-    let mark = byte_at(marks, at);
+    let mark = byte_at(view.marks, at);
     if !is_start(mark) {
         return 0;
     }
-    match layout_at(image, marks, base, codes, at) {
-        LayoutRead::Fits(layout) => {
-            let end = at + layout.length as usize;
-            let address = base + at as u32;
-            put_row(page, address, &image[at..end], layout.number, mark);
-            ROW_SIZE
-        }
-        LayoutRead::Uncarried => 0,
-        LayoutRead::Short => 0,
-    }
+    let Ok(layout) = view.layout_at(at) else {
+        return 0;
+    };
+    let end = at + layout.length as usize;
+    let address = view.base + at as u32;
+    put_row(page, address, &view.image[at..end], layout.number, mark);
+    ROW_SIZE
 }
 
 // Writes the rows of an image at the front of a page, each into the rest of it.
-pub(crate) fn put_rows(page: &mut [u8], image: &[u8], marks: &[u8], base: u32)
-    requires { (length (spec.page_text image.now marks.now base) ≤ length page.old)
-        × (base + length marks.now < 4_294_967_296) }
+pub(crate) fn put_rows(page: &mut [u8], view: View)
+    requires { (length (spec.page_text view.image.now view.marks.now view.base) ≤ length page.old)
+        × (view.base + length view.marks.now < 4_294_967_296) }
     ensures { page.new
-        ≡ spec.page_text image.now marks.now base
-        ++ drop (length (spec.page_text image.now marks.now base)) page.old }
+        ≡ spec.page_text view.entry.image.now view.entry.marks.now view.entry.base
+        ++ drop (length (spec.page_text view.entry.image.now view.entry.marks.now view.entry.base)) page.old }
 {
-    let codes = pages();
-    let mut at = 0;
-    let mut i = 0;
-    while i < marks.len() {
-        at += put_row_at(&mut page[at..], image, marks, base, &codes, i);
-        i += 1;
+    let mut written = 0;
+    for at in 0..view.marks.len() {
+        written += put_row_at(&mut page[written..], view, at);
     }
 }

@@ -4,6 +4,7 @@
 -- Assumes nothing.
 use Rattle.std.specs.Prelude.{Ok, Err}
 use mathlib.Core.Path.{◌≡◌, refl, sym, ap, ◌∙◌}
+use mathlib.Core.Bool.{true, false}
 use mathlib.Core.List.{List}
 use Prim.Native.Nat.{ℕ, ◌+◌, ◌≤◌}
 use native.Mathlib.Omega.{arith}
@@ -11,7 +12,6 @@ use lib.ListN.{length}
 use Rattle.types.specs.declared.lists.Header.{Header}
 use Rattle.types.specs.Answers.{ListRead, refused_at, Printed, Verdict}
 use Rattle.types.specs.declared.refusals.Refusal.{Refusal}
-use Rattle.types.specs.Addresses.{image_limit}
 use Rattle.acceptance.specs.Verdict.{verdict}
 use Rattle.lists.specs.MarkList.{is_old, address_digits, header_shown, marks_of}
 use Rattle.lists.specs.MarkList.{read_as, read_list, marks_read, marks_by}
@@ -19,10 +19,9 @@ use Rattle.reports.specs.PrintedPage.{printed, page_after, page_printed}
 use Rattle.lists.proofs.ListAnswers.{read_passes}
 use Rattle.lists.proofs.RoundTrips.{starts_in_text}
 use Rattle.reports.proofs.PrintedAnswers.{printed_whole, rows_printed, page_rows}
-use Rattle.answer.specs.declared.answers.FileAnswer.{FileAnswer}
-use Rattle.answer.specs.AnswerLine.{list_limit, answer_by, verdict_answer, answer_of}
+use Rattle.answer.specs.AnswerLine.{list_limit, are_within_limits, answer_by, verdict_answer, answer_of}
 use Rattle.answer.specs.AnswerLine.{list_answer, answer_for, answer_line}
-use Rattle.answer.proofs.AnswerLaws.{both_short}
+use Rattle.answer.proofs.AnswerLaws.{over_limits, within_limits}
 use Rattle.printout.specs.Printout.{files_page, printout_by, printout, page_limit, printed_as, files_printed}
 
 -- which tells answers apart
@@ -95,12 +94,12 @@ module _ (image text : List ℕ) where
               absurd (omega (arith, ap rows (sym told ∙ whole)))
 
   -- a file over its limit
-  pub over_limit : FileAnswer.Unread ≡ answer_for image text → printout image text ≡ answer_line image text
+  pub over_printed : are_within_limits image text ≡ false → printout image text ≡ answer_line image text
   unfolding printout printout_by
-  over_limit e = rw (← e)
+  over_printed over = rw (← over_limits image text over)
 
   -- both within their limits
-  pub within_limits : length text ≤ list_limit → length image ≤ image_limit
+  pub within_printed : are_within_limits image text ≡ true
       → printout image text ≡ printout_by (list_answer image text) image text
   unfolding printout
-  within_limits short few = rw (← both_short image text short (list_answer image text) refl few)
+  within_printed within = rw (← within_limits image text within)

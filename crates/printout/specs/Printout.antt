@@ -4,8 +4,7 @@ use Rattle.std.specs.Prelude.{ℕ, ◌*◌, ◌/◌, List, length, Ok, Err}
 use Rattle.types.specs.Answers.{ListRead, refused_at, Printed}
 use Rattle.lists.specs.MarkList.{is_old, address_digits, header_shown, marks_of, read_as}
 use Rattle.reports.specs.PrintedPage.{row_size, page_text, printed}
-use Rattle.answer.specs.declared.answers.FileAnswer.{FileAnswer}
-use Rattle.answer.specs.AnswerLine.{list_limit, answer_for, answer_line}
+use Rattle.answer.specs.AnswerLine.{FileAnswer, list_limit, answer_for, answer_line}
 
 -- the page of an image by the marks and the base that a list shows
 unfoldable pub files_page : List ℕ → List ℕ → List ℕ
@@ -14,9 +13,8 @@ files_page image text =
 
 -- 'From accepted image and marks, print ..'; for others the line of the program check
 unfoldable pub printout_by : FileAnswer → List ℕ → List ℕ → List ℕ
-printout_by (FileAnswer.Accepted count) image text = files_page image text
-printout_by (Err r) image text = answer_line image text
-printout_by FileAnswer.Unread image text = answer_line image text
+printout_by (Ok count) image text = files_page image text
+printout_by (Err why) image text = answer_line image text
 
 -- what is written for the bytes of an image file and of a list file
 unfoldable pub printout : List ℕ → List ℕ → List ℕ

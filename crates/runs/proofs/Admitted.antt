@@ -10,7 +10,7 @@ use lib.ListN.{length}
 use borrow.Author.Tests.{leb-true, eqb-true}
 use Rattle.types.specs.declared.machine.Core.{Core}
 use Rattle.types.specs.declared.refusals.Refusal.{Refusal}
-use Rattle.types.specs.Answers.{TestResult, RunAnswer}
+use Rattle.types.specs.Answers.{TestResult}
 use Rattle.types.specs.Refusals.{first_refusal}
 use Rattle.semantics.specs.Memory.{Memory}
 use Rattle.semantics.specs.Step.{call_limit}

@@ -2,27 +2,26 @@
 -- leaves registers, open calls and RAM as they were.
 -- Assumes nothing.
 use Rattle.types.specs.declared.machine.Completion.{Completion}
-use Rattle.std.specs.Prelude.{Ok, Err, None}
+use Rattle.std.specs.Prelude.{Ok, Err, Some, None}
 use mathlib.Core.Path.{◌≡◌, refl, sym, ap, ap₂, ◌∙◌}
 use mathlib.Core.Bool.{Bool, true, false}
 use mathlib.Core.List.{List}
 use Prim.Native.Nat.{ℕ, suc, ◌+◌, ◌-◌, ◌/◌, ◌%◌, ◌≤◌, ◌<◌}
 use native.Mathlib.Omega.{arith}
-use lib.ListN.{length}
-use Rattle.types.specs.Answers.{StepAnswer, End}
+use Rattle.types.specs.declared.machine.Stop.{Stop}
 use Rattle.types.specs.declared.machine.Core.{Core}
 use Rattle.types.specs.declared.machine.State.{State}
 use Rattle.types.specs.Addresses.{bank_size}
 use Rattle.semantics.specs.Memory.{Memory, memory}
 use Rattle.prelude.specs.Choice.{bit}
 use Rattle.semantics.specs.Step.{call_limit, step, is_completed, is_call}
-use Rattle.execution.specs.Run.{end_after, Ran, executed}
-use Rattle.execution.proofs.Run.{further, ended}
-use Rattle.semantics.proofs.Step.{completed_stops, stopped_leaves}
+use Rattle.execution.specs.Run.{Ran, executed}
+use Rattle.execution.proofs.Run.{further}
+use Rattle.semantics.proofs.Step.{stopped_leaves}
 use Rattle.execution.proofs.Run.{run_begins, run_goes_on, run_stops, run_ends}
 use Rattle.semantics.proofs.Step.{depth_kept}
-use Rattle.cpu.specs.File.{registers_of, file_size}
-use Rattle.machine.specs.declared.commit.StepResult.{StepResult}
+use Rattle.cpu.specs.File.{registers_of}
+use Rattle.machine.specs.declared.commit.Completed.{Completed}
 use Rattle.machine.specs.StepResults.{state, core_at, left}
 use Rattle.runs.specs.Courses.{left_by}
 
@@ -33,13 +32,9 @@ made_of given place file e e' e'' =
     ap (λ r. record { registers = r; pc = place % bank_size; pg = place / bank_size % 256; depth = given.depth }) e
     ∙ ap₂ (λ pc pg. record { registers = given.registers; pc = pc; pg = pg; depth = given.depth }) e' e''
 
-module _ (m : Memory) (s : State) where
-  -- the run ends so
-  stop_ends : (n steps made : ℕ) → (a : StepAnswer) → (step m s).answer ≡ a → is_completed a ≡ false
-      → further steps made (executed m s (suc n)) ≡ ended (end_after a None) steps made s m.ram
-  stop_ends n steps made (Ok Completion.Ordinary) e h = absurd (completed_stops h)
-  stop_ends n steps made (Ok Completion.Call) e h = absurd (completed_stops h)
-  stop_ends n steps made (Err stop) e h = run_stops m s n steps made stop e
+completed : (how : Completion) → is_completed (Ok how) ≡ true
+completed Completion.Ordinary = refl
+completed Completion.Call = refl
 
 module _ (image : List ℕ) (base : ℕ) (calls₀ ram₀ : List ℕ) (given : Core) (asked : ℕ) where
   abbrev whole : Ran
@@ -52,25 +47,20 @@ module _ (image : List ℕ) (base : ℕ) (calls₀ ram₀ : List ℕ) (given : C
   -- where a run stands after so many steps
   pub record RunInvariant (calls ram file : List ℕ) (place depth steps made : ℕ) : Type 0 where
     pub goes : rest (core_at place depth file) calls ram steps made ≡ whole
-    pub filed : length file ≡ file_size
     pub few : depth ≤ call_limit
     pub counted : made ≤ steps
     pub within : steps ≤ asked
-    pub same : length ram ≡ length ram₀
 
-  pub begins : (file : List ℕ) (place : ℕ) → given.depth ≤ call_limit → length file ≡ file_size
-      → core_at place given.depth file ≡ given → RunInvariant calls₀ ram₀ file place given.depth 0 0
-  begins file place h long same-core =
+  pub begins : (file : List ℕ) (place : ℕ) → given.depth ≤ call_limit → core_at place given.depth file ≡ given → RunInvariant calls₀ ram₀ file place given.depth 0 0
+  begins file place h same-core =
       let all : asked - 0 ≡ asked = omega arith in
       record {
         goes =
             ap (λ c. rest c calls₀ ram₀ 0 0) same-core
             ∙ rw all (run_begins (memory ram₀ image base) (state given calls₀) asked);
-        filed = long;
         few = h;
         counted = omega arith;
         within = omega arith;
-        same = refl;
       }
 
   module _ (calls ram file : List ℕ) (place depth steps made : ℕ)
@@ -81,51 +71,44 @@ module _ (image : List ℕ) (base : ℕ) (calls₀ ram₀ : List ℕ) (given : C
     abbrev s : State
     s = state (core_at place depth file) calls
 
-    pub ends : asked ≤ steps → (core : Core) → core ≡ core_at place depth file
-        → left_by (record { end = None; steps = steps; calls = made; core = core }) calls ram ≡ whole
-    ends h core e =
+    pub ends : asked ≤ steps → (all : ℕ) → all ≡ steps → (core : Core) → core ≡ core_at place depth file
+        → left_by (record { ended = record { end = None; steps = all; calls = made }; core = core }) calls ram ≡ whole
+    ends h all e core e' =
         let none : asked - steps ≡ 0 = omega arith in
         let last = rw none at g.goes in
-        rw e (sym (run_ends m s steps made) ∙ last)
+        rw (e, e') (sym (run_ends m s steps made) ∙ last)
 
-    module _ (more : steps < asked) (step_result : StepResult) (calls' ram' file' : List ℕ)
-        (is-step : left step_result file' calls' ram' ≡ step m s) where
+    module _ (more : steps < asked) (calls' ram' file' : List ℕ) where
       one_more : asked - steps ≡ suc (asked - (steps + 1))
       one_more = omega (arith, more)
 
-      pub goes_on : is_completed step_result.answer ≡ true → length ram' ≡ length ram → length file' ≡ file_size
-          → (made' : ℕ) → made' ≡ made + bit (is_call step_result.answer)
-          → RunInvariant calls' ram' file' step_result.place step_result.depth (steps + 1) made'
-      goes_on c long eight made' e =
-          let answers : (step m s).answer ≡ step_result.answer = ap (λ t. t.answer) (sym is-step) in
-          let law = run_goes_on m s (asked - (steps + 1)) steps made (rw answers c) in
+      pub goes_on : (c : Completed) → left place depth (Ok c) file' calls' ram' ≡ step m s
+          → (made' : ℕ) → made' ≡ made + bit (is_call (Ok c.completion))
+          → RunInvariant calls' ram' file' c.place c.depth (steps + 1) made'
+      goes_on c is-step made' e =
+          let answers : (step m s).answer ≡ Ok c.completion = ap (λ t. t.answer) (sym is-step) in
+          let law = run_goes_on m s (asked - (steps + 1)) steps made (rw answers (completed c.completion)) in
           let first = rw one_more at g.goes in
           let deep = depth_kept m s g.few in
           record {
             goes = rw e (rw (← is-step) at (sym law ∙ first));
-            filed = eight;
             few = rw (← is-step) at deep;
-            counted = rw e (by (is_call step_result.answer));
+            counted = rw e (by (is_call (Ok c.completion)));
             within = omega arith;
-            same = long ∙ g.same;
           }
         where
           by : (b : Bool) → made + bit b ≤ steps + 1
           by true = omega (arith, g.counted)
           by false = omega (arith, g.counted)
 
-      pub stops_so : is_completed step_result.answer ≡ false → (end : End)
-          → end ≡ end_after step_result.answer None
-          → (core : Core) → core ≡ core_at step_result.place step_result.depth file'
-          → left_by (record { end = end; steps = steps; calls = made; core = core }) calls' ram' ≡ whole
-      stops_so c end e core e' =
-          let answers : (step m s).answer ≡ step_result.answer = ap (λ t. t.answer) (sym is-step) in
-          let kept = stopped_leaves m s (rw answers c) in
-          let same_state : state (core_at step_result.place step_result.depth file') calls' ≡ s =
-          ap (λ t. t.state) is-step ∙ kept.0 in
+      pub stops_so : (stop : Stop) → left place depth (Err stop) file' calls' ram' ≡ step m s
+          → (core : Core) → core ≡ core_at place depth file'
+          → left_by (record { ended = record { end = Some stop; steps = steps; calls = made }; core = core }) calls' ram'
+          ≡ whole
+      stops_so stop is-step core e =
+          let answers : (step m s).answer ≡ Err stop = ap (λ t. t.answer) (sym is-step) in
+          let kept = stopped_leaves m s (rw answers refl) in
+          let same_state : state (core_at place depth file') calls' ≡ s = ap (λ t. t.state) is-step ∙ kept.0 in
           let same-ram : ram' ≡ ram = ap (λ t. t.ram) is-step ∙ kept.1 in
           let first = rw one_more at g.goes in
-          rw (e, e', same_state, same-ram)
-          (sym (stop_ends m s (asked - (steps + 1)) steps made step_result.answer answers
-          c)
-          ∙ first)
+          rw (e, same_state, same-ram) (sym (run_stops m s (asked - (steps + 1)) steps made stop answers) ∙ first)

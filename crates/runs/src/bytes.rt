@@ -8,13 +8,11 @@ ghost use Rattle.execution.specs.StateBytes.{state_size};
 ghost use Rattle.machine.specs.StepResults.{state};
 
 use crate::steps::run_steps;
-use codepages::pages;
 use image::test_image;
-use operations::table::tasks;
 use statebytes::{STATE_SIZE, calls_of, core_of, put_state, ram_fits, state_fits};
 use types::machine::{CALL_LIMIT, Core};
-use types::refusals::{Refusal, TestResult};
-use types::runs::RunAnswer;
+use types::refusals::Refusal;
+use types::runs::Ended;
 
 // The limit of types/specs/Runs.antt.
 const STEP_LIMIT: u32 = 1_000_000;
@@ -23,34 +21,34 @@ const STEP_LIMIT: u32 = 1_000_000;
 fn fits(bytes: usize, core: Core, calls: &[u64; CALL_LIMIT]) -> bool
     ensures { result ≡ (eqb bytes state_size && state_fits (state core calls.now)) }
 {
-    if bytes != STATE_SIZE {
-        return false;
-    }
-    state_fits(core, calls)
+    bytes == STATE_SIZE && state_fits(core, calls)
 }
 
 // 1, 2, 11, 12, 13: what a run tests.
-fn test_run(image: &[u8], base: u32, ram: &[u8], fits: bool, asked: u32) -> TestResult
+fn test_run(image: &[u8], base: u32, ram: &[u8], fits: bool, asked: u32) -> Result<(), Refusal>
     ensures { result ≡ first_refusal (run_tests (memory ram.now image.now base) fits asked) }
 {
-    let tested = test_image(image.len(), image.len(), base);
-    if let TestResult::Failed(_) = tested {
-        return tested;
-    }
+    test_image(image.len(), image.len(), base)?;
     if !ram_fits(ram.len(), base) {
-        return TestResult::Failed(Refusal::Ram);
+        return Err(Refusal::Ram);
     }
     if !fits {
-        return TestResult::Failed(Refusal::State);
+        return Err(Refusal::State);
     }
     if STEP_LIMIT < asked {
-        return TestResult::Failed(Refusal::Steps);
+        return Err(Refusal::Steps);
     }
-    TestResult::Passed
+    Ok(())
 }
 
 // The run: its answer, and the state and RAM that it leaves.
-pub fn run(image: &[u8], base: u32, bytes: &mut [u8], ram: &mut [u8], asked: u32) -> RunAnswer
+pub fn run(
+    image: &[u8],
+    base: u32,
+    bytes: &mut [u8],
+    ram: &mut [u8],
+    asked: u32,
+) -> Result<Ended, Refusal>
     ensures answer { result ≡ (ran_bytes (memory ram.old image.now base) bytes.old asked).answer }
     ensures state { bytes.new
         ≡ (ran_bytes (memory ram.old image.now base) bytes.old asked).state }
@@ -60,26 +58,8 @@ pub fn run(image: &[u8], base: u32, bytes: &mut [u8], ram: &mut [u8], asked: u32
     let core = core_of(bytes);
     let mut calls = calls_of(bytes);
     let taken = fits(bytes.len(), core, &calls);
-    let tested = test_run(image, base, ram, taken, asked);
-    if let TestResult::Failed(why) = tested {
-        return RunAnswer::NotRun(why);
-    }
-    let steps = run_steps(
-        &pages(),
-        &tasks(),
-        image,
-        base,
-        core,
-        &mut calls,
-        ram,
-        asked,
-    );
-    let end = steps.end;
-    let after = steps.core;
-    put_state(bytes, after, &calls);
-    RunAnswer::Ended {
-        end,
-        steps: steps.steps,
-        calls: steps.calls,
-    }
+    test_run(image, base, ram, taken, asked)?;
+    let after = run_steps(image, base, core, &mut calls, ram, asked);
+    put_state(bytes, after.core, &calls);
+    Ok(after.ended)
 }

@@ -207,7 +207,7 @@ opens_below limit c i m opened = by
     works_so false (done d) goes = tt
 
     calls_so : (kind : Kind) (b : Bool) → ltb c.depth limit ≡ b → (d : Change)
-        → d.calls ≡ CallChange.Open (next c i) (kind_number kind)
+        → d.calls ≡ CallChange.Open (next c i) kind
         → PlanOpens limit (pick b (changes d) (stops Stop.Deep)) c.depth
     calls_so kind true e d same = rw same (ltb-true c.depth limit e)
     calls_so kind false e d same = tt
@@ -230,7 +230,7 @@ opens_below limit c i m opened = by
     by (Flow.Call kind) =
         calls_so kind (ltb c.depth limit) refl
         (change (with_s (pushed_at c.registers (return_bytes kind)) c.registers) (target c i)
-        (CallChange.Open (next c i) (kind_number kind)) (pushes_return c i kind)) refl
+        (CallChange.Open (next c i) kind) (pushes_return c i kind)) refl
     by (Flow.Return kind) = pulls_so kind (evaluate m (pulls_return c i kind))
     by Flow.Halt = tt
 

@@ -137,7 +137,7 @@ module _ (c : Core) (i : Instruction) where
   calls_within limit kind =
       pick (ltb c.depth limit)
       (changes
-      (change (with_s (pushed_at r (return_bytes kind)) r) target (CallChange.Open next (kind_number kind))
+      (change (with_s (pushed_at r (return_bytes kind)) r) target (CallChange.Open next kind)
       (pushes_return kind)))
       (stops Stop.Deep)
 
@@ -197,7 +197,7 @@ depth_after CallChange.Close depth = depth - 1
 
 abbrev pub calls_after : CallChange → ℕ → List ℕ → List ℕ
 calls_after CallChange.Keep depth calls = calls
-calls_after (CallChange.Open address kind) depth calls = set calls depth (call_record address kind)
+calls_after (CallChange.Open address kind) depth calls = set calls depth (call_record address (kind_number kind))
 calls_after CallChange.Close depth calls = calls
 
 abbrev pub answer_of : CallChange → StepAnswer

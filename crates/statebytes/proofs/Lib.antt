@@ -1,4 +1,3 @@
 -- The laws that the proofs of the functions share.
 pub mod Entries
-pub mod Fitting
 pub mod Whole

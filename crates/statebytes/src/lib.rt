@@ -50,7 +50,7 @@ pub fn core_of(bytes: &[u8]) -> Core
         s: word_at(bytes, 8),
         dpr: word_at(bytes, 12),
         dt: single_at(bytes, 17),
-        status: Status::from_number(word_at(bytes, 14)),
+        status: Status::from(word_at(bytes, 14)),
     };
     Core {
         registers,
@@ -64,11 +64,9 @@ pub fn core_of(bytes: &[u8]) -> Core
 pub fn calls_of(bytes: &[u8]) -> [u64; CALL_LIMIT]
     ensures { result ≡ (state_of bytes.now).calls }
 {
-    let mut calls = [0u64; CALL_LIMIT];
-    let mut i = 0;
-    while i < CALL_LIMIT {
-        calls[i] = field_at(bytes, HEAD_SIZE + RECORD_SIZE * i, RECORD_SIZE);
-        i += 1;
+    let mut calls = [0; CALL_LIMIT];
+    for (i, call) in calls.iter_mut().enumerate() {
+        *call = field_at(bytes, HEAD_SIZE + RECORD_SIZE * i, RECORD_SIZE);
     }
     calls
 }
@@ -87,7 +85,7 @@ fn words_of(core: Core) -> [u64; 10]
         r.s as u64,
         core.pc as u64,
         r.dpr as u64,
-        status.number() as u64,
+        u16::from(status) as u64,
         word_of(core.pg, r.dt) as u64,
         core.depth as u64,
     ]
@@ -136,14 +134,7 @@ fn calls_fit(calls: &[u64; CALL_LIMIT], depth: usize) -> bool
     requires { depth ≤ call_limit }
     ensures { result ≡ calls_fit calls.now depth }
 {
-    let mut i = 0;
-    while i < depth {
-        if !call_fits(calls[i]) {
-            return false;
-        }
-        i += 1;
-    }
-    true
+    calls[..depth].iter().all(|call| call_fits(*call))
 }
 
 // Number 12: PS within its eleven bits, at most 24 open calls, and each of them fits.

@@ -9,9 +9,8 @@ use native.Mathlib.Numerals.{add-one, unary_clauses}
 use native.Mathlib.Omega.{arith}
 use borrow.Author.Tests.{ne_eqb, eq-eqb, lt-ltb, le-ltb}
 use lib.Dec.{eqb, ltb}
-use lib.ListN.{length, get_or, take, drop, set, length-set}
-use lib.Seq.{drop-cons, take-suc, take-length, drop-length, drop-set-lt, get_or-set_same, get_or-drop, set_at}
-use lib.Seq.{length-take-le, append_snoc}
+use lib.ListN.{length, get_or, drop, set, length-set}
+use lib.Seq.{drop-cons, drop-length, drop-set-lt, get_or-set_same, get_or-drop}
 use Rattle.prelude.specs.Choice.{pick}
 use Rattle.text.specs.Digits.{digit, digits, digit_value, weighed, value_from_last, digit_count}
 use Rattle.text.specs.Text.{starts_with}
@@ -54,26 +53,6 @@ starts_all bytes text i most least =
 pub put_first : (page : List ℕ) (byte : ℕ) → 0 < length page → set page 0 byte ≡ byte ∷ drop 1 page
 put_first [] byte some = absurd (omega arith)
 put_first (b ∷ page) byte some = refl
-
-pub put_all : (bytes page now : List ℕ) (i : ℕ) → i ≤ length bytes → length bytes ≤ i
-    → now ≡ take i bytes ++ drop i page
-    → now ≡ bytes ++ drop (length bytes) page
-put_all bytes page now i most least e =
-    let end : i ≡ length bytes = omega arith in
-    rw (end, take-length bytes) at e
-
-pub put_next : (bytes page : List ℕ) (i : ℕ) → i < length bytes → length bytes ≤ length page
-    → set (take i bytes ++ drop i page) i (get_or bytes i 0) ≡ take (i + 1) bytes ++ drop (i + 1) page
-put_next bytes page i inside room =
-    let here = drop-cons page i 0 (omega arith) in
-    let long = length-take-le i bytes (omega arith) in
-    rw (
-      here,
-      set_at (take i bytes) (get_or page i 0) (drop (suc i) page) (get_or bytes i 0) i long,
-      add-one i,
-      take-suc bytes i 0 inside,
-      append_snoc (take i bytes) (get_or bytes i 0) (drop (suc i) page),
-    )
 
 -- ---- digits compared and written from the last on
 
@@ -137,10 +116,10 @@ unfolding digits starts_with
 none_other radix zero n text none = refl
 none_other radix (suc i) n text none = absurd (omega arith)
 
-pub none_left : (radix i n : ℕ) (page whole : List ℕ) → i ≤ 0 → digits radix i n ++ drop i page ≡ whole → page ≡ whole
+pub none_left : (radix i n : ℕ) (page : List ℕ) → i ≤ 0 → digits radix i n ++ drop i page ≡ page
 unfolding digits
-none_left radix zero n page whole none h = h
-none_left radix (suc i) n page whole none h = absurd (omega arith)
+none_left radix zero n page none = refl
+none_left radix (suc i) n page none = absurd (omega arith)
 
 -- ---- digits worked from the last on
 
@@ -155,13 +134,6 @@ pub record Worked (radix count : ℕ) (text : List ℕ) (v w i : ℕ) : Type 0 w
 pub none_worked : (radix count : ℕ) (text : List ℕ) → Worked radix count text 0 1 count
 none_worked radix count text =
     record { few = omega arith; whole = omega arith; weight = omega arith; small = omega arith }
-
--- the value of the byte before the digits that are worked, in the text from a place on
-pub next_digit : {d byte i : ℕ} (at : ℕ) (text : List ℕ) → 0 < i → byte ≡ get_or text (at + i - 1) 0
-    → d ≡ digit_value byte → d ≡ digit_value (get_or (drop at text) (i - 1) 0)
-next_digit {i = i} at text some read e =
-    let place : at + i - 1 ≡ at + (i - 1) = omega arith in
-    rw (get_or-drop at text (i - 1) 0, ← place, ← read) e
 
 -- there is room for the next digit and the next weight
 pub room_for_one : {radix count v w i : ℕ} {text : List ℕ} (d : ℕ) → 2 ≤ radix

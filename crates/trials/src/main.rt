@@ -7,10 +7,11 @@
 mod parts;
 mod records;
 
-ghost use Rattle.std.specs.Prelude.{◌≤◌, length};
-
-use crate::parts::take_u32;
-use crate::records::{Kind, trial_at};
+use crate::parts::Records;
+use crate::records::{
+    Trial, try_build, try_check, try_explain, try_locate, try_print, try_read, try_run, try_step,
+    try_write,
+};
 use files::read_full;
 use std::fs::File;
 use std::io;
@@ -22,66 +23,74 @@ const NUMBERS: usize = 28;
 // The most bytes of a file that are read.
 const FILE_LIMIT: usize = 65_536;
 
-// Counts a number that has a counter.
-fn count(numbers: &mut [u64; NUMBERS], number: usize) {
-    if number < NUMBERS {
-        numbers[number] = numbers[number].wrapping_add(1);
+// Tries the records of a file, as many as it says and then nothing more, counts those that agree by their number, and
+// says how many agree.
+fn try_records<F: Fn(&mut Records) -> Trial>(
+    rt: &impl Print,
+    mut records: Records,
+    try_record: F,
+    numbers: &mut [u64; NUMBERS],
+) -> io::Result<()>
+    requires { F.IsAlwaysCallable try_record }
+{
+    let count = records.take_u32();
+    let mut agreed: u64 = 0;
+    for _ in 0..count {
+        if let Some(number) = try_record(&mut records)? {
+            agreed += 1;
+            // A wrapping sum, since what other files have counted has no bound here.
+            if let Some(seen) = numbers.get_mut(number) {
+                *seen = seen.wrapping_add(1);
+            }
+        }
+        if records.is_broken() {
+            break;
+        }
     }
-}
-
-// How many records of a kind agreed, and whether the files were whole.
-fn say_score(rt: &impl Print, agreed: u64, records: u32, whole: bool) -> io::Result<()> {
-    let rest = if whole {
+    let rest = if records.is_done() {
         ""
     } else {
         ", and the file is not of the form"
     };
-    println!(rt; "{agreed} of {records} agree{rest}")
-}
-
-// Tries the records of a file, as many as it says and then nothing more, and says how many agree.
-fn try_records(
-    rt: &impl Print,
-    kind: Kind,
-    long: bool,
-    file: &[u8],
-    numbers: &mut [u64; NUMBERS],
-) -> io::Result<()> {
-    let mut at: usize = 0;
-    let records = take_u32(file, &mut at);
-    let mut agreed: u64 = 0;
-    for _ in 0..records {
-        let trial = trial_at(kind, file, &mut at, long);
-        if trial.agrees {
-            agreed = agreed.wrapping_add(1);
-            count(numbers, trial.number);
-        }
-        if file.len() < at {
-            break;
-        }
-    }
-    say_score(rt, agreed, records, at == file.len())
+    println!(rt; "{agreed} of {count} agree{rest}")
 }
 
 // Tries the file of a name, if it is there.
-fn try_named<R: Files + Print>(
+fn try_named<R: Files + Print + AllocGlobal, F: Fn(&mut Records) -> Trial>(
     rt: &R,
-    kind: Kind,
-    long: bool,
     name: &str,
+    long: bool,
+    try_record: F,
     numbers: &mut [u64; NUMBERS],
-) -> io::Result<()> {
+) -> io::Result<()>
+    requires { F.IsAlwaysCallable try_record }
+{
     let Ok(mut file) = File::open(rt, name) else {
         return Ok(());
     };
-    let mut buffer = [0u8; FILE_LIMIT];
+    let mut buffer = [0; FILE_LIMIT];
     let size = read_full(&mut file, &mut buffer);
     print!(rt; "{name}: ")?;
-    try_records(rt, kind, long, &buffer[..size], numbers)
+    let records = Records::new(&buffer[..size], long, rt.alloc());
+    try_records(rt, records, try_record, numbers)
 }
 
-// A number that no record had has no line.
-fn say_counts(rt: &impl Print, numbers: &[u64; NUMBERS]) -> io::Result<()> {
+// Tries the files of a kind, 00 to 99 where there is one, and that of long images and marks. A missing file is a
+// missing line, and so is a number that no record had.
+fn try_files<R: Files + Print + AllocGlobal, F: Copy + Fn(&mut Records) -> Trial>(
+    rt: &R,
+    kind: &str,
+    try_record: F,
+) -> io::Result<()>
+    requires { F.IsAlwaysCallable try_record }
+{
+    let mut numbers = [0; NUMBERS];
+    for number in 0..100 {
+        let name = format!(in rt.alloc(); "{kind}-{number:02}.bin")?;
+        try_named(rt, &name, false, try_record, &mut numbers)?;
+    }
+    let name = format!(in rt.alloc(); "{kind}-long.bin")?;
+    try_named(rt, &name, true, try_record, &mut numbers)?;
     for (number, count) in numbers.iter().enumerate() {
         if 0 < *count {
             println!(rt; "{number}: {count}")?;
@@ -90,47 +99,15 @@ fn say_counts(rt: &impl Print, numbers: &[u64; NUMBERS]) -> io::Result<()> {
     Ok(())
 }
 
-// Tries the files of a kind, 00 to 99 where there is one, and that of long images and marks. A name ends in NN.bin; a
-// missing file is a missing line.
-fn try_files<R: Files + Print>(
-    rt: &R,
-    kind: Kind,
-    name: &mut [u8],
-    long_name: &str,
-) -> io::Result<()>
-    requires { 6 ≤ length name.old }
-{
-    let tens = name.len() - 6;
-    let mut numbers = [0; NUMBERS];
-    for number in 0..100u8 {
-        name[tens] = b'0' + number / 10;
-        name[tens + 1] = b'0' + number % 10;
-        if let Ok(text) = str::from_utf8(name) {
-            try_named(rt, kind, false, text, &mut numbers)?;
-        }
-    }
-    try_named(rt, kind, true, long_name, &mut numbers)?;
-    say_counts(rt, &numbers)
-}
-
-// All kinds of records, a line each.
+// All kinds of records.
 fn main(rt: HostRuntime) -> io::Result<()> {
-    let mut check = *b"check-00.bin";
-    try_files(&rt, Kind::Check, &mut check, "check-long.bin")?;
-    let mut step = *b"step-00.bin";
-    try_files(&rt, Kind::Step, &mut step, "step-long.bin")?;
-    let mut run = *b"run-00.bin";
-    try_files(&rt, Kind::Run, &mut run, "run-long.bin")?;
-    let mut read = *b"read-00.bin";
-    try_files(&rt, Kind::Read, &mut read, "read-long.bin")?;
-    let mut write = *b"write-00.bin";
-    try_files(&rt, Kind::Write, &mut write, "write-long.bin")?;
-    let mut print = *b"print-00.bin";
-    try_files(&rt, Kind::Print, &mut print, "print-long.bin")?;
-    let mut explain = *b"explain-00.bin";
-    try_files(&rt, Kind::Explain, &mut explain, "explain-long.bin")?;
-    let mut locate = *b"locate-00.bin";
-    try_files(&rt, Kind::Locate, &mut locate, "locate-long.bin")?;
-    let mut build = *b"build-00.bin";
-    try_files(&rt, Kind::Build, &mut build, "build-long.bin")
+    try_files(&rt, "check", try_check)?;
+    try_files(&rt, "step", try_step)?;
+    try_files(&rt, "run", try_run)?;
+    try_files(&rt, "read", try_read)?;
+    try_files(&rt, "write", try_write)?;
+    try_files(&rt, "print", try_print)?;
+    try_files(&rt, "explain", try_explain)?;
+    try_files(&rt, "locate", try_locate)?;
+    try_files(&rt, "build", try_build)
 }

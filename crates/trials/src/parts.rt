@@ -1,200 +1,147 @@
-// The parts of a record, one behind another (sim/README.md, 'Vector files'). Each function that takes one takes it at a
-// place of the file and moves the place behind it, or to nowhere if the file or the buffer for it does not hold it.
-ghost use Rattle.std.specs.Prelude.{◌≡◌, length};
-
-use fields::number;
+// The parts of a record, one behind another (sim/README.md, 'Vector files').
+use std::alloc::{AllocError, Global};
 
 // A list's length has at most five digits, and no image, page or buffer of the machine's in a record is longer.
-const SPACE: usize = 100_000;
+pub(crate) const BYTES: usize = 100_000;
 
 // More numbers than any list of addresses or places has.
-const WORDS: usize = 4_096;
+pub(crate) const WORDS: usize = 4_096;
 
-// A place past the end of every file.
-const NOWHERE: usize = usize::MAX;
-
-// A space that buffers are lent from.
-pub(crate) fn space() -> [u8; SPACE]
-    ensures { 100000 ≡ length result }
-{
-    [0; SPACE]
-}
-
-// A space that lists of numbers are lent from.
-pub(crate) fn words() -> [u32; WORDS]
-    ensures { 4096 ≡ length result }
-{
-    [0; WORDS]
-}
-
-// The front of a space, to lend: so many bytes, or all that there are.
-pub(crate) fn front(space: &mut [u8], size: usize) -> &mut [u8] {
-    if space.len() < size {
-        return space;
-    }
-    &mut space[..size]
-}
-
-// So many bytes.
-pub(crate) fn take<'a>(file: &'a [u8], at: &mut usize, size: usize) -> &'a [u8] {
-    let first = *at;
-    if file.len() < first {
-        return &file[..0];
-    }
-    if file.len() - first < size {
-        *at = NOWHERE;
-        return &file[..0];
-    }
-    let end = first + size;
-    *at = end;
-    &file[first..end]
-}
-
-// A number of eight bytes.
-pub(crate) fn take_u64(file: &[u8], at: &mut usize) -> u64 {
-    number(take(file, at, 8))
-}
-
-// Of four bytes.
-pub(crate) fn take_u32(file: &[u8], at: &mut usize) -> u32 {
-    (number(take(file, at, 4)) % 4_294_967_296) as u32
-}
-
-// Of two bytes.
-pub(crate) fn take_u16(file: &[u8], at: &mut usize) -> u16 {
-    (number(take(file, at, 2)) % 65_536) as u16
-}
-
-// Of one byte.
-fn take_u8(file: &[u8], at: &mut usize) -> u8 {
-    (number(take(file, at, 1)) % 256) as u8
-}
-
-// Bytes behind their length.
-pub(crate) fn take_bytes<'a>(file: &'a [u8], at: &mut usize) -> &'a [u8] {
-    let size = take_u32(file, at);
-    take(file, at, size as usize)
-}
-
-// Fills a buffer with bytes that grow by the same number, modulo 256.
-pub(crate) fn fill(buffer: &mut [u8], first: u8, by: u8) {
-    let mut byte = first;
-    for place in buffer.iter_mut() {
-        *place = byte;
-        byte = byte.wrapping_add(by);
-    }
-}
-
-// So many bytes, which replace those of a buffer from an offset on.
-pub(crate) fn take_over(
-    file: &[u8],
-    at: &mut usize,
-    buffer: &mut [u8],
-    offset: usize,
-    size: usize,
-) {
-    let piece = take(file, at, size);
-    if buffer.len() < offset {
-        *at = NOWHERE;
-        return;
-    }
-    if buffer.len() - offset < piece.len() {
-        *at = NOWHERE;
-        return;
-    }
-    buffer[offset..offset + piece.len()].copy_from_slice(piece);
-}
-
-// Pieces, which replace bytes of a buffer.
-pub(crate) fn take_pieces(file: &[u8], at: &mut usize, buffer: &mut [u8]) {
-    let pieces = take_u16(file, at);
-    for _ in 0..pieces {
-        let offset = take_u16(file, at);
-        let size = take_u16(file, at);
-        take_over(file, at, buffer, offset as usize, size as usize);
-    }
-}
-
-// A buffer whose length was taken.
-fn take_filled(file: &[u8], at: &mut usize, buffer: &mut [u8]) {
-    let first = take_u8(file, at);
-    let by = take_u8(file, at);
-    fill(buffer, first, by);
-    take_pieces(file, at, buffer);
-}
-
-// The same, made twice: one to lend, and one that becomes what the call must leave.
-pub(crate) fn take_buffer(file: &[u8], at: &mut usize, lent: &mut [u8], after: &mut [u8]) {
-    let mut again = *at;
-    take_filled(file, &mut again, after);
-    take_filled(file, at, lent);
-}
-
-// An image or marks, from a space: bytes behind their length or, in a file of long ones, a long buffer.
-pub(crate) fn take_whole<'a>(
-    file: &[u8],
-    at: &mut usize,
+// What is left of a vector file. Each method takes a part from its front. Once the file, or the buffer for a part, does
+// not hold it, nothing is left: every part from then on is 0 or empty.
+#[derive(Drop)]
+pub(crate) struct Records<'a> {
+    rest: Option<&'a [u8]>,
+    // The file has long images and marks.
     long: bool,
-    space: &'a mut [u8],
-) -> &'a mut [u8] {
-    let size = take_u32(file, at) as usize;
-    let whole = front(space, size);
-    if long {
-        take_filled(file, at, whole);
-    } else {
-        take_over(file, at, whole, 0, size);
-    }
-    whole
+    pub(crate) alloc: Global,
 }
 
-// The same where they are there, else none.
-pub(crate) fn take_whole_if<'a>(
-    there: bool,
-    file: &[u8],
-    at: &mut usize,
-    long: bool,
-    space: &'a mut [u8],
-) -> &'a mut [u8] {
-    if there {
-        return take_whole(file, at, long, space);
+impl<'a> Records<'a> {
+    // All of a file.
+    pub(crate) fn new(file: &'a [u8], long: bool, alloc: Global) -> Self {
+        Records {
+            rest: Some(file),
+            long,
+            alloc,
+        }
     }
-    front(space, 0)
-}
 
-// Marks that a call must leave: all of them or, in a file of long ones, a long buffer.
-pub(crate) fn take_after(file: &[u8], at: &mut usize, long: bool, after: &mut [u8]) {
-    if long {
-        take_whole(file, at, long, after);
-    } else {
-        take_over(file, at, after, 0, after.len());
+    // Whether some part was not there.
+    pub(crate) fn is_broken(&self) -> bool {
+        self.rest.is_none()
     }
-}
 
-// The front of a space of numbers, to lend: so many of them, or all that there are.
-pub(crate) fn front_words(space: &mut [u32], size: usize) -> &mut [u32] {
-    if space.len() < size {
-        return space;
+    // Whether all parts were there, and nothing is behind them.
+    pub(crate) fn is_done(&self) -> bool {
+        self.rest.is_some_and(|rest| rest.is_empty())
     }
-    &mut space[..size]
-}
 
-// Fills a list with a number.
-pub(crate) fn fill_words(list: &mut [u32], word: u32) {
-    list.fill(word);
-}
-
-// So many numbers of four bytes, which replace the first of a list. A list that is too short ends the file.
-pub(crate) fn take_words(file: &[u8], at: &mut usize, list: &mut [u32], size: usize) {
-    if list.len() < size {
-        *at = NOWHERE;
-        return;
+    // So many bytes.
+    fn take(&mut self, size: usize) -> &'a [u8] {
+        let Some((part, rest)) = self.rest.and_then(|rest| rest.split_at_checked(size)) else {
+            self.rest = None;
+            return &[];
+        };
+        self.rest = Some(rest);
+        part
     }
-    for word in list[..size].iter_mut() {
-        *word = take_u32(file, at);
-    }
-}
 
-// Whether two lists hold the same numbers.
-pub(crate) fn same_words(one: &[u32], other: &[u32]) -> bool {
-    one == other
+    // So many bytes as an array.
+    fn take_array<const N: usize>(&mut self) -> [u8; N] {
+        self.take(N).first_chunk().copied().unwrap_or([0; N])
+    }
+
+    // Numbers, the low byte first.
+    pub(crate) fn take_u64(&mut self) -> u64 {
+        u64::from_le_bytes(self.take_array())
+    }
+
+    pub(crate) fn take_u32(&mut self) -> u32 {
+        u32::from_le_bytes(self.take_array())
+    }
+
+    fn take_u16(&mut self) -> u16 {
+        u16::from_le_bytes(self.take_array())
+    }
+
+    fn take_u8(&mut self) -> u8 {
+        u8::from_le_bytes(self.take_array())
+    }
+
+    // Bytes behind their length.
+    pub(crate) fn take_bytes(&mut self) -> &'a [u8] {
+        let size = self.take_u32();
+        self.take(size as usize)
+    }
+
+    // So many bytes, which replace those of a buffer from an offset on.
+    pub(crate) fn take_over(&mut self, buffer: &mut [u8], offset: usize, size: usize) {
+        let part = self.take(size);
+        let place = buffer
+            .get_mut(offset..)
+            .and_then(|behind| behind.get_mut(..part.len()));
+        match place {
+            Some(place) => place.copy_from_slice(part),
+            None => self.rest = None,
+        }
+    }
+
+    // Pieces, which replace bytes of a buffer.
+    pub(crate) fn take_pieces(&mut self, buffer: &mut [u8]) {
+        for _ in 0..self.take_u16() {
+            let offset = self.take_u16();
+            let size = self.take_u16();
+            self.take_over(buffer, offset as usize, size as usize);
+        }
+    }
+
+    // Fills a buffer with bytes that grow by the same number, modulo 256, and takes pieces.
+    fn take_filled(&mut self, buffer: &mut [u8]) {
+        let mut byte = self.take_u8();
+        let by = self.take_u8();
+        for place in buffer.iter_mut() {
+            *place = byte;
+            byte = byte.wrapping_add(by);
+        }
+        self.take_pieces(buffer);
+    }
+
+    // A buffer.
+    pub(crate) fn take_buffer(&mut self) -> Result<Vec<u8>, AllocError> {
+        let size = self.take_u16();
+        let mut buffer = vec![in self.alloc; 0; size as usize]?;
+        self.take_filled(&mut buffer);
+        Ok(buffer)
+    }
+
+    // An image or marks: bytes behind their length or, in a file of long ones, a long buffer.
+    pub(crate) fn take_whole(&mut self) -> Result<Vec<u8>, AllocError> {
+        let size = self.take_u32() as usize;
+        let mut whole = vec![in self.alloc; 0; size.min(BYTES)]?;
+        if self.long {
+            self.take_filled(&mut whole);
+        } else {
+            self.take_over(&mut whole, 0, size);
+        }
+        Ok(whole)
+    }
+
+    // Marks that a call must leave: all of them or, in a file of long ones, a long buffer.
+    pub(crate) fn take_after(&mut self, after: &mut [u8]) {
+        if self.long {
+            let size = after.len().min(self.take_u32() as usize);
+            self.take_filled(&mut after[..size]);
+        } else {
+            self.take_over(after, 0, after.len());
+        }
+    }
+
+    // So many numbers of four bytes, which replace the first of a list.
+    pub(crate) fn take_words(&mut self, list: &mut [u32], size: usize) {
+        match list.get_mut(..size) {
+            Some(words) => words.fill_with(|| self.take_u32()),
+            None => self.rest = None,
+        }
+    }
 }

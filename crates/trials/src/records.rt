@@ -1,14 +1,12 @@
-// The records of the vector files (sim/README.md, 'Vector files'), a function each: it takes the parts in their order,
-// makes the call, and compares the answer and every byte of each lent buffer with what the record says.
-use crate::parts::{
-    fill, fill_words, front, front_words, same_words, space, take_after, take_buffer, take_bytes,
-    take_over, take_pieces, take_u16, take_u32, take_u64, take_whole, take_whole_if, take_words,
-    words,
-};
+// The records of the vector files (sim/README.md, 'Vector files'), a function a kind: it takes the parts in their order,
+// makes the call, and compares the answer and every byte of each lent buffer with what the record says. Where all agree
+// it returns the number of the answer.
+use crate::parts::{BYTES, Records, WORDS};
 use loader::{
     m7700_build_marks, m7700_check, m7700_explain, m7700_locate, m7700_print, m7700_read_list,
     m7700_run, m7700_step, m7700_write_list,
 };
+use std::alloc::AllocError;
 
 // The value of every mark before a read, and of every byte of the page before it is written on.
 const UNREAD: u8 = 0x5A;
@@ -18,222 +16,165 @@ const UNWRITTEN: u8 = 0xA5;
 // Of every place before addresses are located.
 const UNPLACED: u32 = 0xA5A5_A5A5;
 
-#[derive(Clone, Copy)]
-pub(crate) enum Kind {
-    Check,
-    Step,
-    Run,
-    Read,
-    Write,
-    Print,
-    Explain,
-    Locate,
-    Build,
-}
+// What a record shows: the number of its answer, or nothing where the call did something else.
+pub(crate) type Trial = Result<Option<usize>, AllocError>;
 
-// What writes on a page.
-#[derive(Clone, Copy)]
-enum Writer {
-    List,
-    Print,
-    Explain,
-}
-
-// What a record shows: the number of its answer, and whether the call did what it says.
-#[derive(Clone, Copy)]
-pub(crate) struct Trial {
-    pub(crate) number: usize,
-    pub(crate) agrees: bool,
-}
-
-// The record at a place, which moves behind it; of a file of long images and marks, or of another.
-pub(crate) fn trial_at(kind: Kind, file: &[u8], at: &mut usize, long: bool) -> Trial {
-    match kind {
-        Kind::Check => try_check(file, at, long),
-        Kind::Step => try_machine(file, at, long, true),
-        Kind::Run => try_machine(file, at, long, false),
-        Kind::Read => try_read(file, at, long),
-        Kind::Write => try_page(file, at, long, Writer::List, false),
-        Kind::Print => try_page(file, at, long, Writer::Print, true),
-        Kind::Explain => try_page(file, at, long, Writer::Explain, true),
-        Kind::Locate => try_locate(file, at, long),
-        Kind::Build => try_build(file, at, long),
-    }
+// An answer's number, its low byte.
+fn number_of(answer: u64) -> usize {
+    (answer % 256) as usize
 }
 
 // A check and its answer.
-fn try_check(file: &[u8], at: &mut usize, long: bool) -> Trial {
-    let base = take_u32(file, at);
-    let reset = take_u32(file, at);
-    let mut image_space = space();
-    let mut marks_space = space();
-    let image = take_whole(file, at, long, &mut image_space);
-    let marks = take_whole(file, at, long, &mut marks_space);
-    let answer = take_u32(file, at);
-    Trial {
-        number: (answer / 65_536) as usize,
-        agrees: m7700_check(image, marks, base, reset) == answer,
-    }
+pub(crate) fn try_check(records: &mut Records) -> Trial {
+    let base = records.take_u32();
+    let reset = records.take_u32();
+    let image = records.take_whole()?;
+    let marks = records.take_whole()?;
+    let answer = records.take_u32();
+    let agrees = m7700_check(&image, &marks, base, reset) == answer;
+    Ok(agrees.then_some((answer / 65_536) as usize))
 }
 
-// A step or a run. A record of a step asks for one.
-fn try_machine(file: &[u8], at: &mut usize, long: bool, by_step: bool) -> Trial {
-    let base = take_u32(file, at);
-    let steps = take_u32(file, at);
-    let mut image_space = space();
-    let image = take_whole(file, at, long, &mut image_space);
-    let state_size = take_u16(file, at) as usize;
-    let mut state_space = space();
-    let mut state_after_space = space();
-    let state = front(&mut state_space, state_size);
-    let state_after = front(&mut state_after_space, state_size);
-    take_buffer(file, at, state, state_after);
-    let ram_size = take_u16(file, at) as usize;
-    let mut ram_space = space();
-    let mut ram_after_space = space();
-    let ram = front(&mut ram_space, ram_size);
-    let ram_after = front(&mut ram_after_space, ram_size);
-    take_buffer(file, at, ram, ram_after);
-    let answer = take_u64(file, at);
-    take_pieces(file, at, state_after);
-    take_pieces(file, at, ram_after);
-    let given = if by_step {
-        m7700_step(image, base, state, ram)
-    } else {
-        m7700_run(image, base, state, ram, steps)
-    };
-    Trial {
-        number: run_number(answer),
-        agrees: given == answer
-            && (!by_step || steps == 1)
-            && *state == *state_after
-            && *ram == *ram_after,
-    }
+// A step. A record of a step asks for one.
+pub(crate) fn try_step(records: &mut Records) -> Trial {
+    try_machine(records, |image, base, steps, state, ram| {
+        (steps == 1).then(|| m7700_step(image, base, state, ram))
+    })
+}
+
+// A run.
+pub(crate) fn try_run(records: &mut Records) -> Trial {
+    try_machine(records, |image, base, steps, state, ram| {
+        Some(m7700_run(image, base, state, ram, steps))
+    })
+}
+
+// What the machine does with an image, its base, a number of steps, a state and RAM.
+fn try_machine<F>(records: &mut Records, machine: F) -> Trial
+where
+    F: FnOnce(&[u8], u32, u32, &mut [u8], &mut [u8]) -> Option<u64>,
+    requires { F.IsAlwaysCallable machine }
+{
+    let base = records.take_u32();
+    let steps = records.take_u32();
+    let image = records.take_whole()?;
+    let mut state = records.take_buffer()?;
+    let mut ram = records.take_buffer()?;
+    let answer = records.take_u64();
+    let mut state_after = state.clone()?;
+    let mut ram_after = ram.clone()?;
+    records.take_pieces(&mut state_after);
+    records.take_pieces(&mut ram_after);
+    let given = machine(&image, base, steps, &mut state, &mut ram);
+    let agrees = given == Some(answer) && state == state_after && ram == ram_after;
+    Ok(agrees.then_some(run_number(answer)))
 }
 
 // A run's number is its refusal's or, where it has none, its end's.
 fn run_number(answer: u64) -> usize {
-    let refusal = (answer % 256) as usize;
-    if refusal == 0 {
-        (answer / 256 % 256) as usize
-    } else {
-        refusal
+    match number_of(answer) {
+        0 => number_of(answer / 256),
+        refusal => refusal,
     }
 }
 
 // A list read, and the marks that it leaves.
-fn try_read(file: &[u8], at: &mut usize, long: bool) -> Trial {
-    let text = take_bytes(file, at);
-    let size = take_u32(file, at) as usize;
-    let answer = take_u64(file, at);
-    let mut marks_space = space();
-    let mut after_space = space();
-    let marks = front(&mut marks_space, size);
-    let after = front(&mut after_space, size);
-    fill(marks, UNREAD, 0);
-    fill(after, UNREAD, 0);
-    if answer % 256 == 0 {
-        take_after(file, at, long, after);
+pub(crate) fn try_read(records: &mut Records) -> Trial {
+    let text = records.take_bytes();
+    let size = records.take_u32() as usize;
+    let answer = records.take_u64();
+    let mut marks = vec![in records.alloc; UNREAD; size.min(BYTES)]?;
+    let mut after = marks.clone()?;
+    if number_of(answer) == 0 {
+        records.take_after(&mut after);
     }
-    let given = m7700_read_list(text, marks);
-    Trial {
-        number: (answer % 256) as usize,
-        agrees: marks.len() == size && given == answer && *marks == *after,
-    }
+    let given = m7700_read_list(text, &mut marks);
+    let agrees = marks.len() == size && given == answer && marks == after;
+    Ok(agrees.then_some(number_of(answer)))
 }
 
-// Calls what writes on a page.
-fn write_page(
-    writer: Writer,
-    image: &[u8],
-    marks: &[u8],
-    base: u32,
-    reset: u32,
-    page: &mut [u8],
-) -> u64 {
-    match writer {
-        Writer::List => m7700_write_list(marks, base, reset, page),
-        Writer::Print => m7700_print(image, marks, base, reset, page),
-        Writer::Explain => m7700_explain(image, marks, base, reset, page),
-    }
+// A list written.
+pub(crate) fn try_write(records: &mut Records) -> Trial {
+    let base = records.take_u32();
+    let reset = records.take_u32();
+    try_page(records, |marks, page| {
+        m7700_write_list(marks, base, reset, page)
+    })
 }
 
-// A list written, an image printed or a refusal explained, and the page that it leaves. A record of a list has no
-// image.
-fn try_page(file: &[u8], at: &mut usize, long: bool, writer: Writer, has_image: bool) -> Trial {
-    let base = take_u32(file, at);
-    let reset = take_u32(file, at);
-    let mut image_space = space();
-    let mut marks_space = space();
-    let image = take_whole_if(has_image, file, at, long, &mut image_space);
-    let marks = take_whole(file, at, long, &mut marks_space);
-    let size = take_u32(file, at) as usize;
-    let answer = take_u64(file, at);
-    let mut lent_space = space();
-    let mut after_space = space();
-    let page = front(&mut lent_space, size);
-    let after = front(&mut after_space, size);
-    fill(page, UNWRITTEN, 0);
-    fill(after, UNWRITTEN, 0);
-    if answer % 256 == 0 {
-        take_over(file, at, after, 0, (answer / 256) as usize);
+// An image printed. It and the next are two functions, since a function of C is not passed by its name.
+pub(crate) fn try_print(records: &mut Records) -> Trial {
+    let base = records.take_u32();
+    let reset = records.take_u32();
+    let image = records.take_whole()?;
+    try_page(records, |marks, page| {
+        m7700_print(&image, marks, base, reset, page)
+    })
+}
+
+// A refusal explained.
+pub(crate) fn try_explain(records: &mut Records) -> Trial {
+    let base = records.take_u32();
+    let reset = records.take_u32();
+    let image = records.take_whole()?;
+    try_page(records, |marks, page| {
+        m7700_explain(&image, marks, base, reset, page)
+    })
+}
+
+// What is written of marks, and the page that it leaves.
+fn try_page<F>(records: &mut Records, write: F) -> Trial
+where
+    F: FnOnce(&[u8], &mut [u8]) -> u64,
+    requires { F.IsAlwaysCallable write }
+{
+    let marks = records.take_whole()?;
+    let size = records.take_u32() as usize;
+    let answer = records.take_u64();
+    let mut page = vec![in records.alloc; UNWRITTEN; size.min(BYTES)]?;
+    let mut after = page.clone()?;
+    if number_of(answer) == 0 {
+        records.take_over(&mut after, 0, (answer / 256) as usize);
     }
-    let given = write_page(writer, image, marks, base, reset, page);
-    Trial {
-        number: (answer % 256) as usize,
-        agrees: page.len() == size && given == answer && *page == *after,
-    }
+    let given = write(&marks, &mut page);
+    let agrees = page.len() == size && given == answer && page == after;
+    Ok(agrees.then_some(number_of(answer)))
 }
 
 // Addresses located, and the places that it leaves.
-fn try_locate(file: &[u8], at: &mut usize, long: bool) -> Trial {
-    let base = take_u32(file, at);
-    let reset = take_u32(file, at);
-    let mut image_space = space();
-    let mut marks_space = space();
-    let image = take_whole(file, at, long, &mut image_space);
-    let marks = take_whole(file, at, long, &mut marks_space);
-    let count = take_u32(file, at) as usize;
-    let mut addresses_space = words();
-    let addresses = front_words(&mut addresses_space, count);
-    take_words(file, at, addresses, count);
-    let size = take_u32(file, at) as usize;
-    let answer = take_u64(file, at);
-    let mut places_space = words();
-    let mut after_space = words();
-    let places = front_words(&mut places_space, size);
-    let after = front_words(&mut after_space, size);
-    fill_words(places, UNPLACED);
-    fill_words(after, UNPLACED);
-    if answer % 256 == 0 {
-        take_words(file, at, after, count);
+pub(crate) fn try_locate(records: &mut Records) -> Trial {
+    let base = records.take_u32();
+    let reset = records.take_u32();
+    let image = records.take_whole()?;
+    let marks = records.take_whole()?;
+    let count = records.take_u32() as usize;
+    let mut addresses = vec![in records.alloc; 0; count.min(WORDS)]?;
+    records.take_words(&mut addresses, count);
+    let size = records.take_u32() as usize;
+    let answer = records.take_u64();
+    let mut places = vec![in records.alloc; UNPLACED; size.min(WORDS)]?;
+    let mut after = places.clone()?;
+    if number_of(answer) == 0 {
+        records.take_words(&mut after, count);
     }
-    let given = m7700_locate(image, marks, base, reset, addresses, places);
-    Trial {
-        number: (answer % 256) as usize,
-        agrees: places.len() == size && given == answer && same_words(places, after),
-    }
+    let given = m7700_locate(&image, &marks, base, reset, &addresses, &mut places);
+    let agrees = places.len() == size && given == answer && places == after;
+    Ok(agrees.then_some(number_of(answer)))
 }
 
 // Marks built from a routine list, and those that it leaves.
-fn try_build(file: &[u8], at: &mut usize, long: bool) -> Trial {
-    let base = take_u32(file, at);
-    let reset = take_u32(file, at);
-    let mut image_space = space();
-    let image = take_whole(file, at, long, &mut image_space);
-    let routines = take_bytes(file, at);
-    let mut marks_space = space();
-    let mut after_space = space();
-    let mut again = *at;
-    let after = take_whole(file, &mut again, long, &mut after_space);
-    let marks = take_whole(file, at, long, &mut marks_space);
-    let answer = take_u64(file, at);
-    if answer % 256 == 0 {
-        take_after(file, at, long, after);
+pub(crate) fn try_build(records: &mut Records) -> Trial {
+    let base = records.take_u32();
+    let reset = records.take_u32();
+    let image = records.take_whole()?;
+    let routines = records.take_bytes();
+    let mut marks = records.take_whole()?;
+    let answer = records.take_u64();
+    let mut after = marks.clone()?;
+    if number_of(answer) == 0 {
+        records.take_after(&mut after);
     }
-    let given = m7700_build_marks(image, base, reset, routines, marks);
-    Trial {
-        number: (answer % 256) as usize,
-        agrees: given == answer && *marks == *after,
-    }
+    let given = m7700_build_marks(&image, base, reset, routines, &mut marks);
+    let agrees = given == answer && marks == after;
+    Ok(agrees.then_some(number_of(answer)))
 }

@@ -139,5 +139,5 @@ pub same_ended : {end other : End} {steps calls taken called : ℕ}
     → ended_by end steps calls ≡ ended_by other taken called → (end ≡ other) × (steps ≡ taken) × (calls ≡ called)
 same_ended {end = end} {other = other} {steps = steps} {calls = calls} {taken = taken} {called = called} e =
     let same : ◌≡◌ {A = Ended} (record { end = end; steps = steps; calls = calls })
-            (record { end = other; steps = taken; calls = called }) = cc in
+    (record { end = other; steps = taken; calls = called }) = cc in
     (ap (λ r. r.end) same, ap (λ r. r.steps) same, ap (λ r. r.calls) same)

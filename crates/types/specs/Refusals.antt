@@ -2,6 +2,7 @@
 -- decides. Which tests a call makes, and in which order, stands with that call.
 -- Assumes nothing.
 use Rattle.std.specs.Prelude.{ℕ, Bool, true, false, List, [], ◌∷◌, Ok, Err}
+use Rattle.types.specs.declared.code.Undecoded.{Undecoded}
 use Rattle.types.specs.declared.refusals.Refusal.{Refusal}
 use Rattle.types.specs.Answers.{TestResult}
 
@@ -24,6 +25,11 @@ refusal_number Refusal.List = 14
 refusal_number Refusal.Page = 15
 refusal_number Refusal.Addresses = 16
 refusal_number Refusal.Routines = 17
+
+-- 5: 'code at a start is not carried'; 6: 'instruction, or the code behind a prefix, runs past the image'
+abbrev pub undecoded_refusal : Undecoded → Refusal
+undecoded_refusal Undecoded.NotCarried = Refusal.Code
+undecoded_refusal Undecoded.CutOff = Refusal.CutOff
 
 -- tests in their order, each with what refuses where it fails
 abbrev pub Tests : Type 0

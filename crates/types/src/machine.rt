@@ -5,6 +5,8 @@ ghost use Rattle.types.specs.Runs.{stop_number};
 ghost use Rattle.types.specs.Status.{status_of, number_of};
 ghost use Rattle.prelude.specs.Choice.{bit};
 
+use crate::code::Kind;
+
 // The processor status register, a field for each flag and one for its high byte: the interrupt priority level, and
 // above it five bits that are 0 in every state that a run takes (manual 2.9).
 #[derive(Clone, Copy)]
@@ -178,7 +180,7 @@ pub struct Store {
 #[derive(Clone, Copy)]
 pub enum CallChange {
     Keep,
-    Open { address: u32, kind: u8 },
+    Open { address: u32, kind: Kind },
     Close,
 }
 

@@ -2,6 +2,8 @@
 ghost use Rattle.std.specs.Prelude.{◌≡◌};
 ghost use Rattle.types.specs.Refusals as spec;
 
+use crate::code::Undecoded;
+
 // By the papers' words.
 #[derive(Clone, Copy)]
 pub enum Refusal {
@@ -30,6 +32,18 @@ impl From<Refusal> for u8 {
 
     fn from(why: Refusal) -> u8 {
         why as u8
+    }
+}
+
+// Why a start is refused where no instruction is read.
+impl From<Undecoded> for Refusal {
+    ghost from_gives = { λ undecoded why. why ≡ spec.undecoded_refusal undecoded };
+
+    fn from(undecoded: Undecoded) -> Refusal {
+        match undecoded {
+            Undecoded::NotCarried => Refusal::Code,
+            Undecoded::CutOff => Refusal::CutOff,
+        }
     }
 }
 

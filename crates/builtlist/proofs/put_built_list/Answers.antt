@@ -21,26 +21,6 @@ returns-then-not-is_taken c =
       part = put_inside put (omega (arith, c.requires));
     }
 
-pub slice_bounds-marks-end : goal.slice_bounds-marks-end
-slice_bounds-marks-end c =
-    let args = c.args in
-    taken_few args.image.now args.base.now args.reset.now args.text.now _
-    c.is_taken.ensures (ap not c.if-not-is_taken.false)
-
-pub slice_bounds-put_list-end : goal.slice_bounds-put_list-end
-slice_bounds-put_list-end c =
-    let args = c.args in
-    sym (length-take-le (length args.image.now) _ (taken_few args.image.now args.base.now args.reset.now
-    args.text.now _ c.is_taken.ensures (ap not c.if-not-is_taken.false)))
-
-pub put_list-requires : goal.put_list-requires
-put_list-requires c =
-    let args = c.args in (
-      length-take-le (length args.image.now) _ (taken_few args.image.now args.base.now args.reset.now
-          args.text.now _ c.is_taken.ensures (ap not c.if-not-is_taken.false)),
-      c.requires,
-    )
-
 pub returns : goal.returns
 returns c =
     let args = c.args in

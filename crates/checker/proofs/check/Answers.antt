@@ -17,5 +17,12 @@ starts_verdict-requires c =
     let args = c.args in
     let held = shown (marks_tests (length args.image.now) args.marks.now args.base args.reset)
     (sym c.test_marks.ensures ∙ c.in_default.is) in
+    (right_length (length args.image.now) (length args.marks.now) held.0).same
+
+pub invariant_of-starts_verdict : goal.invariant_of-starts_verdict
+invariant_of-starts_verdict c =
+    let args = c.args in
+    let held = shown (marks_tests (length args.image.now) args.marks.now args.base args.reset)
+    (sym c.test_marks.ensures ∙ c.in_default.is) in
     let long = right_length (length args.image.now) (length args.marks.now) held.0 in
-    rw long.same (base_whole args.base (length args.image.now) held.1.0)
+    record { low = rw long.same (base_whole args.base (length args.image.now) held.1.0) }

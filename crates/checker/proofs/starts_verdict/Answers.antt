@@ -1,5 +1,5 @@
-use Rattle.std.proofs.Common.{length, refl, arith}
-use Rattle.checker.proofs.Steps.{step_result_lem, few_bytes, goes_on, passed_past}
+use Rattle.std.proofs.Common.{length, refl, sym, ◌∙◌, arith}
+use Rattle.checker.proofs.Steps.{step_failed, few_bytes, goes_on, passed_past}
 use Rattle.acceptance.specs.Verdict as spec
 use Rattle.acceptance.specs.Verdict.{bad_start}
 use Rattle.prelude.proofs.First.{passed_to}
@@ -9,35 +9,35 @@ use Rattle.checker.proofs.starts_verdict.Goals as goal
 pub returns-in-Err : goal.returns-in-Err
 unfolding bad_start
 returns-in-Err c =
-    let args = c.args in
-    let i = c.loop-i.i in
-    let failed = step_result_lem args.image.now args.marks.now args.base i c.step_at-step.result
-    c.step_at-step.ensures c.in-Err.is in
-    let here = passed_to (spec.broken_at args.image.now args.marks.now args.base) 0 i
-    (length args.marks.now) c.loop-i.invariant.0 (omega (arith, c.loop-i-test.true)) (rw failed refl) in
-    stopped_at args.image.now args.marks.now args.base i _ here failed
+    let image = c.args.image.now in
+    let marks = c.args.marks.now.bytes.now in
+    let base = c.args.marks.now.base in
+    let at = c.loop-at.at in
+    let failed = step_failed image marks base at _ (sym c.in-Err.is ∙ c.step_at.ensures) in
+    let here = passed_to (spec.broken_at image marks base) 0 at
+    (length marks) c.loop-at.invariant.0 (omega (arith, c.loop-at-test.true)) (rw failed refl) in
+    stopped_at image marks base at _ here failed
 
-pub loop-i-smaller : goal.loop-i-smaller
-loop-i-smaller c =
-    let args = c.args in
-    let few = few_bytes args.image.now args.marks.now args.base c.loop-i.i c.step_at-step.result
-    c.step_at-step.ensures in
-    omega (arith, few.0, c.loop-i-test.true)
+pub loop-at-smaller : goal.loop-at-smaller
+loop-at-smaller c =
+    let few = few_bytes c.args.image.now c.args.marks.now.bytes.now c.args.marks.now.base c.loop-at.at _
+    (sym c.in-Ok.is ∙ c.step_at.ensures) in
+    omega (arith, few.0, c.loop-at-test.true)
 
-pub loop-i-preserved : goal.loop-i-preserved
-loop-i-preserved c =
-    let args = c.args in
-    let few = few_bytes args.image.now args.marks.now args.base c.loop-i.i c.step_at-step.result
-    c.step_at-step.ensures in (
-      goes_on args.image.now args.marks.now args.base c.loop-i.i c.step_at-step.result
-          c.step_at-step.ensures c.in_default.is c.loop-i.invariant.0,
-      omega (arith, few.1, c.loop-i-test.true),
+pub loop-at-preserved : goal.loop-at-preserved
+loop-at-preserved c =
+    let step = sym c.in-Ok.is ∙ c.step_at.ensures in
+    let few = few_bytes c.args.image.now c.args.marks.now.bytes.now c.args.marks.now.base c.loop-at.at _ step in (
+      goes_on c.args.image.now c.args.marks.now.bytes.now c.args.marks.now.base c.loop-at.at _ step
+          c.loop-at.invariant.0,
+      omega (arith, few.1, c.loop-at-test.true),
     )
 
 pub returns : goal.returns
 unfolding bad_start
 returns c =
-    let args = c.args in
-    passed_over args.image.now args.marks.now args.base
-    (passed_past (spec.broken_at args.image.now args.marks.now args.base) c.loop-i.i
-    (length args.marks.now) c.loop-i.invariant.0 c.loop-i-test.false)
+    let image = c.args.image.now in
+    let marks = c.args.marks.now.bytes.now in
+    passed_over image marks c.args.marks.now.base
+    (passed_past (spec.broken_at image marks c.args.marks.now.base) c.loop-at.at
+    (length marks) c.loop-at.invariant.0 c.loop-at-test.false)

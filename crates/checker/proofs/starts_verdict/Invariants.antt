@@ -4,8 +4,9 @@ use Rattle.acceptance.specs.Verdict as spec
 use Rattle.prelude.proofs.First.{Passed}
 use Rattle.checker.proofs.starts_verdict.Given as goal
 
-abbrev pub invariant-loop-i : goal.invariant-loop-i
-invariant-loop-i l = Passed (spec.broken_at l.image l.marks l.base) 0 l.i × (l.i ≤ length l.marks + 6)
+abbrev pub invariant-loop-at : goal.invariant-loop-at
+invariant-loop-at l =
+    Passed (spec.broken_at l.image l.marks.bytes.now l.marks.base) 0 l.at × (l.at ≤ length l.marks.bytes.now + 6)
 
-abbrev pub decreases-loop-i : goal.decreases-loop-i
-decreases-loop-i l = length l.marks - l.i
+abbrev pub decreases-loop-at : goal.decreases-loop-at
+decreases-loop-at l = length l.marks.bytes.now - l.at

@@ -1,32 +1,13 @@
--- The line is made apart and put where it fits.
-use mathlib.Core.Path.{sym}
-use native.Mathlib.Omega.{arith}
-use lib.Seq.{length-take-le}
-use Rattle.explainer.proofs.Answers.{no_room, written}
+-- The page is left, or the line stands at its front.
+use Rattle.std.proofs.Common.{rules}
+use Rattle.reports.specs.Explanation as spec
+use Rattle.reports.specs.PrintedPage.{page_after}
 use Rattle.explainer.proofs.explain.Goals as goal
 
-pub returns-then-page-size : goal.returns-then-page-size
-returns-then-page-size c =
-    let said = no_room c.args.image.now c.args.marks.now c.args.base c.args.reset
-    c.args.page.now c.put_line-size.ensures c.if-page-size.true in
-    record { answer = said.0; page = said.1.0; short = said.1.1 }
+pub returns-then-page-text-clause-page : goal.returns-then-page-text-clause-page
+unfolding spec.page_explained spec.explained page_after
+returns-then-page-text-clause-page c = search rules
 
-pub slice_bounds-put_bytes-end : goal.slice_bounds-put_bytes-end
-slice_bounds-put_bytes-end c =
-    sym (length-take-le c.put_line-size.result c.put_line-size.new.line
-    (omega (arith, c.put_line-size.ensures.most, c.put_line-size.ensures.same)))
-
-pub put_bytes-requires : goal.put_bytes-requires
-put_bytes-requires c =
-    omega (
-      arith,
-      length-take-le c.put_line-size.result c.put_line-size.new.line
-          (omega (arith, c.put_line-size.ensures.most, c.put_line-size.ensures.same)),
-      c.if-page-size.false,
-    )
-
-pub returns : goal.returns
-returns c =
-    let said = written c.args.image.now c.args.marks.now c.args.base c.args.reset
-    c.args.page.now c.put_line-size.ensures c.if-page-size.false c.put_bytes.ensures in
-    record { answer = said.0; page = said.1.0; short = said.1.1 }
+pub returns-clause-page : goal.returns-clause-page
+unfolding spec.page_explained spec.explained page_after
+returns-clause-page c = search rules

@@ -1,24 +1,23 @@
-use native.Mathlib.Omega.{arith}
-use Rattle.fields.proofs.Writing.{all_left, one_less, none_left}
+use Rattle.std.proofs.Common.{arith, ◌-◌, ◌+◌, ◌≡◌}
+use lib.Seq.{drop-drop, sets-eq}
+use mathlib.Core.List.{append_assoc}
+use Rattle.fields.specs.Fields.{low_bytes}
+use Rattle.fields.proofs.Fields.{length_low}
+use Rattle.fields.proofs.Writing.{one_less, none_left}
 use Rattle.fields.proofs.put_field.Goals as goal
 
-pub loop-i-init : goal.loop-i-init
-loop-i-init c = all_left c.args.bytes.now c.args.at c.args.size c.args.given
-
-pub overflow_add-bytes : goal.overflow_add-bytes
-overflow_add-bytes c = omega (arith, c.loop-i.invariant.1, c.requires)
-
-pub bounds-bytes-at : goal.bounds-bytes-at
-bounds-bytes-at c = omega (arith, c.loop-i.invariant.1, c.requires)
-
-pub loop-i-preserved : goal.loop-i-preserved
-loop-i-preserved c =
-    let loop = c.loop-i in
-    one_less c.args.bytes.now c.args.at c.args.size c.args.given loop.bytes
-    loop.value loop.i c.loop-i-test.true loop.invariant
+pub loop-byte-preserved : goal.loop-byte-preserved
+loop-byte-preserved c =
+    let loop = c.loop-byte in
+    one_less _ c.args.size c.args.given loop.byte-items loop.value loop.byte-index (omega arith) loop.invariant
 
 pub returns : goal.returns
 returns c =
-    let loop = c.loop-i in
-    none_left c.args.bytes.now c.args.at c.args.size c.args.given loop.bytes
-    loop.value loop.i c.loop-i-test.false loop.invariant
+    let loop = c.loop-byte in
+    let a = c.args in
+    let written = none_left _ a.size a.given loop.byte-items loop.value loop.byte-index (omega arith) (omega arith)
+    loop.invariant in
+    let long = length_low a.size a.given in
+    let size : a.at + a.size - a.at ≡ a.size = omega arith in
+    let put = sets-eq (low_bytes a.size a.given) a.bytes.now a.at (omega (arith, long, c.requires)) in
+    rw (written, size, put, long, append_assoc, drop-drop)

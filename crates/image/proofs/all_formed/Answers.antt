@@ -1,29 +1,16 @@
-use native.Mathlib.Omega.{arith}
-use lib.ListN.{length, get_or}
-use Rattle.image.proofs.Forms.{nothing_told, one_more_told, all_told_at, malformed_unformed}
-use Rattle.acceptance.specs.Verdict as spec
-use Rattle.acceptance.specs.Verdict.{bad_mark}
+-- What is remembered of all marks says whether each has the form.
+use Rattle.std.proofs.Common.{rules, ◌≡◌, ◌∙◌, sym, refl, ap, eqb}
+use Rattle.std.specs.List.{fold}
+use Rattle.prelude.proofs.Searches.{none_by_all}
 use Rattle.acceptance.specs.Image.{is_formed}
-use mathlib.Core.Path.{◌∙◌}
+use Rattle.acceptance.specs.Verdict.{bad_mark, unformed_at}
+use Rattle.image.proofs.Forms.{told, all_told}
 use Rattle.image.proofs.all_formed.Goals as goal
-
-pub loop-i-init : goal.loop-i-init
-loop-i-init c = (nothing_told (spec.unformed_at c.args.marks.now), omega arith)
-
-pub loop-i-preserved : goal.loop-i-preserved
-loop-i-preserved c = (
-  one_more_told (spec.unformed_at c.args.marks.now) c.loop-i.bad c.loop-i.i c.malformed-bad.result
-      (c.malformed-bad.ensures ∙
-      malformed_unformed
-      (is_formed (get_or c.args.marks.now c.loop-i.i 0))) c.loop-i.invariant.0,
-  omega (
-    arith,
-    c.loop-i-test.true,
-  ),
-)
 
 pub returns : goal.returns
 unfolding bad_mark
 returns c =
-    all_told_at (spec.unformed_at c.args.marks.now) c.loop-i.bad c.loop-i.i (length c.args.marks.now)
-    c.loop-i.invariant.0 c.loop-i.invariant.1 c.loop-i-test.false
+    let marks = c.args.marks.now in
+    let folded : c.fold.result ≡ fold told 0 marks = search rules in
+    ap (λ n. eqb n 0) folded ∙ all_told marks
+    ∙ sym (none_by_all (unformed_at marks) is_formed marks (λ k inside. refl))

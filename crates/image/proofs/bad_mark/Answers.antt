@@ -1,34 +1,19 @@
-use Rattle.prelude.proofs.First.{none_passed, one_more_passed, passed_to, passed_all}
-use Rattle.acceptance.specs.Verdict.{bad_mark}
-use Rattle.acceptance.specs.Verdict as spec
-use lib.ListN.{length}
-use native.Mathlib.Omega.{arith}
-use mathlib.Core.Path.{ap}
-use mathlib.Core.Bool.{not}
+-- The place that the library finds is the definition's.
+use Rattle.std.proofs.Common.{rules, ◌≡◌, ◌∙◌, sym, refl, not, true, false}
+use Rattle.std.proofs.lemmas.Iterator.{IsFirst-from_position, YieldsList-from_slice}
+use borrow.Author.Tests.{tests}
+use Rattle.prelude.proofs.Searches.{first_by_position}
+use Rattle.acceptance.specs.Image.{is_formed}
+use Rattle.acceptance.specs.Verdict.{bad_mark, unformed_at}
 use Rattle.image.proofs.bad_mark.Goals as goal
-
-pub loop-i-init : goal.loop-i-init
-loop-i-init c = (none_passed (spec.unformed_at c.args.marks.now) 0, omega arith)
-
-pub returns-then-not-is_formed : goal.returns-then-not-is_formed
-unfolding bad_mark
-returns-then-not-is_formed c =
-    passed_to (spec.unformed_at c.args.marks.now) 0 c.loop-i.i (length c.args.marks.now)
-    c.loop-i.invariant.0 (omega (arith, c.loop-i-test.true))
-    (rw (c.is_formed.ensures, c.byte_at.ensures) at (ap not c.if-not-is_formed.true))
-
-pub loop-i-preserved : goal.loop-i-preserved
-loop-i-preserved c = (
-  one_more_passed (spec.unformed_at c.args.marks.now) 0 c.loop-i.i c.loop-i.invariant.0 (rw (
-    c.is_formed.ensures,
-    c.byte_at.ensures,
-  ) at (ap not c.if-not-is_formed.false)),
-  omega arith,
-)
 
 pub returns : goal.returns
 unfolding bad_mark
 returns c =
-    passed_all (spec.unformed_at c.args.marks.now) 0 c.loop-i.i (length c.args.marks.now) c.loop-i.invariant.0
-    (omega (arith, c.loop-i.invariant.1))
-    (omega (arith, c.loop-i-test.false))
+    let marks = c.args.marks.now in
+    let found =
+    IsFirst-from_position _ _ c.position.result (λ m. not (is_formed m) ≡ true) (λ m. not (is_formed m) ≡ false)
+    c.position.ensures.ran (YieldsList-from_slice marks cc) (λ x q k. search (rules, tests))
+    (λ x q k. search (rules, tests)) in
+    c.unwrap_or.ensures
+    ∙ sym (first_by_position (unformed_at marks) (λ m. not (is_formed m)) marks (λ k inside. refl) _ found)

@@ -26,8 +26,8 @@ locate-requires c =
     accepted_zero _ (sym c.m7700_check-refusal.ensures ∙ c.if-refusal-ne0.false) in
     (args.reset, accepted)
 
-pub pack_located-requires : goal.pack_located-requires
-pack_located-requires c =
+pub pack_count-requires : goal.pack_count-requires
+pack_count-requires c =
     let args = c.args in
     let accepted : verdict args.image.now args.marks.now args.base args.reset ≡ Ok tt =
     accepted_zero _ (sym c.m7700_check-refusal.ensures ∙ c.if-refusal-ne0.false) in
@@ -42,4 +42,4 @@ returns c =
     let accepted : verdict args.image.now args.marks.now args.base args.reset ≡ Ok tt =
     accepted_zero _ (sym c.m7700_check-refusal.ensures ∙ c.if-refusal-ne0.false) in
     let done = c.locate.ensures args.reset accepted in
-    record { answer = c.pack_located.ensures ∙ ap packed_located done.0; places = done.1 }
+    record { answer = c.pack_count.ensures ∙ ap packed_located done.0; places = done.1 }

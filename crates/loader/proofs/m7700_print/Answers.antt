@@ -15,8 +15,8 @@ returns-then-refusal-ne0 c =
     let args = c.args in
     when_refused args.image.now args.marks.now args.base args.reset c.m7700_check-refusal.result
     c.m7700_check-refusal.ensures c.if-refusal-ne0.true (λ why at e told.
-    let left = refused_page args.image.now args.marks.now args.base args.reset args.page.now why at
-    e in
+    let left = refused_page args.image.now args.marks.now args.base args.reset args.page.now
+    (record { why = why; offset = at }) e in
     record { answer = c.pass_on.ensures ∙ told ∙ ap packed_printed left.0; page = left.1 })
 
 pub print_accepted-requires : goal.print_accepted-requires
@@ -26,8 +26,8 @@ print_accepted-requires c =
     accepted_zero _ (sym c.m7700_check-refusal.ensures ∙ c.if-refusal-ne0.false) in
     (args.reset, accepted)
 
-pub pack_printed-requires : goal.pack_printed-requires
-pack_printed-requires c =
+pub pack_count-requires : goal.pack_count-requires
+pack_count-requires c =
     let args = c.args in
     let accepted : verdict args.image.now args.marks.now args.base args.reset ≡ Ok tt =
     accepted_zero _ (sym c.m7700_check-refusal.ensures ∙ c.if-refusal-ne0.false) in
@@ -44,4 +44,4 @@ returns c =
     let done = judged_page args.image.now args.marks.now args.base args.reset args.page.now
     (Ok tt) c.print_accepted.new.page c.print_accepted.result
     accepted c.print_accepted.ensures.answer c.print_accepted.ensures.page in
-    record { answer = c.pack_printed.ensures ∙ ap packed_printed done.0; page = done.1 }
+    record { answer = c.pack_count.ensures ∙ ap packed_printed done.0; page = done.1 }

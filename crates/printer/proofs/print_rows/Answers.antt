@@ -12,7 +12,7 @@ pub returns-then-page-size : goal.returns-then-page-size
 returns-then-page-size c =
     let args = c.args in
     let said =
-    short_page (page_text args.image.now args.marks.now args.base) args.page.now (args.starts * 36)
+    short_page (page_text args.view.image.now args.view.marks.now args.view.base) args.page.now (args.starts * 36)
     c.requires.size c.if-page-size.true in
     record { answer = said.0; page = said.1 }
 
@@ -24,6 +24,6 @@ pub returns : goal.returns
 returns c =
     let args = c.args in
     let said =
-    rows_printed (page_text args.image.now args.marks.now args.base) args.page.now (args.starts * 36)
+    rows_printed (page_text args.view.image.now args.view.marks.now args.view.base) args.page.now (args.starts * 36)
     c.requires.size c.if-page-size.false c.put_rows.new.page c.put_rows.ensures in
     record { answer = said.0; page = said.1 }

@@ -1,30 +1,24 @@
-use native.Mathlib.Omega.{arith}
-use Rattle.execution.specs.Run.{call_broken}
-use Rattle.prelude.proofs.First.{none_passed, one_more_passed}
-use Rattle.statebytes.proofs.Fitting.{one_broken, none_broken}
-use mathlib.Core.Path.{ap}
-use mathlib.Core.Bool.{not}
+-- All fit exactly where none of them is broken.
+use Rattle.std.proofs.Common.{rules, arith, ◌≡◌, ◌∙◌, sym, refl, ◌<◌}
+use Rattle.std.proofs.lemmas.Iterator.{YieldsList-from_slice}
+use Rattle.std.proofs.lemmas.Iterator.Search.{all_from_yields_List}
+use lib.ListN.{length, take}
+use lib.Seq.{length-take-le, get_or-take}
+use Rattle.execution.specs.Run.{call_broken, call_fits, calls_fit}
+use Rattle.prelude.proofs.Searches.{none_by_all}
 use Rattle.statebytes.proofs.calls_fit.Goals as goal
 
-pub loop-i-init : goal.loop-i-init
-loop-i-init c = (none_passed (call_broken c.args.calls.now) 0, omega arith)
-
-pub returns-then-not-call_fits : goal.returns-then-not-call_fits
-returns-then-not-call_fits c =
-    let loop = c.loop-i in
-    one_broken c.args.calls.now c.args.depth loop.i loop.invariant.0
-    c.loop-i-test.true (rw c.call_fits.ensures at (ap not c.if-not-call_fits.true))
-
-pub loop-i-preserved : goal.loop-i-preserved
-loop-i-preserved c =
-    let loop = c.loop-i in (
-      one_more_passed (call_broken c.args.calls.now) 0 loop.i loop.invariant.0
-          (rw c.call_fits.ensures at (ap not c.if-not-call_fits.false)),
-      omega arith,
-    )
-
 pub returns : goal.returns
+unfolding calls_fit
 returns c =
-    let loop = c.loop-i in
-    none_broken c.args.calls.now c.args.depth loop.i loop.invariant.0 loop.invariant.1
-    c.loop-i-test.false
+    let calls = c.args.calls.now in
+    let depth = c.args.depth in
+    let asked = take depth calls in
+    let long : length asked ≡ depth = length-take-le depth calls (omega arith) in
+    let fits =
+    all_from_yields_List call_fits _ _ c.all.result c.all.ensures.ran (YieldsList-from_slice asked cc)
+    (λ x b q k. search rules) in
+    let none =
+    none_by_all (call_broken calls) call_fits asked
+    (λ k inside. let below : k < depth = omega (arith, long) in rw get_or-take refl) in
+    fits ∙ sym (rw long at none)

@@ -9,7 +9,7 @@ returns c =
       c.word_at-9.ensures,
       c.single_at-2.ensures,
       c.word_at-8.ensures,
-      c.from_number.ensures,
+      c.from.ensures,
       c.word_at-7.ensures,
       c.single_at.ensures,
       c.word_at-6.ensures,

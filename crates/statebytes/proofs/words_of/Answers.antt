@@ -5,5 +5,5 @@ use Rattle.statebytes.proofs.words_of.Goals as goal
 
 pub returns : goal.returns
 returns c =
-    words_head c.args.core c.number.result c.word_of.result c.number.ensures
+    words_head c.args.core c.from.result c.word_of.result c.from.ensures
     c.word_of.ensures (omega arith)

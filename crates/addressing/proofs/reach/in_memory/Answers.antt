@@ -1,35 +1,42 @@
 -- The address first, then, unless it is asked alone, the data there.
+use mathlib.Core.Path.{sym, refl, ◌∙◌}
 use Rattle.cpu.specs.File.{registers_of}
-use Rattle.semantics.specs.Memory.{memory}
-use Rattle.addressing.proofs.Pointers.{data_nowhere, address_found, data_found, data_missing}
+use Rattle.memory.proofs.Views.{read_on, read_off}
+use Rattle.semantics.specs.Addressing.{address_of, data_at}
+use Rattle.semantics.specs.Memory.{memory, ret, ◌>>=◌, read_data}
+use Rattle.addressing.proofs.Pointers.{nowhere}
 use Rattle.addressing.proofs.reach.in_memory.Goals as goal
 
-pub returns-in_default : goal.returns-in_default
-returns-in_default c =
-    let args = c.args in
-    data_nowhere (memory args.ram.now args.image.now args.base) args.mode
-    (registers_of args.registers.now) args.short args.operand _ c.address_of-reached.ensures args.alone
-    c.in_default.is
+pub returns-in_err-address : goal.returns-in_err-address
+returns-in_err-address c =
+    let a = c.args in
+    rw c.from_residual.ensures
+    (nowhere (memory a.ram.now a.image.now a.base) a.mode (registers_of a.registers.now) a.short a.operand a.alone
+    c.in_err-address.ensures)
 
 pub returns-then-alone : goal.returns-then-alone
 returns-then-alone c =
-    let args = c.args in
-    address_found (memory args.ram.now args.image.now args.base) args.mode
-    (registers_of args.registers.now) args.short args.operand _ c.address_of-reached.ensures args.alone
-    c.if-alone.true _ c.in-At.is
+    let a = c.args in
+    rw c.if-alone.true
+    (sym (read_on (memory a.ram.now a.image.now a.base) (address_of a.mode (registers_of a.registers.now) a.operand)
+    (λ at. ret (data_at at 0)) _ c.in_ok-address.ensures _ refl))
 
-pub returns-in-Word : goal.returns-in-Word
-returns-in-Word c =
-    let args = c.args in
-    data_found (memory args.ram.now args.image.now args.base) args.mode
-    (registers_of args.registers.now) args.short args.operand _ c.address_of-reached.ensures _
-    c.in-At.is _ c.data_from-read.ensures args.alone
-    c.if-alone.false _ c.in-Word.is
+pub returns-in_err-value : goal.returns-in_err-value
+returns-in_err-value c =
+    let a = c.args in
+    let m = memory a.ram.now a.image.now a.base in
+    rw (c.from_residual-in_err-value.ensures, c.if-alone.false)
+    (sym (read_on m (address_of a.mode (registers_of a.registers.now) a.operand)
+    (λ at. read_data a.short at >>= (λ v. ret (data_at at v))) _ c.in_ok-address.ensures _ refl
+    ∙ read_off m (read_data a.short c.in_ok-address.address) (λ v. ret (data_at c.in_ok-address.address v)) _
+    c.in_err-value.ensures refl))
 
-pub returns-in-Unmapped : goal.returns-in-Unmapped
-returns-in-Unmapped c =
-    let args = c.args in
-    data_missing (memory args.ram.now args.image.now args.base) args.mode
-    (registers_of args.registers.now) args.short args.operand _ c.address_of-reached.ensures _
-    c.in-At.is _ c.data_from-read.ensures args.alone
-    c.if-alone.false c.in-Unmapped.is
+pub returns : goal.returns
+returns c =
+    let a = c.args in
+    let m = memory a.ram.now a.image.now a.base in
+    rw c.if-alone.false
+    (sym (read_on m (address_of a.mode (registers_of a.registers.now) a.operand)
+    (λ at. read_data a.short at >>= (λ v. ret (data_at at v))) _ c.in_ok-address.ensures _ refl
+    ∙ read_on m (read_data a.short c.in_ok-address.address) (λ v. ret (data_at c.in_ok-address.address v)) _
+    c.in_ok-value.ensures _ refl))

@@ -6,13 +6,10 @@ use Rattle.machine.proofs.Operating.{jumped}
 use Rattle.machine.proofs.flows.jumps.Goals as goal
 
 pub put-requires : goal.put-requires
-put-requires c = (c.requires.2, rw c.leaves.ensures (omega arith, omega arith))
+put-requires c = rw c.leaves.ensures (omega arith, omega arith)
 
 pub returns : goal.returns
 returns c =
-    let a = c.args in (
-      λ m. jumped a.i m a.place a.depth a.registers.now c.leaves.result
-          c.leaves.ensures c.put.new.registers c.put.ensures.0
-          c.target.result (target_address (instruction a.i) a.place) c.target.ensures,
-      c.put.ensures.1,
-    )
+    let a = c.args in
+    λ m. jumped a.i m a.i.place a.depth a.registers.now c.leaves.result c.leaves.ensures c.put.new.registers
+    c.put.ensures c.target.result (target_address (instruction a.i) a.i.place) c.target.ensures

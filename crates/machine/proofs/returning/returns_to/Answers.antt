@@ -8,42 +8,29 @@ use Rattle.machine.proofs.Calling.{placed, puts_s}
 use Rattle.machine.proofs.Calling.{stops_other_kind, stops_other_address, returns_so}
 use Rattle.machine.proofs.returning.returns_to.Goals as goal
 
-pub returns-then-opened-kind_number : goal.returns-then-opened-kind_number
-returns-then-opened-kind_number c = (
-  λ m calls. stops_other_kind c.args.i m c.args.place c.args.depth
-      c.args.registers.now calls c.args.opened c.args.kind c.args.address
-      c.kind_number.result
-      c.stopped-then-opened-kind_number.result c.kind_number.ensures c.stopped-then-opened-kind_number.ensures
-      c.if-opened-kind_number.true,
-  c.requires,
-)
+pub returns-then-opened-from : goal.returns-then-opened-from
+returns-then-opened-from c =
+    let a = c.args in
+    λ m calls. stops_other_kind a.i m a.i.place a.depth a.registers.now calls a.opened a.kind a.address
+    c.from.result c.from.ensures c.if-opened-from.true
 
 pub returns-then-opened-address : goal.returns-then-opened-address
-returns-then-opened-address c = (
-  λ m calls. stops_other_address c.args.i m c.args.place c.args.depth
-      c.args.registers.now calls c.args.opened c.args.kind c.args.address
-      c.stopped-then-opened-address.result c.stopped-then-opened-address.ensures c.if-opened-address.true,
-  c.requires,
-)
+returns-then-opened-address c =
+    let a = c.args in
+    λ m calls. stops_other_address a.i m a.i.place a.depth a.registers.now calls a.opened a.kind a.address
+    c.if-opened-address.true
 
 pub put-requires : goal.put-requires
-put-requires c = (
-  c.requires,
-  placed c.puts.result c.pulled_at-s.result (get_or c.args.registers.now 7 0)
-      c.puts.ensures,
-)
+put-requires c = placed c.puts.result c.pulled_at-s.result (get_or c.args.registers.now 7 0) c.puts.ensures
 
 pub returns : goal.returns
-returns c = (
-  λ m calls. returns_so c.args.i m c.args.place c.args.depth
-      c.args.registers.now calls c.args.opened c.args.kind c.args.address
-      c.kind_number.result c.put.new.registers
-      c.kind_number.ensures (omega arith) c.if-opened-kind_number.false
-      c.if-opened-address.false
-      (puts_s c.puts.result c.pulled_at-s.result (get_or c.args.registers.now 7 0)
-      c.puts.ensures c.args.i c.args.registers.now _ _ c.put.ensures.0
-      (c.pulled_at-s.ensures
-      ∙ ap (λ n. (get_or c.args.registers.now 4 0 + n) % bank_size) c.return_bytes.ensures)
-      refl),
-  c.put.ensures.1,
-)
+returns c =
+    let a = c.args in
+    λ m calls. returns_so a.i m a.i.place a.depth a.registers.now calls a.opened a.kind a.address
+    c.from.result c.put.new.registers c.from.ensures (omega arith) c.if-opened-from.false
+    c.if-opened-address.false
+    (puts_s c.puts.result c.pulled_at-s.result (get_or a.registers.now 7 0)
+    c.puts.ensures a.i a.registers.now _ _ c.put.ensures
+    (c.pulled_at-s.ensures
+    ∙ ap (λ n. (get_or a.registers.now 4 0 + n) % bank_size) c.return_bytes.ensures)
+    refl)

@@ -6,51 +6,33 @@ use Rattle.machine.proofs.step.perform.Goals as goal
 
 pub returns-in-Next : goal.returns-in-Next
 returns-in-Next c =
-    let args = c.args in
-    let m = memory args.ram.now args.image.now args.base in
-    let so =
-    by_operation args.i m args.place args.depth args.registers.now args.calls.now
-    c.requires.1 c.flow_of-flow.result c.flow_of-flow.ensures _ c.in-Next.is
-    c.is_branch.result c.is_branch.ensures
-    (c.operates.ensures.0 args.calls.now) in
-    (so, c.operates.ensures.1)
+    let a = c.args in
+    by_operation a.i (memory a.ram.now a.image.now a.base) a.i.place a.depth a.registers.now a.calls.now a.i.inside
+    c.flow_of-flow.result c.flow_of-flow.ensures _ c.in-Next.is c.is_branch.result c.is_branch.ensures
+    (c.operates.ensures a.calls.now)
 
 pub returns-in-Jump : goal.returns-in-Jump
 returns-in-Jump c =
-    let args = c.args in
-    let m = memory args.ram.now args.image.now args.base in
-    let so =
-    by_jump args.i m args.place args.depth args.registers.now args.calls.now
-    c.requires.1 c.flow_of-flow.result c.flow_of-flow.ensures _ c.in-Jump.is
-    (c.jumps.ensures.0 m args.calls.now) in
-    (so, c.jumps.ensures.1)
+    let a = c.args in
+    let m = memory a.ram.now a.image.now a.base in
+    by_jump a.i m a.i.place a.depth a.registers.now a.calls.now a.i.inside
+    c.flow_of-flow.result c.flow_of-flow.ensures _ c.in-Jump.is (c.jumps.ensures m a.calls.now)
 
 pub returns-in-Call : goal.returns-in-Call
 returns-in-Call c =
-    let args = c.args in
-    let m = memory args.ram.now args.image.now args.base in
-    let so =
-    by_call args.i m args.place args.depth args.registers.now args.calls.now
-    c.requires.1 c.flow_of-flow.result c.flow_of-flow.ensures _ _ c.in-Call.is
-    c.calls_to.ensures.0 in
-    (so, c.calls_to.ensures.1)
+    let a = c.args in
+    by_call a.i (memory a.ram.now a.image.now a.base) a.i.place a.depth a.registers.now a.calls.now a.i.inside
+    c.flow_of-flow.result c.flow_of-flow.ensures _ _ c.in-Call.is c.calls_to.ensures
 
 pub returns-in-Return : goal.returns-in-Return
 returns-in-Return c =
-    let args = c.args in
-    let m = memory args.ram.now args.image.now args.base in
-    let so =
-    by_return args.i m args.place args.depth args.registers.now args.calls.now
-    c.requires.1 c.flow_of-flow.result c.flow_of-flow.ensures _ _ c.last_opened-opened.result
-    c.in-Return.is c.last_opened-opened.ensures (c.returns.ensures.0 args.calls.now) in
-    (so, c.returns.ensures.1)
+    let a = c.args in
+    by_return a.i (memory a.ram.now a.image.now a.base) a.i.place a.depth a.registers.now a.calls.now a.i.inside
+    c.flow_of-flow.result c.flow_of-flow.ensures _ _ c.last_opened-opened.result
+    c.in-Return.is c.last_opened-opened.ensures (c.returns.ensures a.calls.now)
 
 pub returns-in-Halt : goal.returns-in-Halt
 returns-in-Halt c =
-    let args = c.args in
-    let m = memory args.ram.now args.image.now args.base in
-    let so =
-    by_halt args.i m args.place args.depth args.registers.now args.calls.now
-    c.requires.1 c.flow_of-flow.result c.flow_of-flow.ensures _ c.stopped.result
-    c.in-Halt.is c.stopped.ensures refl in
-    (so, c.requires.3)
+    let a = c.args in
+    by_halt a.i (memory a.ram.now a.image.now a.base) a.i.place a.depth a.registers.now a.calls.now a.i.inside
+    c.flow_of-flow.result c.flow_of-flow.ensures _ c.in-Halt.is refl

@@ -1,58 +1,44 @@
 -- A whole instruction is performed; anything else that is fetched is a stop.
-use Rattle.machine.proofs.Stepping.{step_whole, step_uncarried, step_outside}
-use Rattle.machine.proofs.Finishing.{place_kept}
-use Rattle.machine.specs.StepResults.{core_at}
-use Rattle.semantics.specs.Memory.{memory}
-use Rattle.types.specs.Addresses.{address_limit}
+use mathlib.Core.Path.{◌≡◌, refl, sym, ap, ◌∙◌}
 use Prim.Native.Nat.{◌%◌, ◌<◌}
 use native.Mathlib.Omega.{arith}
-use mathlib.Core.Path.{refl, sym}
+use Rattle.std.specs.Prelude.{Err}
+use Rattle.types.specs.Addresses.{address_limit}
+use Rattle.semantics.specs.Memory.{memory}
+use Rattle.machine.specs.StepResults.{core_at}
+use Rattle.std.proofs.lemmas.Result.{IfOk-at_ok}
+use Rattle.machine.proofs.Finishing.{place_kept, left_kept}
+use Rattle.machine.proofs.Stepping.{step_whole, step_uncarried, step_outside}
 use Rattle.machine.proofs.step.step_in.Goals as goal
-
-pub perform-requires : goal.perform-requires
-perform-requires c =
-    let pre = c.requires in
-    let kept = rw c.in-Ok.is at c.fetch_at-fetched.ensures.1 in
-    (pre.1, omega arith, kept, pre.5, pre.4)
 
 pub returns-in-Ok : goal.returns-in-Ok
 returns-in-Ok c =
-    let args = c.args in
-    let m = memory args.ram.now args.image.now args.base in
-    let inside : args.place % address_limit < address_limit = omega arith in
+    let a = c.args in
+    let inside : a.place % address_limit < address_limit = omega arith in
     let is-fetched =
-    c.fetch_at-fetched.ensures.0 args.ram.now (core_at (args.place % address_limit) args.depth args.registers.now)
-    (sym (place_kept (args.place % address_limit) args.depth args.registers.now inside)) refl in
-    let so =
-    step_whole m args.place args.depth args.registers.now args.calls.now
-    c.fetch_at-fetched.result is-fetched _ _ c.in-Ok.is
-    c.perform.ensures.0 in
-    (so, c.perform.ensures.1)
+    c.fetch_at.ensures.fetched a.ram.now (core_at (a.place % address_limit) a.depth a.registers.now)
+    (sym (place_kept (a.place % address_limit) a.depth a.registers.now inside)) refl in
+    step_whole (memory a.ram.now a.image.now a.base) a.place a.depth a.registers.now a.calls.now c.fetch_at.result
+    is-fetched _ c.in-Ok.i c.in-Ok.is
+    (left_kept a.place a.depth c.perform.result c.perform.new.registers c.perform.new.calls c.perform.new.ram
+    ∙ rw (← IfOk-at_ok (λ i. i.place ≡ a.place % address_limit) c.in-Ok.is c.fetch_at.ensures.here) c.perform.ensures)
 
-pub returns-in-NotCarried : goal.returns-in-NotCarried
-returns-in-NotCarried c =
-    let args = c.args in
-    let m = memory args.ram.now args.image.now args.base in
-    let inside : args.place % address_limit < address_limit = omega arith in
+pub returns-in-Err-NotCarried : goal.returns-in-Err-NotCarried
+returns-in-Err-NotCarried c =
+    let a = c.args in
+    let inside : a.place % address_limit < address_limit = omega arith in
     let is-fetched =
-    c.fetch_at-fetched.ensures.0 args.ram.now (core_at (args.place % address_limit) args.depth args.registers.now)
-    (sym (place_kept (args.place % address_limit) args.depth args.registers.now inside)) refl in
-    let so =
-    step_uncarried m args.place args.depth args.registers.now args.calls.now
-    c.fetch_at-fetched.result is-fetched _ c.stopped.result c.in-NotCarried.is
-    c.stopped.ensures refl in
-    (so, c.requires.5)
+    c.fetch_at.ensures.fetched a.ram.now (core_at (a.place % address_limit) a.depth a.registers.now)
+    (sym (place_kept (a.place % address_limit) a.depth a.registers.now inside)) refl in
+    step_uncarried (memory a.ram.now a.image.now a.base) a.place a.depth a.registers.now a.calls.now c.fetch_at.result
+    is-fetched _ (c.in-Err-NotCarried.is ∙ ap Err c.in-Err-NotCarried.field-0-is) refl
 
-pub returns-in-CutOff : goal.returns-in-CutOff
-returns-in-CutOff c =
-    let args = c.args in
-    let m = memory args.ram.now args.image.now args.base in
-    let inside : args.place % address_limit < address_limit = omega arith in
+pub returns-in-Err-CutOff : goal.returns-in-Err-CutOff
+returns-in-Err-CutOff c =
+    let a = c.args in
+    let inside : a.place % address_limit < address_limit = omega arith in
     let is-fetched =
-    c.fetch_at-fetched.ensures.0 args.ram.now (core_at (args.place % address_limit) args.depth args.registers.now)
-    (sym (place_kept (args.place % address_limit) args.depth args.registers.now inside)) refl in
-    let so =
-    step_outside m args.place args.depth args.registers.now args.calls.now
-    c.fetch_at-fetched.result is-fetched _ c.stopped-in-CutOff.result c.in-CutOff.is
-    c.stopped-in-CutOff.ensures refl in
-    (so, c.requires.5)
+    c.fetch_at.ensures.fetched a.ram.now (core_at (a.place % address_limit) a.depth a.registers.now)
+    (sym (place_kept (a.place % address_limit) a.depth a.registers.now inside)) refl in
+    step_outside (memory a.ram.now a.image.now a.base) a.place a.depth a.registers.now a.calls.now c.fetch_at.result
+    is-fetched _ (c.in-Err-CutOff.is ∙ ap Err c.in-Err-CutOff.field-0-is) refl

@@ -1,34 +1,19 @@
-use native.Mathlib.Omega.{arith}
+-- The place that the library finds is the definition's.
+use Rattle.std.proofs.Common.{rules, ◌≡◌, ◌∙◌, sym, true, false}
+use Rattle.std.proofs.lemmas.Iterator.{first_from_Range}
+use borrow.Author.Tests.{tests}
+use Rattle.lists.specs.MarkList as spec
 use lib.ListN.{drop}
 use lib.Seq.{get_or-drop}
-use Rattle.lists.specs.MarkList as spec
-use Rattle.prelude.proofs.First.{none_passed, one_more_passed, passed_to, passed_all}
-use borrow.Author.Tests.{eq-eqb, ne_eqb}
+use Rattle.prelude.proofs.Searches.{first_in_range}
 use Rattle.marklist.proofs.header.length_digits_shown.Goals as goal
-
-pub loop-i-init : goal.loop-i-init
-loop-i-init c = (none_passed (spec.tab_at (drop 9 c.args.text.now)) 0, omega arith)
-
-pub returns-then-byte_at-eq-TAB : goal.returns-then-byte_at-eq-TAB
-unfolding spec.length_digits_shown
-returns-then-byte_at-eq-TAB c =
-    let loop = c.loop-i in
-    let tab = eq-eqb c.byte_at.result spec.tab c.if-byte_at-eq-TAB.true in
-    passed_to (spec.tab_at (drop 9 c.args.text.now)) 0 loop.i spec.digits_of_length loop.invariant.0 (omega arith)
-    (rw (get_or-drop 9 c.args.text.now loop.i 0, ← c.byte_at.ensures) tab)
-
-pub loop-i-preserved : goal.loop-i-preserved
-loop-i-preserved c =
-    let loop = c.loop-i in
-    let other = ne_eqb c.byte_at.result spec.tab c.if-byte_at-eq-TAB.false in
-    let passed =
-    one_more_passed (spec.tab_at (drop 9 c.args.text.now)) 0 loop.i loop.invariant.0
-    (rw (get_or-drop 9 c.args.text.now loop.i 0, ← c.byte_at.ensures) other) in
-    (passed, omega arith)
 
 pub returns : goal.returns
 unfolding spec.length_digits_shown
 returns c =
-    let loop = c.loop-i in
-    passed_all (spec.tab_at (drop 9 c.args.text.now)) 0 loop.i spec.digits_of_length
-    loop.invariant.0 loop.invariant.1 c.loop-i-test.false
+    let at_tab = spec.tab_at (drop 9 c.args.text.now) in
+    let found =
+    first_from_Range _ _ _ c.find.result (λ k. at_tab k ≡ true) (λ k. at_tab k ≡ false) c.find.ensures.ran
+    (λ k q e. rw (get_or-drop 9 c.args.text.now k 0) (search (rules, tests)))
+    (λ k q e. (search rules, rw (get_or-drop 9 c.args.text.now k 0) (search (rules, tests)))) in
+    c.unwrap_or.ensures ∙ sym (first_in_range at_tab spec.digits_of_length _ found)

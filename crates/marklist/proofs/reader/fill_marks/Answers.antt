@@ -17,12 +17,12 @@ loop-i-init c =
 pub overflow_add-place : goal.overflow_add-place
 overflow_add-place c =
     let loop = c.loop-i in
-    let shown = rw (part_whole loop.place c.args.text.now) at c.mark_shown-mark.ensures in
+    let shown = rw (part_whole loop.place c.args.text.now) at c.mark_shown.ensures in
     let next =
     one_more_filled (digits_by c.args.old) c.args.text.now c.args.at c.args.address
     c.args.marks.now
-    loop.marks loop.place loop.i c.mark_shown-mark.result c.line_size-place.result
-    c.loop-i-test.true shown c.line_size-place.ensures loop.invariant.0 in
+    loop.marks loop.place loop.i c.mark_shown.result c.line_size-place.result
+    (omega (arith, loop.invariant.0.2, c.loop-i-test.true)) shown c.line_size-place.ensures loop.invariant.0 in
     omega (arith, next.1)
 
 pub loop-i-smaller : goal.loop-i-smaller
@@ -33,13 +33,12 @@ loop-i-preserved c =
     let loop = c.loop-i in
     let args = c.args in
     let count = digits_by args.old in
-    let shown = rw (part_whole loop.place args.text.now) at c.mark_shown-mark.ensures in
-    let inside = c.loop-i-test.true in
+    let shown = rw (part_whole loop.place args.text.now) at c.mark_shown.ensures in
     let size = c.line_size-place.result in (
       one_more_filled count args.text.now args.at args.address args.marks.now loop.marks loop.place
-          loop.i c.mark_shown-mark.result size inside shown c.line_size-place.ensures loop.invariant.0,
+          loop.i c.mark_shown.result size (omega (arith, loop.invariant.0.2, c.loop-i-test.true)) shown c.line_size-place.ensures loop.invariant.0,
       one_more_walked count args.text.now args.at args.address (length args.marks.now) loop.place
-          loop.i size (omega (arith, loop.invariant.0.2, inside)) (rw shown at c.line_size-place.ensures)
+          loop.i size c.loop-i-test.true (rw shown at c.line_size-place.ensures)
           loop.invariant.1,
     )
 
@@ -52,8 +51,8 @@ returns c =
     let count = digits_by args.old in
     let loop = c.loop-i in (
       all_filled count args.text.now args.at args.address args.marks.now loop.marks loop.place
-          loop.i c.loop-i-test.false loop.invariant.0,
+          loop.i (omega (arith, loop.invariant.0.2, c.loop-i-test.false)) loop.invariant.0,
       loop.invariant.1.1,
       all_walked count args.text.now args.at args.address (length args.marks.now) loop.place loop.i
-          (omega (arith, loop.invariant.0.2, c.loop-i-test.false)) loop.invariant.1,
+          c.loop-i-test.false loop.invariant.1,
     )

@@ -1,26 +1,23 @@
-use native.Mathlib.Omega.{arith}
-use Rattle.lists.specs.MarkList.{new_digits}
-use Rattle.marklist.proofs.Walks.{none_measured, one_more_measured, all_measured}
+-- The sizes of the lines, added, are the length of all, and each is small.
+use Rattle.std.proofs.Common.{rules, arith, ◌≡◌, ◌∙◌, sym}
+use Rattle.std.proofs.lemmas.Iterator.{YieldsList-from_slice}
+use Rattle.std.proofs.lemmas.Iterator.Adapters.{fits_from_length, at_most_from_yields_List}
+use Rattle.std.specs.List.{sum_by}
+use Rattle.lists.specs.MarkList.{new_digits, line_size}
+use Rattle.lists.proofs.MarkList.{size_most}
+use Rattle.marklist.proofs.Walks.{lines_measured}
 use Rattle.marklist.proofs.writer.lines_size.Goals as goal
 
-pub loop-i-init : goal.loop-i-init
-loop-i-init c = none_measured new_digits c.args.marks.now
-
-pub overflow_add-size : goal.overflow_add-size
-overflow_add-size c =
-    let loop = c.loop-i in
-    let next = one_more_measured new_digits c.args.marks.now loop.i loop.size c.line_size-size.result
-    c.loop-i-test.true c.line_size-size.ensures loop.invariant in
-    omega (arith, next.2, c.requires)
-
-pub loop-i-preserved : goal.loop-i-preserved
-loop-i-preserved c =
-    let loop = c.loop-i in
-    one_more_measured new_digits c.args.marks.now loop.i loop.size
-    c.line_size-size.result c.loop-i-test.true c.line_size-size.ensures loop.invariant
+pub sum-requires-clause-fits : goal.sum-requires-clause-fits
+sum-requires-clause-fits c =
+    fits_from_length _ _ 65_536 _
+    (at_most_from_yields_List (YieldsList-from_slice c.args.marks.now cc) c.requires)
+    c.map.ensures.closure (omega arith)
+    (λ x r q k.
+    let size : r ≡ line_size new_digits x.now = search rules in
+    (search rules, omega (arith, size, size_most new_digits x.now)))
 
 pub returns : goal.returns
-returns c =
-    let loop = c.loop-i in
-    all_measured new_digits c.args.marks.now loop.i loop.size c.loop-i-test.false
-    loop.invariant
+returns c address =
+    let added : c.sum.result ≡ sum_by (line_size new_digits) c.args.marks.now = search rules in
+    added ∙ sym (lines_measured new_digits address c.args.marks.now)

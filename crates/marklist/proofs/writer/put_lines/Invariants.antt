@@ -1,12 +1,7 @@
 -- The invariant: the lines of the marks before i are in front, and with those of the others they are all lines.
-use Prim.Native.Nat.{◌-◌}
-use lib.ListN.{length}
 use Rattle.lists.specs.MarkList.{new_digits}
 use Rattle.marklist.proofs.Walks.{Put}
 use Rattle.marklist.proofs.writer.put_lines.Given as goal
 
 abbrev pub invariant-loop-i : goal.invariant-loop-i
 invariant-loop-i l = Put new_digits l.initial.page l.address l.marks l.page l.at l.i
-
-abbrev pub decreases-loop-i : goal.decreases-loop-i
-decreases-loop-i l = length l.marks - l.i

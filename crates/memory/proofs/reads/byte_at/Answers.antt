@@ -1,18 +1,25 @@
--- An exit for each part of memory, by the laws of the definition.
-use mathlib.Core.Path.{sym}
-use Rattle.semantics.proofs.Memory.{byte_in_ram, byte_under_image, byte_in_image, byte_past_image}
+-- Above RAM and from the base on, the image's byte or none.
+use mathlib.Core.Path.{◌≡◌, refl, sym, ap, ◌∙◌}
+use mathlib.Core.List.{List}
+use mathlib.Core.Logic.{◌⊎◌, ⊎_elim, inl, inr}
+use Prim.Native.Nat.{ℕ, ◌<◌, ◌≤◌, ◌-◌}
+use lib.ListN.{length, get_or}
+use denote.Bor.{Bor}
+use Rattle.std.specs.Prelude.{Option, Some, None}
+use Rattle.std.specs.List.{HoldsAt}
+use Rattle.std.specs.Option.{option_copied, MatchOption}
+use Rattle.semantics.proofs.Memory.{byte_in_image, byte_past_image}
 use Rattle.memory.proofs.reads.byte_at.Goals as goal
 
-pub returns-then-address-ram : goal.returns-then-address-ram
-returns-then-address-ram c = sym (byte_in_ram _ _ _ _ c.if-address-ram.true)
-
-pub returns-then-address-from : goal.returns-then-address-from
-returns-then-address-from c = sym (byte_under_image _ _ _ _ c.if-address-ram.false c.if-address-from.true)
-
-pub returns-then-at-image : goal.returns-then-at-image
-returns-then-at-image c =
-    sym (byte_in_image _ _ _ _ c.if-address-ram.false c.if-address-from.false
-    c.if-at-image.true)
+looked : (o : Option (Bor ℕ)) (l : List ℕ) (i : ℕ)
+    → MatchOption o (length l ≤ i) (λ x. (i < length l) × HoldsAt (λ y. x.now ≡ y) l i)
+    → ((i < length l) × (option_copied o ≡ Some (get_or l i 0))) ⊎ ((length l ≤ i) × (option_copied o ≡ None))
+looked (Some x) l i h = inl (h.0, ap Some (h.1 0))
+looked None l i h = inr (h, refl)
 
 pub returns : goal.returns
-returns c = sym (byte_past_image _ _ _ _ c.if-address-ram.false c.if-address-from.false c.if-at-image.false)
+returns c =
+    ⊎_elim
+    (λ w. c.copied.ensures ∙ w.1 ∙ sym (byte_in_image _ _ _ _ c.if-address-ram.false c.if-address-from.false w.0))
+    (λ w. c.copied.ensures ∙ w.1 ∙ sym (byte_past_image _ _ _ _ c.if-address-ram.false c.if-address-from.false w.0))
+    (looked c.get.result c.args.image.now (c.args.address - c.args.base) c.get.ensures.lookup.3)

@@ -1,18 +1,18 @@
 -- Where a byte is left, its two digits; the higher is its quotient, for it is a byte.
+use mathlib.Core.Path.{sym, ap, ◌∙◌}
+use Prim.Native.Nat.{◌/◌, ◌%◌}
 use native.Mathlib.Omega.{arith}
-use Rattle.printer.proofs.RowLaws.{blank_cell, byte_cell}
+use borrow.Author.Tests.{ltb-true}
+use Rattle.std.proofs.lemmas.List.{get_or_read}
+use Rattle.text.specs.Digits.{digit}
+use Rattle.printer.proofs.RowLaws.{byte_cell}
 use Rattle.printer.proofs.rows.cell.Goals as goal
 
-pub returns-then-bytes-k : goal.returns-then-bytes-k
-returns-then-bytes-k c =
-    let args = c.args in
-    blank_cell args.bytes.now args.k c.if-bytes-k.true
-
-pub digit-requires : goal.digit-requires
-digit-requires c = omega (arith, c.shared_slice_known-2-1.given c.args.k)
-
-pub returns : goal.returns
-returns c =
-    let args = c.args in
-    byte_cell args.bytes.now args.k c.digit.result c.digit-2.result c.if-bytes-k.false
-    (omega (arith, c.shared_slice_known-2-1.given args.k)) c.digit.ensures c.digit-2.ensures
+pub returns-in-Some : goal.returns-in-Some
+returns-in-Some c =
+    let bytes = c.args.bytes.now in
+    let found = c.in-Some.ensures.lookup in
+    let inside = ltb-true c.args.k _ (sym found.0) in
+    let byte = get_or_read bytes c.args.k _ inside found.1 0 in
+    byte_cell bytes c.args.k c.digit.result c.digit-in-Some.result inside (omega (arith, c.type_inv.bytes c.args.k))
+    (c.digit.ensures ∙ ap (λ b. digit (b / 16)) byte) (c.digit-in-Some.ensures ∙ ap (λ b. digit (b % 16)) byte)

@@ -1,11 +1,6 @@
 -- The invariant: the cells of the bytes before k are in front.
-use Prim.Native.Nat.{◌-◌}
-use Rattle.reports.specs.PrintedPage.{cell_count}
 use Rattle.printer.proofs.RowLaws.{Cells}
 use Rattle.printer.proofs.rows.put_cells.Given as goal
 
 abbrev pub invariant-loop-k : goal.invariant-loop-k
 invariant-loop-k l = Cells l.bytes l.initial.page l.page l.k
-
-abbrev pub decreases-loop-k : goal.decreases-loop-k
-decreases-loop-k l = cell_count - l.k

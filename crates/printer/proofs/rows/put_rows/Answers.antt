@@ -5,63 +5,62 @@ use Rattle.text.proofs.Pages.{front_length, front_inside, part_room}
 use Rattle.printer.proofs.Pieces.{no_piece, piece_fits, next_piece, all_pieces}
 use Rattle.printer.proofs.rows.put_rows.Goals as goal
 
-pub loop-i-init : goal.loop-i-init
-loop-i-init c =
+pub loop-at-init : goal.loop-at-init
+loop-at-init c =
     let args = c.args in
-    no_piece (spec.row_at args.image.now args.marks.now args.base) (length args.marks.now)
+    no_piece (spec.row_at args.view.image.now args.view.marks.now args.view.base) (length args.view.marks.now)
     args.page.now
 
 pub slice_bounds-put_row_at-count : goal.slice_bounds-put_row_at-count
-slice_bounds-put_row_at-count c = front_inside c.loop-i.invariant.front
+slice_bounds-put_row_at-count c = front_inside c.loop-at.invariant.front
 
 -- where one more row is to be written
-pub put_row_at-at-requires : goal.put_row_at-at-requires
+pub put_row_at-written-requires : goal.put_row_at-written-requires
 unfolding spec.page_text
-put_row_at-at-requires c =
+put_row_at-written-requires c =
     let args = c.args in
-    let loop = c.loop-i in
-    let marks = args.marks.now in
-    let rows = spec.row_at args.image.now marks args.base in
+    let loop = c.loop-at in
+    let marks = args.view.marks.now in
+    let rows = spec.row_at args.view.image.now marks args.view.base in
     let room : length (concat_from rows 0 (length marks)) ≤ length args.page.now = c.requires.0 in
     let fits =
-    piece_fits rows (length marks) args.page.now loop.page loop.at loop.i room c.loop-i-test.true
+    piece_fits rows (length marks) args.page.now loop.page loop.written loop.at room c.loop-at-test.true
     loop.invariant in (
-      c.pages-codes.ensures,
-      omega (arith, c.requires.1, c.loop-i-test.true),
-      part_room (length (rows loop.i)) loop.invariant.front fits,
+      omega (arith, c.requires.1, c.loop-at-test.true),
+      part_room (length (rows loop.at)) loop.invariant.front fits,
     )
 
-pub overflow_add-at : goal.overflow_add-at
+pub overflow_add-written : goal.overflow_add-written
 unfolding spec.page_text
-overflow_add-at c =
+overflow_add-written c =
     let args = c.args in
-    let loop = c.loop-i in
-    let marks = args.marks.now in
-    let rows = spec.row_at args.image.now marks args.base in
+    let loop = c.loop-at in
+    let marks = args.view.marks.now in
+    let rows = spec.row_at args.view.image.now marks args.view.base in
     let room : length (concat_from rows 0 (length marks)) ≤ length args.page.now = c.requires.0 in
     let fits =
-    piece_fits rows (length marks) args.page.now loop.page loop.at loop.i room c.loop-i-test.true
+    piece_fits rows (length marks) args.page.now loop.page loop.written loop.at room c.loop-at-test.true
     loop.invariant in
-    omega (arith, c.put_row_at-at.ensures.0, fits)
+    omega (arith, c.put_row_at-written.ensures.0, fits)
 
-pub loop-i-preserved : goal.loop-i-preserved
+pub loop-at-preserved : goal.loop-at-preserved
 unfolding spec.page_text
-loop-i-preserved c =
+loop-at-preserved c =
     let args = c.args in
-    let loop = c.loop-i in
-    let marks = args.marks.now in
-    let rows = spec.row_at args.image.now marks args.base in
+    let loop = c.loop-at in
+    let marks = args.view.marks.now in
+    let rows = spec.row_at args.view.image.now marks args.view.base in
     let room : length (concat_from rows 0 (length marks)) ≤ length args.page.now = c.requires.0 in
-    next_piece rows (length marks) args.page.now loop.page loop.at loop.i room c.loop-i-test.true loop.invariant
-    c.put_row_at-at.result c.put_row_at-at.new.page c.put_row_at-at.ensures.0 c.put_row_at-at.ensures.1
+    next_piece rows (length marks) args.page.now loop.page loop.written loop.at room c.loop-at-test.true loop.invariant
+    c.put_row_at-written.result c.put_row_at-written.new.page c.put_row_at-written.ensures.0 c.put_row_at-written.ensures.1
 
 pub shape_of-page : goal.shape_of-page
-shape_of-page c = front_length c.loop-i.invariant.front
+shape_of-page c = front_length c.loop-at.invariant.front
 
 pub returns : goal.returns
 unfolding spec.page_text
 returns c =
     let args = c.args in
-    let loop = c.loop-i in
-    all_pieces (spec.row_at args.image.now args.marks.now args.base) (length args.marks.now)
-    args.page.now loop.page loop.at loop.i c.loop-i-test.false loop.invariant
+    let loop = c.loop-at in
+    all_pieces (spec.row_at args.view.image.now args.view.marks.now args.view.base) (length args.view.marks.now)
+    args.page.now loop.page loop.written loop.at c.loop-at-test.false loop.invariant

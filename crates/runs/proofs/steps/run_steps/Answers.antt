@@ -1,91 +1,65 @@
+-- Each step is one of the run's; the last, or the stop, leaves what the run leaves.
 use Rattle.runs.proofs.RunInvariant.{made_of, begins, ends, goes_on, stops_so}
 use Rattle.machine.specs.StepResults.{state, core_at}
 use Rattle.types.specs.declared.machine.Core.{Core}
 use Rattle.execution.specs.Run.{Ran, executed}
 use Rattle.semantics.specs.Memory.{memory}
+use Rattle.semantics.specs.Step.{is_call}
+use Rattle.prelude.specs.Choice.{bit}
+use Rattle.std.specs.Prelude.{Ok}
+use Prim.Native.Nat.{◌+◌}
 use native.Mathlib.Omega.{arith}
-use mathlib.Core.Path.{refl, sym, ap, ◌∙◌}
-use Rattle.std.proofs.Common.{rules}
+use mathlib.Core.Path.{◌≡◌, refl, ap, ◌∙◌}
 use Rattle.runs.proofs.steps.run_steps.Goals as goal
+use Rattle.runs.proofs.steps.run_steps.Goals.{in-Ordinary, in-Call}
 
 pub loop-steps-init : goal.loop-steps-init
 loop-steps-init c =
-    let args = c.args in
+    let a = c.args in
     let file = c.file_of-registers.result in
     let place = c.place_of-place.result in
-    let core = core_at place args.given.depth file in
-    begins args.image.now args.base args.calls.now args.ram.now core args.asked file
-    c.place_of-place.result c.requires.4 c.file_of-registers.ensures.1 refl
-
-pub step_in-turn-requires : goal.step_in-turn-requires
-step_in-turn-requires c =
-    let pre = c.requires in
-    (pre.0, pre.1, pre.2, pre.3, c.loop-steps.invariant.few, c.loop-steps.invariant.filed)
-
-pub returns-then-not-is_completed : goal.returns-then-not-is_completed
-returns-then-not-is_completed c =
-    let loop = c.loop-steps in
-    let args = c.args in
-    let file = c.file_of-registers.result in
-    let place = c.place_of-place.result in
-    let core = core_at place args.given.depth file in
-    let all : Core → Ran =
-    λ given. executed (memory args.ram.now args.image.now args.base) (state given args.calls.now) args.asked in
-    let as-given =
-    ap all (made_of args.given place file c.file_of-registers.ensures.0 c.place_of-place.ensures.1
-    c.place_of-place.ensures.2) in
-    stops_so args.image.now args.base args.calls.now args.ram.now core args.asked
-    loop.calls loop.ram loop.registers loop.place loop.depth loop.steps loop.made loop.invariant
-    c.loop-steps-test.true c.step_in-turn.result c.step_in-turn.new.calls c.step_in-turn.new.ram
-    c.step_in-turn.new.registers
-    c.step_in-turn.ensures.0
-    (sym c.is_completed.ensures ∙ c.if-not-is_completed.true)
-    c.end_at.result c.end_at.ensures c.core_of.result c.core_of.ensures
-    ∙ as-given
-
-pub with_call-made-requires : goal.with_call-made-requires
-with_call-made-requires c =
-    omega (arith, c.loop-steps.invariant.counted, c.loop-steps.invariant.within, c.requires.5)
-
-pub overflow_add-steps : goal.overflow_add-steps
-overflow_add-steps c =
-    omega (arith, c.loop-steps.invariant.within, c.requires.5)
-
-pub loop-steps-smaller : goal.loop-steps-smaller
-loop-steps-smaller c =
-    omega (arith, c.loop-steps-test.true)
+    begins a.image.now a.base a.calls.now a.ram.now (core_at place a.given.depth file) a.asked file place c.requires.2
+    refl
 
 pub loop-steps-preserved : goal.loop-steps-preserved
 loop-steps-preserved c =
     let loop = c.loop-steps in
-    let args = c.args in
+    let a = c.args in
+    let how : c.match-completed.made ≡ loop.made + bit (is_call (Ok c.in-Ok.completed.completion)) =
+    elim c.match-completed.branch [
+      | in-Ordinary w ↦ rw w.in-Ordinary.is (omega arith)
+      | in-Call w ↦ rw w.in-Call.is (omega arith)
+    ] in
+    goes_on a.image.now a.base a.calls.now a.ram.now
+    (core_at c.place_of-place.result a.given.depth c.file_of-registers.result) a.asked
+    loop.calls loop.ram loop.registers loop.place loop.depth loop.steps loop.made loop.invariant c.loop-steps-test.true
+    c.step_in.new.calls c.step_in.new.ram c.step_in.new.registers c.in-Ok.completed c.in-Ok.ensures
+    c.match-completed.made how
+
+pub returns-in-Err : goal.returns-in-Err
+returns-in-Err c =
+    let loop = c.loop-steps in
+    let a = c.args in
     let file = c.file_of-registers.result in
     let place = c.place_of-place.result in
-    let core = core_at place args.given.depth file in
-    goes_on args.image.now args.base args.calls.now args.ram.now core args.asked
-    loop.calls loop.ram loop.registers loop.place loop.depth loop.steps loop.made loop.invariant
-    c.loop-steps-test.true c.step_in-turn.result c.step_in-turn.new.calls c.step_in-turn.new.ram
-    c.step_in-turn.new.registers
-    c.step_in-turn.ensures.0
-    (sym c.is_completed.ensures ∙ c.if-not-is_completed.false) (search rules)
-    c.step_in-turn.ensures.1 c.with_call-made.result c.with_call-made.ensures
-
-pub shape_of-ram : goal.shape_of-ram
-shape_of-ram c = c.loop-steps.invariant.same
+    let all : Core → Ran = λ given. executed (memory a.ram.now a.image.now a.base) (state given a.calls.now) a.asked in
+    stops_so a.image.now a.base a.calls.now a.ram.now (core_at place a.given.depth file) a.asked
+    loop.calls loop.ram loop.registers loop.place loop.depth loop.steps loop.made loop.invariant c.loop-steps-test.true
+    c.step_in.new.calls c.step_in.new.ram c.step_in.new.registers c.in-Err.stop c.in-Err.ensures
+    c.core_of.result c.core_of.ensures
+    ∙ ap all (made_of a.given place file c.file_of-registers.ensures.0 c.place_of-place.ensures.1
+    c.place_of-place.ensures.2)
 
 pub returns : goal.returns
 returns c =
     let loop = c.loop-steps in
-    let args = c.args in
+    let a = c.args in
     let file = c.file_of-registers.result in
     let place = c.place_of-place.result in
-    let core = core_at place args.given.depth file in
-    let all : Core → Ran =
-    λ given. executed (memory args.ram.now args.image.now args.base) (state given args.calls.now) args.asked in
-    let as-given =
-    ap all (made_of args.given place file c.file_of-registers.ensures.0 c.place_of-place.ensures.1
-    c.place_of-place.ensures.2) in
-    ends args.image.now args.base args.calls.now args.ram.now core args.asked
+    let all : Core → Ran = λ given. executed (memory a.ram.now a.image.now a.base) (state given a.calls.now) a.asked in
+    ends a.image.now a.base a.calls.now a.ram.now (core_at place a.given.depth file) a.asked
     loop.calls loop.ram loop.registers loop.place loop.depth loop.steps loop.made loop.invariant
-    (omega (arith, c.loop-steps-test.false)) c.core_of-2.result c.core_of-2.ensures
-    ∙ as-given
+    c.loop-steps-test.false a.asked (omega (arith, loop.invariant.within, c.loop-steps-test.false))
+    c.core_of-2.result c.core_of-2.ensures
+    ∙ ap all (made_of a.given place file c.file_of-registers.ensures.0 c.place_of-place.ensures.1
+    c.place_of-place.ensures.2)

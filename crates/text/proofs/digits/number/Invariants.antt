@@ -6,6 +6,3 @@ use Rattle.text.proofs.digits.number.Given as goal
 
 abbrev pub invariant-loop-i : goal.invariant-loop-i
 invariant-loop-i l = Worked l.radix l.count (drop l.at l.text) l.value l.weight l.i
-
-abbrev pub decreases-loop-i : goal.decreases-loop-i
-decreases-loop-i l = l.i

@@ -7,6 +7,3 @@ use Rattle.text.proofs.digits.shows_digits.Given as goal
 abbrev pub invariant-loop-i : goal.invariant-loop-i
 invariant-loop-i l = starts_with (spec.digits l.radix l.count l.n) l.text ≡ starts_with
     (spec.digits l.radix l.i l.rest) l.text
-
-abbrev pub decreases-loop-i : goal.decreases-loop-i
-decreases-loop-i l = l.i
