@@ -2,6 +2,7 @@
 // What `as_effect` leaves open of an effect is named in cpu/src/effects.rt.
 #![tactic(auto)]
 
+pub mod operands;
 pub mod tasks;
 mod values;
 
@@ -10,13 +11,13 @@ ghost use Rattle.semantics.specs.Addressing.{bits};
 ghost use Rattle.anywidth.specs.AnyWidth as width;
 ghost use Rattle.semantics.specs.Arithmetic as arithmetic;
 ghost use Rattle.prelude.specs.Choice.{pick};
-ghost use Rattle.instructions.specs.Decode.{operand_limit};
 ghost use Rattle.cpu.specs.File.{file_size};
 ghost use Rattle.cpu.specs.FileEffects as rows;
 ghost use Rattle.cpu.specs.CodeEffects.{Makes};
 ghost use Rattle.actions.specs.Tasks.{unpacked_task};
 ghost use Rattle.actions.specs.ActionEffects as spec;
 
+use crate::operands::Operands;
 use crate::tasks::{Action, action_of, choice_of, destination_of};
 use crate::values::{
     counted, is_wanted, mask_of, modification_of, other_bits, value_of, with_bits, with_flags,
@@ -27,9 +28,6 @@ use cpu::effects::{Effect, behind_address, branches_if, leaves, pushes, puts, st
 use cpu::file::{FILE_SIZE, PS};
 use cpu::flags::{flag_at, with_result};
 use datawidth::{low, merged, wide};
-use types::addresses::Address;
-use types::code::Mode;
-use types::machine::Data;
 
 // A register off the stack, with N and Z.
 fn pulls_data(to: usize, short: bool, v: u16, registers: &[u16; FILE_SIZE]) -> Effect
@@ -85,24 +83,26 @@ fn transfers(choice: usize, to: usize, short: bool, registers: &[u16; FILE_SIZE]
     puts(to, low(short, v), with_result(short, v, registers[PS]))
 }
 
-// What an action does with its data, by its choice and to its register. What it works with comes side by side, not as a
-// struct: LLVM keeps a struct in memory unless all of its way is inlined (docs/DECISIONS.md, 'The machine's speed').
+// What an action does with its data, by its choice and to its register.
 #[tactic(auto, unfolding(crate::specs::ActionEffects::by_action))]
 fn by_action(
     action: Action,
     choice: usize,
     to: usize,
-    mode: Mode,
-    short: bool,
-    operand: u64,
-    next: Address,
-    given: Data,
+    i: Operands,
     registers: &[u16; FILE_SIZE],
 ) -> Effect
-    requires { (to < file_size) × (operand < operand_limit) }
-    ensures { Makes result registers.now (spec.by_action mode short operand next given registers.now action
-        choice to) }
+    requires { to < file_size }
+    ensures { Makes result registers.now (spec.by_action i.mode i.short i.operand i.next i.given registers.now
+        action choice to) }
 {
+    let Operands {
+        mode,
+        short,
+        operand,
+        given,
+        ..
+    } = i;
     let v = given.value;
     let status = registers[PS];
     match action {
@@ -115,17 +115,8 @@ fn by_action(
             registers,
         ),
         Action::Move => puts(to, word_of(choice, v, registers), status),
-        Action::Store => stores_to(
-            short,
-            given.address,
-            value_of(choice, mode, short, operand, next, v, registers),
-            status,
-        ),
-        Action::Push => pushes(
-            short,
-            value_of(choice, mode, short, operand, next, v, registers),
-            registers,
-        ),
+        Action::Store => stores_to(short, given.address, value_of(choice, i, registers), status),
+        Action::Push => pushes(short, value_of(choice, i, registers), registers),
         Action::Pull => pulls_data(to, short, v, registers),
         Action::PullWhole => pulls_whole(choice == 1, to, short, v, registers),
         Action::Add => combines(Combination::Add, to, short, v, registers),
@@ -153,25 +144,16 @@ fn by_action(
     }
 }
 
-// What a task does with its data. The place of execution, the widths and the open calls are not its business. Asks for
-// an operand of five bytes, as instructions have it.
-pub fn effect_by(
-    task: u32,
-    mode: Mode,
-    short: bool,
-    operand: u64,
-    next: Address,
-    given: Data,
-    registers: &[u16; FILE_SIZE],
-) -> Effect
-    requires { operand < operand_limit }
-    ensures { Makes result registers.now (spec.effect_by mode short operand next given registers.now
+// What a task does with its data. The place of execution, the widths and the open calls are not its business.
+pub fn effect_by(task: u32, i: Operands, registers: &[u16; FILE_SIZE]) -> Effect
+    ensures { Makes result registers.now (spec.effect_by i.mode i.short i.operand i.next i.given registers.now
         (unpacked_task task)) }
 {
-    let action = action_of(task);
-    let choice = choice_of(task);
-    let to = destination_of(task);
     by_action(
-        action, choice, to, mode, short, operand, next, given, registers,
+        action_of(task),
+        choice_of(task),
+        destination_of(task),
+        i,
+        registers,
     )
 }

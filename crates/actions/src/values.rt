@@ -1,19 +1,18 @@
 // What an action works with, by its task's choice, and how bits and flags are wanted.
-ghost use Rattle.std.specs.Prelude.{◌≡◌, ◌+◌, ◌<◌};
+ghost use Rattle.std.specs.Prelude.{◌≡◌, ◌+◌};
 ghost use Rattle.semantics.specs.Addressing.{bits};
 ghost use Rattle.prelude.specs.Choice.{pick};
-ghost use Rattle.instructions.specs.Decode.{operand_limit};
 ghost use Rattle.types.specs.Status.{status_of};
 ghost use Rattle.actions.specs.ActionEffects as spec;
 ghost use Rattle.actions.specs.Tasks.{modification_of};
 
+use crate::operands::Operands;
 use cpu::arithmetic::Modification;
 use cpu::effects::behind_address;
 use cpu::file::{DT, FILE_SIZE, PS};
 use cpu::flags::{with_flags_cleared, with_flags_set};
 use datawidth::{cleared_by, wide};
-use types::addresses::{Address, BANK_SIZE};
-use types::code::Mode;
+use types::addresses::BANK_SIZE;
 use types::machine::Status;
 
 // Choices from here on are registers.
@@ -32,26 +31,25 @@ pub(crate) fn word_of(choice: usize, v: u16, registers: &[u16; FILE_SIZE]) -> u1
 
 // What is stored or pushed: another value by the choices 1 to 6, else the data or a register.
 #[tactic(auto, using(semantics::proofs::Status::status_number, prelude::proofs::Match::no_key))]
-pub(crate) fn value_of(
-    choice: usize,
-    mode: Mode,
-    short: bool,
-    operand: u64,
-    next: Address,
-    v: u16,
-    registers: &[u16; FILE_SIZE],
-) -> u64
-    requires { operand < operand_limit }
-    ensures { result ≡ spec.value_of mode short operand next v registers.now choice }
+pub(crate) fn value_of(choice: usize, i: Operands, registers: &[u16; FILE_SIZE]) -> u64
+    ensures { result ≡ spec.value_of i.mode i.short i.operand i.next i.given.value registers.now choice }
 {
+    let Operands {
+        mode,
+        short,
+        operand,
+        next,
+        given,
+        ..
+    } = i;
     match choice {
         1 => operand,
-        2 => next.number() as u64 + operand,
-        3 => (next.number() / BANK_SIZE) as u64,
+        2 => next as u64 + operand,
+        3 => (next / BANK_SIZE) as u64,
         4 => wide(behind_address(mode, short, operand)),
         5 => wide(registers[DT] % 256),
         6 => wide(registers[PS]),
-        _ => wide(word_of(choice, v, registers)),
+        _ => wide(word_of(choice, given.value, registers)),
     }
 }
 

@@ -16,7 +16,7 @@ filed r n h e =
     (ap status_of e ∙ number_status r.status)
 
 -- a number put into a file is put into its registers
-pub put_in : (file : List ℕ) (i v : ℕ) → length file ≡ file_size → i < file_size
+put_in : (file : List ℕ) (i v : ℕ) → length file ≡ file_size → i < file_size
     → registers_of (set file i v) ≡ put i v (registers_of file)
 put_in [] i v e h = absurd (omega arith)
 put_in (a ∷ []) i v e h = absurd (omega arith)
@@ -48,7 +48,3 @@ put_three file i v j w n e h h' =
   where
     once : length (set file i v) ≡ file_size
     once = length-set file i v ∙ e
-
-pub length_three : (file : List ℕ) (i v j w k n : ℕ) → length (set (set (set file i v) j w) k n) ≡ length file
-length_three file i v j w k n =
-    length-set (set (set file i v) j w) k n ∙ length-set (set file i v) j w ∙ length-set file i v

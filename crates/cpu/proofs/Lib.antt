@@ -2,5 +2,4 @@
 pub mod Files
 pub mod Masks
 pub mod Numbers
-pub mod Sizes
 pub mod Steps

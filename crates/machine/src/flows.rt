@@ -12,6 +12,7 @@ ghost use Rattle.machine.specs.StepResults.{core_at, left, finished, goes_on_by}
 use crate::commit::{Completed, finish, put};
 use crate::fetched::Fetched;
 use actions::effect_by;
+use actions::operands::Operands;
 use actions::tasks::operand_use_of;
 use addressing::access::is_short;
 use addressing::reach::data_of;
@@ -89,8 +90,14 @@ pub(crate) fn operates(
         ram, image, base, access, mode, named, registers, short, i.operand,
     )
     .ok_or(Stop::Unmapped)?;
-    let next = next_address(i.address(), i.length);
-    let effect = effect_by(task, mode, short, i.operand, next, given, registers);
+    let operands = Operands {
+        mode,
+        short,
+        operand: i.operand,
+        next: next_address(i.address(), i.length).number(),
+        given,
+    };
+    let effect = effect_by(task, operands, registers);
     let to = goes(branches, effect.taken, i);
     finish(image, base, i, effect, to, depth, registers, ram)
 }

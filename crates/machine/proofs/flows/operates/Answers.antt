@@ -32,10 +32,10 @@ returns-in_err-given c =
     c.mode_of-mode.ensures c.accumulator_of-named.result
     c.accumulator_of-named.ensures c.data_of.result c.data_of.ensures q.0)
 
-pub effect_by-effect-requires : goal.effect_by-effect-requires
-effect_by-effect-requires c =
+pub invariant_of-operands : goal.invariant_of-operands
+invariant_of-operands c =
     let i = c.args.i in
-    (rw c.next_address-next.ensures (omega arith), i.bounded.1)
+    record { bounded = (rw c.next_address.ensures (omega arith), i.bounded.1) }
 
 pub finish-requires : goal.finish-requires
 finish-requires c = c.effect_by-effect.ensures.1
@@ -53,6 +53,6 @@ returns c =
     c.mode_of-mode.ensures c.accumulator_of-named.result
     c.accumulator_of-named.ensures c.data_of.result c.data_of.ensures _
     c.in_ok-given.ensures.ok_part a.i.inside
-    c.next_address-next.result c.next_address-next.ensures
+    c.next_address.result c.next_address.ensures
     c.effect_by-effect.result c.effect_by-effect.ensures.0 c.goes-to.result c.goes-to.ensures
     c.finish.result c.finish.new.registers c.finish.new.ram c.finish.ensures
