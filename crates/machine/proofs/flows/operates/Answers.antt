@@ -34,8 +34,7 @@ returns-in_err-given c =
 
 pub effect_by-effect-requires : goal.effect_by-effect-requires
 effect_by-effect-requires c =
-    let i = c.args.i in
-    (rw c.next_address-next.ensures (omega arith), i.bounded.1)
+    c.args.i.bounded.1
 
 pub finish-requires : goal.finish-requires
 finish-requires c = c.effect_by-effect.ensures.1
@@ -53,6 +52,6 @@ returns c =
     c.mode_of-mode.ensures c.accumulator_of-named.result
     c.accumulator_of-named.ensures c.data_of.result c.data_of.ensures _
     c.in_ok-given.ensures.ok_part a.i.inside
-    c.next_address-next.result c.next_address-next.ensures
+    c.next_address-next.result (rw c.address.ensures at c.next_address-next.ensures)
     c.effect_by-effect.result c.effect_by-effect.ensures.0 c.goes-to.result c.goes-to.ensures
     c.finish.result c.finish.new.registers c.finish.new.ram c.finish.ensures
