@@ -181,35 +181,37 @@ module _ (i : Fetched) (m : Memory) (place depth : ℕ) (file calls : List ℕ) 
         abbrev after : Registers
         after = with_s (pushed_at here (return_bytes kind)) here
 
-        opened_so : (to : ℕ) → to ≡ target_address (instruction i) place
-            → finished (changes (change after to (CallChange.Open next kind) (listed stores))) i m place
+        abbrev to : ℕ
+        to = target_address (instruction i) place
+
+        opened_so : finished (changes (change after to (CallChange.Open next kind) (listed stores))) i m place
             depth file calls
             ≡ finished (spec.calls core (instruction i) kind) i m place depth file calls
-        opened_so to e =
+        opened_so =
             ap (λ p. finished p i m place depth file calls)
             (called core (instruction i) kind to next stores below
-            (e ∙ ap (target_address (instruction i)) (sym (place_kept place depth file h))) next_kept
+            (ap (target_address (instruction i)) (sym (place_kept place depth file h))) next_kept
             (pushed place depth file i is-s next_kept))
 
         pub stops_pushing : (stop : Stop) → w ≡ Err stop
             → left place depth (Err stop) file calls m.ram
             ≡ finished (spec.calls core (instruction i) kind) i m place depth file calls
         stops_pushing stop e =
-            stops_at_stores i m place depth file calls after (target_address (instruction i) place)
-            (CallChange.Open next kind) (listed stores) stop (sym tested ∙ e)
-            ∙ opened_so (target_address (instruction i) place) refl
+            stops_at_stores i m place depth file calls after to (CallChange.Open next kind) (listed stores) stop
+            (sym tested ∙ e)
+            ∙ opened_so
 
-        pub calls_so : (to entry : ℕ) (file' ram' : List ℕ) → to ≡ target_address (instruction i) place → w ≡ Ok tt
+        pub calls_so : (to' entry : ℕ) (file' ram' : List ℕ) → to' ≡ to → w ≡ Ok tt
             → entry ≡ call_record next (kind_number kind) → registers_of file' ≡ widths_after (instruction i) here after
             → ram' ≡ stored (listed stores) m.ram
-            → left place depth (Ok (record { completion = Completion.Call; place = to; depth = depth + 1 })) file'
+            → left place depth (Ok (record { completion = Completion.Call; place = to'; depth = depth + 1 })) file'
             (set calls depth entry) ram'
             ≡ finished (spec.calls core (instruction i) kind) i m place depth file calls
-        calls_so to entry file' ram' is-to all is-entry same is-ram =
+        calls_so to' entry file' ram' is-to all is-entry same is-ram =
             completes i m place depth file calls after to (CallChange.Open next kind) (listed stores)
             Completion.Call file'
-            (set calls depth entry) ram' refl (sym tested ∙ all) same (ap (set calls depth) is-entry) is-ram
-            ∙ opened_so to is-to
+            (set calls depth entry) ram' to' is-to refl (sym tested ∙ all) same (ap (set calls depth) is-entry) is-ram
+            ∙ opened_so
 
   -- a return
   module _ (opened : ℕ) (kind : Kind) (address : ℕ) where
@@ -233,15 +235,15 @@ module _ (i : Fetched) (m : Memory) (place depth : ℕ) (file calls : List ℕ) 
         stops_so i m place depth file calls Stop.Astray plan
         (other_address core (instruction i) opened kind address h)
 
-    pub returns_so : (n : ℕ) (file' : List ℕ) → n ≡ kind_number kind → 0 < depth → kind_of opened ≡ n
+    pub returns_so : (n to : ℕ) (file' : List ℕ) → to ≡ address → n ≡ kind_number kind → 0 < depth → kind_of opened ≡ n
         → return_of opened ≡ address
         → registers_of file' ≡ widths_after (instruction i) here (with_s (pulled_at here (return_bytes kind)) here)
-        → left place depth (Ok (record { completion = Completion.Ordinary; place = address; depth = depth - 1 })) file'
+        → left place depth (Ok (record { completion = Completion.Ordinary; place = to; depth = depth - 1 })) file'
         calls m.ram
         ≡ finished plan i m place depth file calls
-    returns_so n file' is-kind below same there e =
+    returns_so n to file' is-to is-kind below same there e =
         completes i m place depth file calls (with_s (pulled_at here (return_bytes kind)) here) address
-        CallChange.Close [] Completion.Ordinary file' calls m.ram refl refl e refl refl
+        CallChange.Close [] Completion.Ordinary file' calls m.ram to is-to refl refl e refl refl
         ∙ ap (λ p. finished p i m place depth file calls)
         (returned core (instruction i) opened kind address n is-kind below same there)
 

@@ -56,14 +56,15 @@ module _ (i : Fetched) (m : Memory) (place depth : ℕ) (file calls : List ℕ) 
     stops_at_stores stop e = rw e refl
 
     -- all parts of a change carried out
-    pub completes : (how : Completion) (file' calls' ram' : List ℕ) → answer_of opens ≡ Ok how → served m stores ≡ Ok tt
+    pub completes : (how : Completion) (file' calls' ram' : List ℕ) (to' : ℕ) → to' ≡ to → answer_of opens ≡ Ok how
+        → served m stores ≡ Ok tt
         → registers_of file' ≡ widths_after (instruction i) (registers_of file) after
         → calls' ≡ calls_after opens depth calls → ram' ≡ stored stores m.ram
-        → left place depth (Ok (record { completion = how; place = to; depth = depth_after opens depth })) file' calls'
+        → left place depth (Ok (record { completion = how; place = to'; depth = depth_after opens depth })) file' calls'
         ram'
         ≡ finished (changes (change after to opens stores)) i m place depth file calls
-    completes how file' calls' ram' so all same e e' =
-        rw (all, e, e', so)
+    completes how file' calls' ram' to' is-to so all same e e' =
+        rw (is-to, all, e, e', so)
         (ap (λ r. stepped (Ok how) (state (record {
           registers = r;
           pc = to % bank_size;

@@ -149,7 +149,6 @@ module _ (i : Fetched) (m : Memory) (place depth : ℕ) (file : List ℕ) where
       → left place depth (Ok (record { completion = Completion.Ordinary; place = to; depth = depth })) file' calls m.ram
       ≡ finished (changes (change r target CallChange.Keep [])) i m place depth file calls
   jumped e is-effect file' same to target is-to calls =
-      ap (λ n. left place depth (Ok (record { completion = Completion.Ordinary; place = n; depth = depth })) file' calls
-      m.ram) is-to
-      ∙ completes i m place depth file calls r target CallChange.Keep [] Completion.Ordinary file' calls m.ram refl refl
+      completes i m place depth file calls r target CallChange.Keep [] Completion.Ordinary file' calls m.ram to is-to
+      refl refl
       (same ∙ ap (λ k. widths_after (instruction i) r (as_effect k r).registers) is-effect) refl refl

@@ -31,12 +31,7 @@ use types::machine::{CALL_LIMIT, Completion, OperandUse, RECORD_UNIT, Status, St
 fn target(i: Fetched) -> Address
     ensures { result ≡ target_address (instruction i) i.place }
 {
-    target_of(
-        target_form_of(i.number),
-        i.address(),
-        i.length,
-        i.operand,
-    )
+    target_of(target_form_of(i.number), i.address(), i.length, i.operand)
 }
 
 // Where an operation goes on.

@@ -20,7 +20,14 @@ use types::code::Kind;
 use types::machine::{Completion, RECORD_UNIT, Stop};
 
 // The return address that an instruction pulls.
-fn pulls_return(ram: &[u8], image: &[u8], base: u32, i: Fetched, s: u16, kind: Kind) -> Option<Address>
+fn pulls_return(
+    ram: &[u8],
+    image: &[u8],
+    base: u32,
+    i: Fetched,
+    s: u16,
+    kind: Kind,
+) -> Option<Address>
     ensures { (depth : ℕ) (file : List ℕ) → s ≡ (registers_of file).s → result
         ≡ read_of
         (evaluate (memory ram.now image.now base)
@@ -34,9 +41,10 @@ fn pulls_return(ram: &[u8], image: &[u8], base: u32, i: Fetched, s: u16, kind: K
             let address = word_from(ram, image, base, first, second)?;
             Some(in_bank_after(i.address(), i.length, address))
         }
-        Kind::ByRtl => Some(Address::new(long_from(
-            ram, image, base, first, second, third,
-        )?)),
+        Kind::ByRtl => {
+            let number = long_from(ram, image, base, first, second, third)?;
+            Some(Address::new(number))
+        }
     }
 }
 

@@ -24,5 +24,5 @@ returns c =
     let a = c.args in
     let after = (as_effect a.effect (registers_of a.registers.now)).registers in
     λ calls. completes a.i (memory a.ram.now a.image.now a.base) a.i.place a.depth a.registers.now calls after a.to
-    CallChange.Keep (listed a.effect.stores) Completion.Ordinary c.put.new.registers calls c.write.new.ram refl
-    (sym c.in_ok-served_all.ensures) c.put.ensures refl c.write.ensures
+    CallChange.Keep (listed a.effect.stores) Completion.Ordinary c.put.new.registers calls c.write.new.ram _ c.number.ensures.0
+    refl (sym c.in_ok-served_all.ensures) c.put.ensures refl c.write.ensures

@@ -33,9 +33,7 @@ returns-in_err-given c =
     c.accumulator_of-named.ensures c.data_of.result c.data_of.ensures q.0)
 
 pub invariant_of-operands : goal.invariant_of-operands
-invariant_of-operands c =
-    let i = c.args.i in
-    record { bounded = (rw c.next_address.ensures (omega arith), i.bounded.1) }
+invariant_of-operands c = record { bounded = (rw c.number.ensures.0 c.number.ensures.1, c.args.i.bounded.1) }
 
 pub finish-requires : goal.finish-requires
 finish-requires c = c.effect_by-effect.ensures.1
@@ -53,6 +51,6 @@ returns c =
     c.mode_of-mode.ensures c.accumulator_of-named.result
     c.accumulator_of-named.ensures c.data_of.result c.data_of.ensures _
     c.in_ok-given.ensures.ok_part a.i.inside
-    c.next_address.result c.next_address.ensures
+    c.number.result (rw (c.next_address.ensures, c.address.ensures) at c.number.ensures.0)
     c.effect_by-effect.result c.effect_by-effect.ensures.0 c.goes-to.result c.goes-to.ensures
     c.finish.result c.finish.new.registers c.finish.new.ram c.finish.ensures

@@ -14,11 +14,11 @@ returns-then-opened-from c =
     λ m calls. stops_other_kind a.i m a.i.place a.depth a.registers.now calls a.opened a.kind a.address
     c.from.result c.from.ensures c.if-opened-from.true
 
-pub returns-then-opened-address : goal.returns-then-opened-address
-returns-then-opened-address c =
+pub returns-then-opened-number : goal.returns-then-opened-number
+returns-then-opened-number c =
     let a = c.args in
     λ m calls. stops_other_address a.i m a.i.place a.depth a.registers.now calls a.opened a.kind a.address
-    c.if-opened-address.true
+    (rw c.number.ensures.0 at c.if-opened-number.true)
 
 pub put-requires : goal.put-requires
 put-requires c = placed c.puts.result c.pulled_at-s.result (get_or c.args.registers.now 7 0) c.puts.ensures
@@ -27,8 +27,8 @@ pub returns : goal.returns
 returns c =
     let a = c.args in
     λ m calls. returns_so a.i m a.i.place a.depth a.registers.now calls a.opened a.kind a.address
-    c.from.result c.put.new.registers c.from.ensures (omega arith) c.if-opened-from.false
-    c.if-opened-address.false
+    c.from.result c.number-2.result c.put.new.registers c.number-2.ensures.0 c.from.ensures (omega arith)
+    c.if-opened-from.false (rw c.number.ensures.0 at c.if-opened-number.false)
     (puts_s c.puts.result c.pulled_at-s.result (get_or a.registers.now 7 0)
     c.puts.ensures a.i a.registers.now _ _ c.put.ensures
     (c.pulled_at-s.ensures

@@ -17,11 +17,11 @@ returns-in-Ok c =
     let inside : a.place % address_limit < address_limit = omega arith in
     let is-fetched =
     c.fetch_at.ensures.fetched a.ram.now (core_at (a.place % address_limit) a.depth a.registers.now)
-    (sym (place_kept (a.place % address_limit) a.depth a.registers.now inside)) refl in
+    (c.wrapped.ensures ∙ sym (place_kept (a.place % address_limit) a.depth a.registers.now inside)) refl in
     step_whole (memory a.ram.now a.image.now a.base) a.place a.depth a.registers.now a.calls.now c.fetch_at.result
     is-fetched _ c.in-Ok.i c.in-Ok.is
     (left_kept a.place a.depth c.perform.result c.perform.new.registers c.perform.new.calls c.perform.new.ram
-    ∙ rw (← IfOk-at_ok (λ i. i.place ≡ a.place % address_limit) c.in-Ok.is c.fetch_at.ensures.here) c.perform.ensures)
+    ∙ rw (← IfOk-at_ok (λ i. i.place ≡ a.place % address_limit) c.in-Ok.is (rw c.wrapped.ensures at c.fetch_at.ensures.here)) c.perform.ensures)
 
 pub returns-in-Err-NotCarried : goal.returns-in-Err-NotCarried
 returns-in-Err-NotCarried c =
@@ -29,7 +29,7 @@ returns-in-Err-NotCarried c =
     let inside : a.place % address_limit < address_limit = omega arith in
     let is-fetched =
     c.fetch_at.ensures.fetched a.ram.now (core_at (a.place % address_limit) a.depth a.registers.now)
-    (sym (place_kept (a.place % address_limit) a.depth a.registers.now inside)) refl in
+    (c.wrapped.ensures ∙ sym (place_kept (a.place % address_limit) a.depth a.registers.now inside)) refl in
     step_uncarried (memory a.ram.now a.image.now a.base) a.place a.depth a.registers.now a.calls.now c.fetch_at.result
     is-fetched _ (c.in-Err-NotCarried.is ∙ ap Err c.in-Err-NotCarried.field-0-is) refl
 
@@ -39,6 +39,6 @@ returns-in-Err-CutOff c =
     let inside : a.place % address_limit < address_limit = omega arith in
     let is-fetched =
     c.fetch_at.ensures.fetched a.ram.now (core_at (a.place % address_limit) a.depth a.registers.now)
-    (sym (place_kept (a.place % address_limit) a.depth a.registers.now inside)) refl in
+    (c.wrapped.ensures ∙ sym (place_kept (a.place % address_limit) a.depth a.registers.now inside)) refl in
     step_outside (memory a.ram.now a.image.now a.base) a.place a.depth a.registers.now a.calls.now c.fetch_at.result
     is-fetched _ (c.in-Err-CutOff.is ∙ ap Err c.in-Err-CutOff.field-0-is) refl
