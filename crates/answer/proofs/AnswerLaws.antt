@@ -13,7 +13,6 @@ use lib.ListN.{length}
 use Rattle.prelude.proofs.Choice.{both_true}
 use Rattle.types.specs.declared.lists.Header.{Header}
 use Rattle.types.specs.declared.refusals.Refusal.{Refusal}
-use Rattle.types.specs.Answers.{ListRead, Verdict}
 use Rattle.types.specs.Addresses.{image_limit}
 use Rattle.acceptance.specs.Image.{start_count}
 use Rattle.acceptance.specs.Verdict.{verdict}
@@ -21,7 +20,7 @@ use Rattle.lists.specs.MarkList.{read_list, marks_read, marks_by}
 use Rattle.acceptance.proofs.Image.{right_length, starts_most}
 use Rattle.acceptance.proofs.Verdict.{accepted_rules}
 use Rattle.answer.specs.declared.answers.NotAccepted.{NotAccepted}
-use Rattle.answer.specs.AnswerLine.{list_limit, FileAnswer, without_offset, are_within_limits}
+use Rattle.answer.specs.AnswerLine.{list_limit, without_offset, are_within_limits}
 use Rattle.answer.specs.AnswerLine.{verdict_answer, answer_of, list_answer, answer_for}
 
 pub accepted_few : (image marks : List ℕ) (base reset : ℕ) → verdict image marks base reset ≡ Ok tt

@@ -5,11 +5,11 @@ use Rattle.std.specs.Prelude.{Ok, Err}
 use Rattle.std.specs.Result.{result_unwrap_or}
 use mathlib.Core.Path.{◌≡◌, ap, sym, ◌∙◌}
 use mathlib.Core.List.{List, ◌++◌}
-use Prim.Native.Nat.{ℕ, ◌+◌, ◌≤◌}
+use Prim.Native.Nat.{ℕ, ◌≤◌}
 use native.Mathlib.Omega.{arith}
 use borrow.Author.Tests.{le-leb}
 use lib.ListN.{length, drop}
-use Rattle.types.specs.Answers.{ListWritten, refused_at, TestResult, Verdict}
+use Rattle.types.specs.Answers.{ListWritten, refused_at}
 use Rattle.types.specs.declared.refusals.Refusal.{Refusal}
 use Rattle.types.specs.Refusals.{first_refusal}
 use Rattle.acceptance.specs.Verdict.{marks_tests, offset_of, verdict}

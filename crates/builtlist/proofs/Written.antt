@@ -8,7 +8,6 @@ use Prim.Native.Nat.{ℕ, ◌≤◌}
 use lib.ListN.{length, drop}
 use lib.Seq.{take_at}
 use Rattle.types.specs.declared.lists.Header.{Header}
-use Rattle.types.specs.Answers.{ListRead, Verdict}
 use Rattle.acceptance.specs.Image.{start_count}
 use Rattle.acceptance.specs.Verdict.{verdict}
 use Rattle.lists.specs.MarkList.{new_digits, list_text, read_list, marks_read, page_by, page_written}
@@ -16,7 +15,7 @@ use Rattle.lists.specs.Routines.{marks_built}
 use Rattle.acceptance.proofs.Image.{right_length}
 use Rattle.acceptance.proofs.Verdict.{accepted_rules}
 use Rattle.lists.proofs.RoundTrips.{written_then_read}
-use Rattle.answer.specs.AnswerLine.{FileAnswer, list_limit, are_within_limits, answer_by, verdict_answer, list_answer, answer_for}
+use Rattle.answer.specs.AnswerLine.{FileAnswer, list_limit, answer_by, verdict_answer, list_answer, answer_for}
 use Rattle.answer.proofs.AnswerLaws.{list_taken, within_limits, limits_kept}
 use Rattle.builtlist.specs.BuiltList.{address_shown, built_list, WrittenAccepted}
 use Rattle.builtlist.proofs.Lists.{written_whole, delivered_accepted, delivered_list}

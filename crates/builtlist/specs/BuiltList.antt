@@ -1,8 +1,8 @@
 -- 02, R-6, of files: what the program marks writes for the bytes of an image file and of a routine file, and for two
 -- words, the base and the reset address.
 -- Assumes nothing.
-use Rattle.std.specs.Prelude.{◌≡◌, ℕ, ◌+◌, ◌*◌, ◌≤◌, Bool, true, ◌&&◌, List, eqb, leb, length, Ok, Err}
-use Rattle.types.specs.Answers.{TestResult, Verdict}
+use Rattle.std.specs.Prelude.{◌≡◌, ℕ, ◌+◌, ◌*◌, ◌≤◌, Bool, true, ◌&&◌, List, eqb, length, Ok, Err}
+use Rattle.types.specs.Answers.{TestResult}
 use Rattle.prelude.specs.Choice.{pick}
 use Rattle.text.specs.Text.{starts_with}
 use Rattle.text.specs.Digits.{digits, value}

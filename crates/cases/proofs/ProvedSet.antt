@@ -15,7 +15,6 @@ use lib.Dec.{eqb, ltb}
 use lib.ListN.{length, get_or, set}
 use lib.Seq.{get_or-set_same}
 use Rattle.types.specs.declared.machine.State.{State}
-use Rattle.types.specs.Answers.{StepAnswer, TestResult}
 use Rattle.types.specs.declared.machine.Stop.{Stop}
 use Rattle.instructions.specs.CodePages.{plain, pages}
 use Rattle.instructions.specs.CodeMap.{entry_at}

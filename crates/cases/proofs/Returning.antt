@@ -11,7 +11,7 @@ use Prim.Native.Nat.{ℕ, zero, suc, ◌≤◌}
 use native.Mathlib.Omega.{arith}
 use lib.ListN.{replicate}
 use Rattle.types.specs.declared.machine.State.{State}
-use Rattle.types.specs.Answers.{StepAnswer, ended_by, TestResult, End, RunAnswer}
+use Rattle.types.specs.Answers.{ended_by}
 use Rattle.semantics.specs.Memory.{Memory}
 use Rattle.semantics.specs.Step.{Stepped, stepped, step}
 use Rattle.types.specs.Runs.{step_limit}

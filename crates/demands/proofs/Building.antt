@@ -9,7 +9,7 @@ use Prim.Native.Nat.{ℕ, ◌<◌}
 use native.Mathlib.Omega.{arith}
 use Rattle.packing.specs.Packed.{packed_verdict, packed_built, built_number}
 use Rattle.types.specs.declared.refusals.Refusal.{Refusal}
-use Rattle.types.specs.Answers.{TestResult, Verdict}
+use Rattle.types.specs.Answers.{TestResult}
 use Rattle.types.specs.Refusals.{refusal_number}
 use Rattle.acceptance.specs.Grounds.{AnswersBy}
 use Rattle.lists.specs.ListGrounds.{build_grounds}

@@ -9,7 +9,7 @@ use native.Mathlib.Omega.{arith}
 use lib.ListN.{length, drop}
 use Rattle.packing.specs.Packed.{list_read_numbers, read_numbers, list_written_numbers, written_numbers}
 use Rattle.types.specs.declared.lists.Header.{Header}
-use Rattle.types.specs.Answers.{ListRead, ListWritten}
+use Rattle.types.specs.Answers.{ListRead}
 use Rattle.lists.specs.MarkList.{new_digits, list_text, address_digits, marks_read, page_written}
 use Rattle.types.proofs.TestResults.{refusal_range}
 use Rattle.lists.proofs.RoundTrips.{read_is_text, read_then_written}

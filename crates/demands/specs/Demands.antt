@@ -15,7 +15,7 @@ use Rattle.std.specs.Prelude.{◌≡◌, ◌↔◌, ◌⊎◌, ℕ, ◌≤◌, �
 use Rattle.packing.specs.Packed.{verdict_numbers, check_numbers, list_read_numbers, read_numbers, list_written_numbers}
 use Rattle.packing.specs.Packed.{written_numbers, answer_numbers}
 use Rattle.types.specs.declared.refusals.Refusal.{Refusal}
-use Rattle.types.specs.Answers.{RunAnswer, ended_by}
+use Rattle.types.specs.Answers.{ended_by}
 use Rattle.types.specs.Refusals.{refusal_number}
 use Rattle.instructions.specs.CodeMap.{entry_at, length_at}
 use Rattle.acceptance.specs.Rules.{Accepts}

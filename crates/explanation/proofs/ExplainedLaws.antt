@@ -5,13 +5,13 @@ use Rattle.std.specs.Result.{result_unwrap_or}
 use mathlib.Core.Path.{◌≡◌, refl, sym, ap, ◌∙◌}
 use mathlib.Core.Bool.{true, false}
 use mathlib.Core.List.{List, [], ◌++◌, append-nil}
-use Prim.Native.Nat.{ℕ, ◌+◌, ◌-◌, ◌≤◌, ◌<◌}
+use Prim.Native.Nat.{ℕ, ◌+◌, ◌-◌, ◌≤◌}
 use native.Mathlib.Omega.{arith}
 use borrow.Author.Tests.{le-leb}
 use borrow.Rule.Slice.PartMut.{put_mid}
 use lib.ListN.{length, take, drop}
 use Rattle.types.specs.declared.lists.Header.{Header}
-use Rattle.types.specs.Answers.{ListRead, Printed}
+use Rattle.types.specs.Answers.{Printed}
 use Rattle.types.specs.declared.refusals.Refusal.{Refusal}
 use Rattle.text.proofs.Pages.{Front, front_next, part_room}
 use Rattle.lists.specs.MarkList.{read_list, marks_read, marks_by}

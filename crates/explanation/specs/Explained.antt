@@ -1,10 +1,9 @@
 -- `./check --explain` (docs/requests/explain.md), of files: what the program writes for the bytes of an image file and
 -- a list file.
 -- Assumes nothing.
-use Rattle.std.specs.Prelude.{ℕ, ◌+◌, ◌&&◌, List, [], ◌++◌, leb, length, Ok, Err}
+use Rattle.std.specs.Prelude.{ℕ, ◌+◌, List, [], ◌++◌, length, Ok, Err}
 use Rattle.types.specs.Answers.{ListRead}
 use Rattle.prelude.specs.Choice.{pick}
-use Rattle.types.specs.Addresses.{image_limit}
 use Rattle.lists.specs.MarkList.{is_old, address_digits, header_shown, marks_of, read_as}
 use Rattle.reports.specs.Explanation.{line_limit, explanation}
 use Rattle.answer.specs.AnswerLine as answer

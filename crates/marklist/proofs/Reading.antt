@@ -13,7 +13,7 @@ use lib.Dec.{eqb, ltb, leb}
 use lib.ListN.{length, get_or, drop, length-drop, get_or-eq_default}
 use Rattle.types.specs.declared.lists.Header.{Header}
 use Rattle.types.specs.declared.refusals.Refusal.{Refusal}
-use Rattle.types.specs.Answers.{TestResult, ListRead}
+use Rattle.types.specs.Answers.{TestResult}
 use Rattle.types.specs.Addresses.{bank_size}
 use Rattle.types.specs.Refusals.{first_refusal}
 use Rattle.text.specs.Text.{starts_with}

@@ -11,7 +11,6 @@ use lib.ListN.{length, take, drop, length-append}
 use borrow.Rule.Slice.PartMut.{put_mid}
 use Rattle.types.specs.declared.lists.Header.{Header}
 use Rattle.types.specs.declared.refusals.Refusal.{Refusal}
-use Rattle.types.specs.Answers.{TestResult, ListWritten}
 use Rattle.types.specs.Refusals.{first_refusal}
 use Rattle.acceptance.specs.Verdict.{marks_tests}
 use Rattle.lists.specs.MarkList.{new_digits, header_text, lines, first_address, list_text, write_tests, write_list}

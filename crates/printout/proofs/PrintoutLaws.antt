@@ -20,7 +20,7 @@ use Rattle.lists.proofs.ListAnswers.{read_passes}
 use Rattle.lists.proofs.RoundTrips.{starts_in_text}
 use Rattle.reports.proofs.PrintedAnswers.{printed_whole, rows_printed, page_rows}
 use Rattle.answer.specs.AnswerLine.{list_limit, are_within_limits, answer_by, verdict_answer, answer_of}
-use Rattle.answer.specs.AnswerLine.{list_answer, answer_for, answer_line}
+use Rattle.answer.specs.AnswerLine.{list_answer, answer_line}
 use Rattle.answer.proofs.AnswerLaws.{over_limits, within_limits}
 use Rattle.printout.specs.Printout.{files_page, printout_by, printout, page_limit, printed_as, files_printed}
 

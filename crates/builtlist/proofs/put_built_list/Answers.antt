@@ -1,11 +1,8 @@
 -- What is not taken is L; else the list is written for as many marks as the image has bytes.
-use Rattle.builtlist.proofs.Words.{not_taken, taken_list, taken_few}
+use Rattle.builtlist.proofs.Words.{not_taken, taken_list}
 use Rattle.builtlist.specs.BuiltList as spec
 use Rattle.answer.proofs.PutLaws.{put_inside, front_part}
 use native.Mathlib.Omega.{arith}
-use mathlib.Core.Path.{sym}
-use lib.ListN.{length}
-use lib.Seq.{length-take-le}
 use mathlib.Core.Path.{ap}
 use mathlib.Core.Bool.{not}
 use Rattle.builtlist.proofs.put_built_list.Goals as goal

@@ -1,7 +1,6 @@
 -- What the check refuses is passed on; what it accepts is printed, and every answer fits its packing.
 use Rattle.std.specs.Prelude.{Ok}
 use mathlib.Core.Path.{◌≡◌, sym, ap, ◌∙◌}
-use Rattle.types.specs.Answers.{Verdict}
 use Rattle.acceptance.specs.Verdict.{verdict}
 use Rattle.loader.proofs.Answers.{printed_fits}
 use Rattle.checker.proofs.Packing.{when_refused}

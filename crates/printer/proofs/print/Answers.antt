@@ -1,8 +1,7 @@
 -- A refusal leaves the page; what is accepted is printable with the starts that the view counts.
 use Rattle.std.specs.Prelude.{Ok}
-use mathlib.Core.Path.{sym, ◌∙◌}
+use mathlib.Core.Path.{sym}
 use Rattle.std.proofs.lemmas.Result.{err_from_is_err_and}
-use Rattle.types.specs.Answers.{Verdict}
 use Rattle.printer.proofs.Printing.{printable, judged_page, refused_page}
 use Rattle.printer.proofs.print.Goals as goal
 

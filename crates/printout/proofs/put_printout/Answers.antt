@@ -1,9 +1,7 @@
 -- Over a limit, and where nothing is printed, the line is that of the program check; else the rows are the page.
 use mathlib.Core.Path.{sym, ◌∙◌}
-use lib.ListN.{length}
-use lib.Seq.{length-take-le}
 use Rattle.reports.specs.PrintedPage.{page_after}
-use Rattle.answer.proofs.AnswerLaws.{within_few, within_short}
+use Rattle.answer.proofs.AnswerLaws.{within_short}
 use Rattle.answer.proofs.PutLaws.{front_part}
 use Rattle.printout.proofs.PrintoutLaws.{rows_taken, none_taken, over_printed, within_printed}
 use Rattle.printout.specs.Printout as spec

@@ -7,7 +7,6 @@ use native.Mathlib.Omega.{arith}
 use Rattle.std.proofs.lemmas.Result.{err_from_is_err_and}
 use mathlib.Core.Path.{◌≡◌, refl, sym, ◌∙◌}
 use lib.ListN.{length}
-use Rattle.types.specs.Answers.{TestResult}
 use Rattle.types.specs.Addresses.{image_limit}
 use Rattle.lists.specs.MarkList.{new_digits}
 use Rattle.types.specs.Refusals.{first_refusal}
