@@ -33,7 +33,7 @@ returns-in_err-given c =
     c.accumulator_of-named.ensures c.data_of.result c.data_of.ensures q.0)
 
 pub invariant_of-operands : goal.invariant_of-operands
-invariant_of-operands c = record { bounded = (rw c.number.ensures.0 c.number.ensures.1, c.args.i.bounded.1) }
+invariant_of-operands c = record { bounded = (c.number.ensures.1, c.args.i.bounded.1) }
 
 pub finish-requires : goal.finish-requires
 finish-requires c = c.effect_by-effect.ensures.1
