@@ -21,8 +21,7 @@ use Rattle.text.proofs.DigitLaws.{length_digits, count_most}
 use Rattle.instructions.specs.Decode.{page_of, decode}
 use Rattle.acceptance.specs.Image.{mark_m, mark_x}
 use Rattle.acceptance.specs.Verdict.{verdict}
-use Rattle.decoder.specs.declared.LayoutRead.{LayoutRead}
-use Rattle.decoder.specs.Layout.{layout_read, decoded_of, FittingIn, instruction_of}
+use Rattle.decoder.specs.Layout.{LayoutRead, layout_read, decoded_of, FittingIn, instruction_of}
 use Rattle.decoder.proofs.Layouts.{decoded_layout, fitting}
 use Rattle.explainer.proofs.Decoding.{few_left}
 use Rattle.codepages.specs.Packing.{unpacked, packed_at, packed_pages}

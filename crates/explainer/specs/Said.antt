@@ -2,16 +2,15 @@
 -- Assumes nothing.
 use Rattle.std.specs.Prelude.{ℕ, ◌+◌, List, drop, get_or}
 use Rattle.acceptance.specs.Rules.{instruction_at}
-use Rattle.decoder.specs.declared.Layout.{Layout}
-use Rattle.decoder.specs.Layout.{instruction_of}
+use Rattle.places.specs.Placed.{instruction_in}
+use Rattle.places.specs.declared.place.InstructionAt.{InstructionAt}
+use Rattle.places.specs.declared.place.Place.{Place}
 use Rattle.reports.specs.Explanation.{start_detail, whole_detail}
-use Rattle.explainer.specs.declared.place.Place.{Place}
 
--- of the instruction of a layout there: what stands behind its word
-abbrev pub whole_said : Place → ℕ → Layout → List ℕ
-whole_said place number layout =
-    whole_detail place.marks.bytes.now place.marks.base place.at number
-    (instruction_of (drop place.at place.image.now) layout)
+-- of an instruction there: what stands behind its word
+abbrev pub whole_said : InstructionAt → ℕ → List ℕ
+whole_said i number =
+    whole_detail i.place.marks.bytes.now i.place.marks.base i.place.at number (instruction_in i)
 
 -- of what is decoded there
 abbrev pub start_said : Place → ℕ → List ℕ

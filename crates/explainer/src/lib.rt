@@ -4,25 +4,22 @@
 mod line;
 mod numbers;
 mod owed;
-mod place;
 mod starts;
 
 ghost use Rattle.std.specs.Prelude.{◌≡◌, ◌++◌, ◌≤◌, length, get_or, []};
 ghost use Rattle.types.specs.Refusals.{refusal_number};
-ghost use Rattle.types.specs.declared.rules.Verdict.{Verdict};
+ghost use Rattle.types.specs.Answers.{refused_at};
 ghost use Rattle.acceptance.specs.Verdict.{verdict};
 ghost use Rattle.reports.specs.Explanation as spec;
 ghost use Rattle.explainer.specs.Room.{HasRoom};
 
 use crate::line::Line;
 use crate::numbers::{put_base, put_lengths, put_mark, put_reset};
-use crate::place::{Marks, Place};
 use crate::starts::put_at_start;
 use checker::check;
+use places::place::{Marks, Place};
 use text::bytes::put_bytes;
-use types::pages::Printed;
-use types::refusals::{Refusal, refusal_number};
-use types::rules::Verdict;
+use types::refusals::{Refusal, Refused};
 
 // No line has more bytes.
 pub const LINE_LIMIT: usize = 81;
@@ -52,7 +49,7 @@ fn put_heading(line: &mut Line, why: Refusal)
     requires { HasRoom line.old (spec.heading (refusal_number why)) }
     ensures { line.new ≡ line.old ++ spec.heading (refusal_number why) }
 {
-    line.push_decimal(refusal_number(why) as u64);
+    line.push_decimal(u8::from(why) as u64);
     line.push_text(b" ");
     line.push_text(word_of(why));
     line.push_text(b": ");
@@ -69,7 +66,7 @@ fn put_detail<'a>(
     at: usize,
     why: Refusal,
 )
-    requires refused { verdict image.now marks.now base reset ≡ Verdict.Refused why at }
+    requires refused { verdict image.now marks.now base reset ≡ refused_at why at }
     requires room { HasRoom line.old (spec.detail image.now marks.now base reset at (refusal_number why)) }
     ensures { line.new ≡ line.old ++ spec.detail image.now marks.now base reset at (refusal_number why) }
 {
@@ -92,8 +89,8 @@ fn explanation(image: &[u8], marks: &[u8], base: u32, reset: u32) -> Line
 {
     let mut line = Line::new();
     match check(image, marks, base, reset) {
-        Verdict::Accepted => line.push_text(b"accepted\n"),
-        Verdict::Refused { why, offset } => {
+        Ok(()) => line.push_text(b"accepted\n"),
+        Err(Refused { why, offset }) => {
             put_heading(&mut line, why);
             put_detail(&mut line, image, marks, base, reset, offset as usize, why);
             line.push_text(b"\n");
@@ -104,7 +101,13 @@ fn explanation(image: &[u8], marks: &[u8], base: u32, reset: u32) -> Line
 
 // Writes the line that explains the check's verdict at the front of a page, where that has room for it.
 #[tactic(auto, unfolding(reports::specs::Explanation::explained))]
-pub fn explain(image: &[u8], marks: &[u8], base: u32, reset: u32, page: &mut [u8]) -> Printed
+pub fn explain(
+    image: &[u8],
+    marks: &[u8],
+    base: u32,
+    reset: u32,
+    page: &mut [u8],
+) -> Result<usize, Refused>
     ensures answer { result ≡ spec.explained image.now marks.now base reset page.old }
     ensures page { page.new ≡ spec.page_explained image.now marks.now base reset page.old }
     ensures short { length (spec.explanation image.now marks.now base reset) ≤ spec.line_limit }
@@ -112,11 +115,11 @@ pub fn explain(image: &[u8], marks: &[u8], base: u32, reset: u32, page: &mut [u8
     let line = explanation(image, marks, base, reset);
     let text = line.text();
     if page.len() < text.len() {
-        return Printed::NotPrinted {
+        return Err(Refused {
             why: Refusal::Page,
             offset: 0,
-        };
+        });
     }
     put_bytes(page, text);
-    Printed::Rows(text.len())
+    Ok(text.len())
 }

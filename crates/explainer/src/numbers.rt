@@ -4,9 +4,9 @@ ghost use Rattle.reports.specs.Explanation as spec;
 ghost use Rattle.explainer.specs.Room.{HasRoom};
 
 use crate::line::{ADDRESS_DIGITS, Line};
-use crate::place::Marks;
 use image::is_start;
 use image::marks::mark_kind;
+use places::place::Marks;
 
 // The digits of a base or a reset address, as it is given.
 const GIVEN_DIGITS: usize = 8;
@@ -37,6 +37,14 @@ pub(crate) fn put_base(line: &mut Line, base: u32, size: usize)
     line.push_decimal(size as u64);
 }
 
+// An address lies in the image.
+#[tactic(auto, unfolding(reports::specs::Explanation::is_inside))]
+pub(crate) fn is_inside(marks: &Marks, address: u32) -> bool
+    ensures { result ≡ spec.is_inside marks.now.bytes.now marks.now.base address }
+{
+    marks.base <= address && address < marks.base + marks.bytes.len() as u32
+}
+
 // Adds what is said of an address where no start stands.
 #[tactic(auto, unfolding(reports::specs::Explanation::no_start_text))]
 pub(crate) fn put_no_start(line: &mut Line, inside: bool)
@@ -60,7 +68,7 @@ fn put_standing(line: &mut Line, marks: &Marks, address: u32)
     if is_start(mark) {
         line.push_fields(false, mark);
     } else {
-        put_no_start(line, marks.is_inside(address));
+        put_no_start(line, is_inside(marks, address));
     }
 }
 

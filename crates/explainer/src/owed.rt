@@ -4,9 +4,8 @@ ghost use Rattle.types.specs.declared.rules.Requirement.{Requirement};
 ghost use Rattle.acceptance.specs.Verdict.{is_start_at, has_mark_at};
 ghost use Rattle.reports.specs.Explanation as spec;
 
-use crate::place::Marks;
 use checker::start::{has_mark_at, is_start_at};
-use successors::kind_number;
+use places::place::Marks;
 use types::code::Flow;
 use types::rules::{Requirement, Requirements};
 
@@ -42,14 +41,14 @@ fn first_broken<F: Fn(Requirement) -> bool>(owed: Requirements, test: F) -> usiz
 pub(crate) fn first_without_start(marks: &Marks, owed: Requirements) -> usize
     ensures { result ≡ spec.first_broken (is_start_at marks.now.bytes.now marks.now.base) owed }
 {
-    first_broken(owed, |w| is_start_at(marks.bytes, marks.base, w))
+    first_broken(owed, |w| is_start_at(marks, w))
 }
 
 // Number 9: the first requirement that has another mark.
 pub(crate) fn first_with_other_mark(marks: &Marks, owed: Requirements) -> usize
     ensures { result ≡ spec.first_broken (has_mark_at marks.now.bytes.now marks.now.base) owed }
 {
-    first_broken(owed, |w| has_mark_at(marks.bytes, marks.base, w))
+    first_broken(owed, |w| has_mark_at(marks, w))
 }
 
 // The return widths of a call's target, its first requirement, are free.
@@ -69,7 +68,7 @@ pub(crate) fn return_kind(flow: Flow) -> u8
     ensures { result ≡ spec.return_kind flow }
 {
     match flow {
-        Flow::Return(kind) => kind_number(kind),
+        Flow::Return(kind) => u8::from(kind),
         _ => 0,
     }
 }

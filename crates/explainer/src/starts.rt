@@ -1,25 +1,25 @@
 // What is said of 5 to 10, which speak of the instruction at a start.
-ghost use Rattle.std.specs.Prelude.{◌≡◌, ◌++◌, ◌+◌, ◌-◌, ◌≤◌, ◌<◌, length, take, drop, get_or};
+ghost use Rattle.std.specs.Prelude.{◌≡◌, ◌++◌, ◌+◌, ◌≤◌, ◌<◌, length};
 ghost use Rattle.types.specs.Refusals.{refusal_number};
 ghost use Rattle.reports.specs.Explanation as spec;
 ghost use Rattle.codepages.specs.Packing.{unpacked};
-ghost use Rattle.decoder.specs.Layout.{Fitting};
 ghost use Rattle.explainer.specs.Room.{HasRoom};
 ghost use Rattle.explainer.specs.Said.{start_said, whole_said};
 
 use crate::line::{ADDRESS_DIGITS, Line};
-use crate::numbers::put_no_start;
+use crate::numbers::{is_inside, put_no_start};
 use crate::owed::{
     first_with_other_mark, first_without_start, is_free, requirement_at, return_kind,
 };
-use crate::place::{Marks, Place};
+use checker::owed::owed_there;
 use checker::start::first_start;
-use codepages::{packed_at, pages};
-use decoder::{Layout, LayoutRead, length_of, page_of};
+use codepages::packed_at;
+use decoder::{length_of, page_of};
 use entries::flow_of;
 use fields::byte_at;
 use image::marks::{mark_kind, mark_m, mark_x, return_m, return_x};
-use types::code::Flow;
+use places::place::{InstructionAt, Marks, Place};
+use types::code::{Flow, Undecoded};
 use types::refusals::Refusal;
 use types::rules::Requirements;
 
@@ -50,7 +50,7 @@ fn code_number(bytes: &[u8]) -> u32
     ensures { unpacked result ≡ spec.code_entry bytes.now }
 {
     let page = page_of(byte_at(bytes, 0));
-    packed_at(&pages(), page, byte_at(bytes, prefix_of(bytes)))
+    packed_at(page, byte_at(bytes, prefix_of(bytes)))
 }
 
 // 5: prefix and code of what is not carried.
@@ -107,7 +107,7 @@ fn put_flow(line: &mut Line, marks: &Marks, owed: Requirements)
     let named = requirement_at(owed, k);
     line.push_hex(ADDRESS_DIGITS, named.address);
     line.push_text(b" is ");
-    put_no_start(line, marks.is_inside(named.address));
+    put_no_start(line, is_inside(marks, named.address));
 }
 
 // 9: the address, the mark that must stand there and the one that does.
@@ -137,20 +137,19 @@ fn put_return(line: &mut Line, kind: u8, mark: u8)
     line.push_kind_widths(mark_kind(mark), return_m(mark), return_x(mark));
 }
 
-// 7 to 10, of the instruction of a layout: what stands behind its word.
+// 7 to 10: what stands behind the word of an instruction.
 #[tactic(auto, unfolding(reports::specs::Explanation::whole_detail))]
-fn put_whole(line: &mut Line, place: &Place, layout: Layout, why: Refusal)
-    requires fits { Fitting (length place.now.image.now - place.now.at) layout }
-    requires room { HasRoom line.old (whole_said place.now (refusal_number why) layout) }
-    ensures { line.new ≡ line.old ++ whole_said place.now (refusal_number why) layout }
+fn put_whole(line: &mut Line, i: &InstructionAt, why: Refusal)
+    requires { HasRoom line.old (whole_said i.now (refusal_number why)) }
+    ensures { line.new ≡ line.old ++ whole_said i.now (refusal_number why) }
 {
-    let marks = &place.marks;
-    let flow = flow_of(layout.number);
+    let marks = &i.place.marks;
+    let flow = flow_of(i.layout.number);
     match why {
-        Refusal::Overlap => put_overlap(line, marks, place.at, layout.length),
-        Refusal::Flow => put_flow(line, marks, place.owed(layout)),
-        Refusal::Widths => put_widths(line, marks, flow, place.owed(layout)),
-        _ => put_return(line, return_kind(flow), place.mark()),
+        Refusal::Overlap => put_overlap(line, marks, i.place.at, i.layout.length),
+        Refusal::Flow => put_flow(line, marks, owed_there(i)),
+        Refusal::Widths => put_widths(line, marks, flow, owed_there(i)),
+        _ => put_return(line, return_kind(flow), i.place.mark()),
     }
 }
 
@@ -160,13 +159,15 @@ pub(crate) fn put_at_start(line: &mut Line, place: &Place, why: Refusal)
     requires { HasRoom line.old (start_said place.now (refusal_number why)) }
     ensures { line.new ≡ line.old ++ start_said place.now (refusal_number why) }
 {
-    match place.layout() {
-        LayoutRead::Uncarried => put_code(line, place.address(), place.bytes()),
-        LayoutRead::Short => put_cut_off(line, place.address(), place.bytes(), place.mark()),
-        LayoutRead::Fits(layout) => {
+    let address = place.address().number();
+    match place.instruction() {
+        Err(Undecoded::NotCarried) => put_code(line, address, place.bytes()),
+        Err(Undecoded::CutOff) => put_cut_off(line, address, place.bytes(), place.mark()),
+        Ok(instruction) => {
+            let layout = instruction.layout;
             let bytes = &place.bytes()[..layout.length as usize];
-            put_start(line, place.address(), bytes, layout.number);
-            put_whole(line, place, layout, why);
+            put_start(line, address, bytes, layout.number);
+            put_whole(line, &instruction, why);
         }
     }
 }

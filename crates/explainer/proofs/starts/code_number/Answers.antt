@@ -6,7 +6,6 @@ pub returns : goal.returns
 returns c =
     rw (
       c.packed_at.ensures,
-      c.pages.ensures,
       c.byte_at-2.ensures,
       c.prefix_of.ensures.0,
       c.page_of-page.ensures.0,
