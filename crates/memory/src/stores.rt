@@ -5,7 +5,7 @@ ghost use Rattle.memory.specs.Listed.{listed};
 
 use types::machine::{Stop, Store};
 
-// What a step stores, in its order.
+// What a step stores, in its order: by value, for the library has no heap.
 #[derive(Clone, Copy)]
 pub enum Stores {
     None,
