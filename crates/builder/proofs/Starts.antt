@@ -32,7 +32,8 @@ module _ (marks order : List ℕ) (count i : ℕ) (l : Listing marks order count
   unfolding start_count
   count_here b e = rw (add-one, drop-cons marks i 0 inside, e)
 
-  pub listed_start : count < length order → start_at marks i ≡ true → Listing marks (set order count i) (count + 1) (i + 1)
+  pub listed_start : count < length order → start_at marks i ≡ true
+      → Listing marks (set order count i) (count + 1) (i + 1)
   listed_start room s = record {
     some = omega arith;
     few = omega (arith, l.few);

@@ -13,7 +13,8 @@ use types::code::Flow;
 #[tactic(auto, unfolding(lists::specs::Routines::target_listed, lists::specs::Routines::flow_listed))]
 fn target_listed(i: &InstructionAt, routines: &Marks) -> bool
     requires { routines.now.base ≡ i.now.place.marks.base }
-    ensures { result ≡ spec.target_listed routines.now.bytes.now routines.now.base i.now.place.at (Ok (instruction_in i.now)) }
+    ensures { result ≡ spec.target_listed routines.now.bytes.now routines.now.base i.now.place.at
+        (Ok (instruction_in i.now)) }
 {
     match flow_of(i.layout.number) {
         Flow::Call(_) => is_start(routines.mark_at(i.target().number())),
