@@ -71,16 +71,18 @@ module _ (marks order : List ℕ) (count place mark : ℕ) (q : Queue marks orde
   abbrev after : List ℕ
   after = set marks place mark
 
-  pub has_room : count < length order
-  has_room =
+  pub fewer : count < length marks
+  fewer =
       omega (
         arith,
         count_set marks place mark inside none odd,
         starts_most after,
         length-set marks place mark,
         q.counted,
-        q.room,
       )
+
+  has_room : count < length order
+  has_room = omega (arith, fewer, q.room)
 
   there : start_at after place ≡ true
   there = rw (get_or-set_same marks place mark 0 inside) odd

@@ -11,7 +11,7 @@ use lib.Dec.{eqb}
 use lib.ListN.{length, get_or, set, drop, drop_of_length-le}
 use lib.Seq.{get_or-set_same, get_or-set_other, drop-cons}
 use Rattle.prelude.specs.Choice.{pick}
-use Rattle.acceptance.specs.Image.{is_start, start_count}
+use Rattle.acceptance.specs.Image.{start_count}
 use Rattle.acceptance.specs.Verdict.{start_at}
 use Rattle.lists.specs.Routines.{Plain}
 use Rattle.acceptance.proofs.Verdict.{start_inside}
@@ -32,7 +32,8 @@ module _ (marks order : List ℕ) (count i : ℕ) (l : Listing marks order count
   unfolding start_count
   count_here b e = rw (add-one, drop-cons marks i 0 inside, e)
 
-  listed_start : count < length order → start_at marks i ≡ true → Listing marks (set order count i) (count + 1) (i + 1)
+  pub listed_start : count < length order → start_at marks i ≡ true
+      → Listing marks (set order count i) (count + 1) (i + 1)
   listed_start room s = record {
     some = omega arith;
     few = omega (arith, l.few);
@@ -62,7 +63,7 @@ module _ (marks order : List ℕ) (count i : ℕ) (l : Listing marks order count
               let before = old.1 in
               (old.0, omega arith, get_or-set_other order count old.0 i 0 (λ e. omega arith) ∙ old.2)
 
-  passed_over : start_at marks i ≡ false → Listing marks order count (i + 1)
+  pub passed_over : start_at marks i ≡ false → Listing marks order count (i + 1)
   passed_over none = record {
     some = omega arith;
     few = omega (arith, l.few);
@@ -77,18 +78,6 @@ module _ (marks order : List ℕ) (count i : ℕ) (l : Listing marks order count
           by : (b : Bool) → eqb at i ≡ b → (k : ℕ) × (k < count) × (get_or order k 0 ≡ at)
           by true e = let here = eqb-true at i e in absurd (true≢false (sym (rw here at t) ∙ none))
           by false e = let other = eqb-false at i e in l.covered at (omega (arith, other)) t
-
-  pub one_more_listed : (later : List ℕ) (more : ℕ) → count < length order
-      → more ≡ count + pick (is_start (get_or marks i 0)) 1 0
-      → later ≡ pick (is_start (get_or marks i 0)) (set order count i) order → Listing marks later more (i + 1)
-  one_more_listed later more room count-so order-so = by (is_start (get_or marks i 0)) refl count-so order-so
-    where
-      by : (b : Bool) → is_start (get_or marks i 0) ≡ b → more ≡ count + pick b 1 0
-          → later ≡ pick b (set order count i) order → Listing marks later more (i + 1)
-      by true s n e = rw (n, e) (listed_start room s)
-      by false s n e =
-          let same : more ≡ count = omega arith in
-          rw (same, e) (passed_over s)
 
 pub all_listed : (marks order : List ℕ) (count i : ℕ) → Listing marks order count i → length marks ≤ i
     → length marks ≤ length order → Plain marks → Queue marks order count

@@ -18,6 +18,7 @@ use image::IMAGE_LIMIT;
 use marklist::lines::first_address;
 use marklist::reader::{fill_marks, test_beside_image};
 use marklist::routines::{has_old_lines, is_routine_list};
+use places::place::Marks;
 use text::bytes::put_bytes;
 use types::refusals::Refusal;
 
@@ -58,7 +59,15 @@ fn work_out(image: &[u8], base: u32, reset: u32, routines: &[u8], made: &mut [u8
 {
     put_bytes(made, routines);
     close_up(image, base, reset, made);
-    packed_verdict(image, made, base, reset) == 0 && all_listed(image, made, base, routines)
+    if packed_verdict(image, made, base, reset) != 0 {
+        return false;
+    }
+    let marks = Marks { bytes: made, base };
+    let listed = Marks {
+        bytes: routines,
+        base,
+    };
+    all_listed(image, &marks, &listed)
 }
 
 // Builds the marks of an image whose length, base and routine list are in form. Asks for room beside the image, for the

@@ -1,12 +1,11 @@
 -- The marks that are made begin as those of the routines; the check and the list say whether they are admitted.
 use mathlib.Core.Path.{◌≡◌, sym, subst, ◌∙◌}
-use borrow.Author.Tests.{ne_eqb}
 use Rattle.builder.specs.Order.{Closed}
 use Rattle.builder.proofs.Answering.{copied, not_accepted, accepted_then}
 use Rattle.builder.proofs.work_out.Goals as goal
 
-pub returns-else-packed_verdict-eq0 : goal.returns-else-packed_verdict-eq0
-returns-else-packed_verdict-eq0 c =
+pub returns-then-packed_verdict-ne0 : goal.returns-then-packed_verdict-ne0
+returns-then-packed_verdict-ne0 c =
     let same : c.put_bytes.new.page ≡ c.args.routines.now =
     copied c.args.routines.now c.args.made.now c.put_bytes.new.page
     (c.requires.2 ∙ sym c.requires.1) c.put_bytes.ensures in
@@ -17,14 +16,13 @@ returns-else-packed_verdict-eq0 c =
     c.close_up.ensures in
     let args = c.args in (
       closed-up,
-      rw (ne_eqb _ _ c.if-packed_verdict-eq0.false)
-          (not_accepted args.image.now args.base args.reset args.routines.now
+      not_accepted args.image.now args.base args.reset args.routines.now
           c.close_up.new.marks c.packed_verdict.result c.packed_verdict.ensures
-          c.if-packed_verdict-eq0.false),
+          c.if-packed_verdict-ne0.true,
     )
 
-pub returns-then-packed_verdict-eq0 : goal.returns-then-packed_verdict-eq0
-returns-then-packed_verdict-eq0 c =
+pub returns : goal.returns
+returns c =
     let same : c.put_bytes.new.page ≡ c.args.routines.now =
     copied c.args.routines.now c.args.made.now c.put_bytes.new.page
     (c.requires.2 ∙ sym c.requires.1) c.put_bytes.ensures in
@@ -37,6 +35,6 @@ returns-then-packed_verdict-eq0 c =
       closed-up,
       accepted_then args.image.now args.base args.reset args.routines.now
           c.close_up.new.marks c.packed_verdict.result c.packed_verdict.ensures
-          c.if-packed_verdict-eq0.true
+          c.if-packed_verdict-ne0.false
           closed-up.as_listed c.all_listed.result c.all_listed.ensures,
     )

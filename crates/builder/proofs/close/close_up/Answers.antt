@@ -5,9 +5,9 @@ use Rattle.builder.proofs.close.close_up.Goals as goal
 pub returns : goal.returns
 returns c =
     let args = c.args in
-    let begun = begins args.image.now args.base args.reset args.marks.now c.put-first.new.marks
-    c.put-first.new.order c.put-first.result c.requires.1 c.put-first.ensures.0
-    c.put-first.ensures.1 in
+    let begun = begins args.image.now args.base args.reset args.marks.now c.put.new.marks
+    c.put.new.order.places c.put.new.order.count c.requires.1 c.put.ensures.0
+    c.put.ensures.1 in
     closed args.image.now args.base args.reset args.marks.now c.work.new.marks
-    c.work.new.order c.work.result (c.work.ensures args.reset args.marks.now
+    c.work.new.order.places c.work.new.order.count (c.work.ensures args.reset args.marks.now
     begun)

@@ -1,52 +1,41 @@
--- What is read at the start decides what it requires.
-use mathlib.Core.Path.{◌≡◌, sym, ap, ◌∙◌}
-use lib.ListN.{drop}
-use Rattle.decoder.specs.Layout.{decoded_of}
-use Rattle.decoder.proofs.Layouts.{fits_at}
-use Rattle.acceptance.specs.Rules.{instruction_at}
+-- Each requirement is put, and is that of a start.
+use native.Mathlib.Omega.{arith}
 use Rattle.builder.specs.Order.{put_owed}
-use Rattle.builder.proofs.Putting.{kept_same}
-use Rattle.builder.proofs.Owing.{read_by, behind_fits, behind_none}
+use Rattle.builder.proofs.Owing.{StartsOwed, starts_owed}
+use Rattle.builder.proofs.Putting.{kept_same, kept_through}
 use Rattle.builder.proofs.close.put_behind.Goals as goal
 
-pub put_owed-requires : goal.put_owed-requires
-put_owed-requires c =
-    let args = c.args in (
-      c.requires.0,
-      fits_at args.image.now args.at c.mark_m.result c.mark_x.result c.layout_at.result
-          c.layout_at.ensures c.in-Ok.layout c.in-Ok.is,
-      c.requires.1,
-      c.requires.2,
-      c.requires.3,
-    )
+pub put-requires : goal.put-requires
+put-requires c =
+    let starts : StartsOwed c.owed_behind-owed.result = rw c.owed_behind-owed.ensures (starts_owed _ _ _ _) in
+    (c.requires.0, rw c.in-One.is at starts, c.requires.4)
 
-pub returns-in-Ok : goal.returns-in-Ok
-returns-in-Ok c =
-    let there : instruction_at c.args.image.now c.args.marks.now c.args.at
-    ≡ decoded_of (drop c.args.at c.args.image.now) c.layout_at.result =
-    rw (← c.byte_at-mark.ensures)
-    (read_by c.args.image.now c.args.at c.byte_at-mark.result c.mark_m.result
-    c.mark_x.result c.layout_at.result c.mark_m.ensures.0 c.mark_x.ensures.0
-    c.layout_at.ensures) in
-    let args = c.args in
-    let behind = behind_fits args.image.now args.marks.now args.base args.at c.layout_at.result
-    there c.in-Ok.layout c.in-Ok.is in (
-      c.put_owed.ensures.0 ∙ ap (put_owed args.marks.now args.base) (sym behind),
-      c.put_owed.ensures.1,
-      c.put_owed.ensures.2,
-    )
+pub put-requires-in-Two : goal.put-requires-in-Two
+put-requires-in-Two c =
+    let starts : StartsOwed c.owed_behind-owed.result = rw c.owed_behind-owed.ensures (starts_owed _ _ _ _) in
+    let both = rw c.in-Two.is at starts in
+    (c.requires.0, both.0, c.requires.4)
 
-pub returns-in-Err : goal.returns-in-Err
-returns-in-Err c =
-    let there : instruction_at c.args.image.now c.args.marks.now c.args.at
-    ≡ decoded_of (drop c.args.at c.args.image.now) c.layout_at.result =
-    rw (← c.byte_at-mark.ensures)
-    (read_by c.args.image.now c.args.at c.byte_at-mark.result c.mark_m.result
-    c.mark_x.result c.layout_at.result c.mark_m.ensures.0 c.mark_x.ensures.0
-    c.layout_at.ensures) in
-    let args = c.args in (
-      behind_none args.image.now args.marks.now args.base args.at c.layout_at.result
-          there c.in-Err.is,
-      c.requires.0,
-      kept_same args.order.now args.count,
-    )
+pub put-requires-in-Two-2 : goal.put-requires-in-Two-2
+put-requires-in-Two-2 c =
+    let starts : StartsOwed c.owed_behind-owed.result = rw c.owed_behind-owed.ensures (starts_owed _ _ _ _) in
+    let both = rw c.in-Two.is at starts in
+    (c.put-in-Two.ensures.1, both.1, omega (arith, c.requires.4))
+
+pub returns-in-Nothing : goal.returns-in-Nothing
+unfolding put_owed
+returns-in-Nothing c =
+    (rw (← c.owed_behind-owed.ensures, c.in-Nothing.is), c.requires.0, kept_same _ _)
+
+pub returns-in-One : goal.returns-in-One
+unfolding put_owed
+returns-in-One c =
+    (rw (← c.owed_behind-owed.ensures, c.in-One.is) c.put.ensures.0, c.put.ensures.1, c.put.ensures.2)
+
+pub returns-in-Two : goal.returns-in-Two
+unfolding put_owed
+returns-in-Two c = (
+  rw (← c.owed_behind-owed.ensures, c.in-Two.is, ← c.put-in-Two.ensures.0) c.put-in-Two-2.ensures.0,
+  c.put-in-Two-2.ensures.1,
+  kept_through _ _ _ _ _ _ c.put-in-Two.ensures.2 c.put-in-Two-2.ensures.2,
+)

@@ -8,11 +8,11 @@ use Rattle.builder.specs.Order.{Queue, Working}
 use Rattle.builder.proofs.close.work.Given as goal
 
 abbrev pub invariant-loop-done : goal.invariant-loop-done
-invariant-loop-done l = Queue l.marks l.order l.count
+invariant-loop-done l = Queue l.marks l.order.places l.order.count
     × (length l.marks ≡ length l.initial.marks)
-    × (length l.order ≡ length l.initial.order)
-    × ((reset : ℕ) (routines : List ℕ) → Working l.image l.base reset routines l.initial.marks l.initial.order l.first 0
-    → Working l.image l.base reset routines l.marks l.order l.count l.done)
+    × ((reset : ℕ) (routines : List ℕ)
+    → Working l.image l.base reset routines l.initial.marks l.initial.order.places l.initial.order.count 0
+    → Working l.image l.base reset routines l.marks l.order.places l.order.count l.done)
 
 abbrev pub decreases-loop-done : goal.decreases-loop-done
 decreases-loop-done l = length l.initial.marks - l.done

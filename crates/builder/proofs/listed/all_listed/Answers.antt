@@ -7,11 +7,12 @@ use Rattle.builder.proofs.listed.all_listed.Goals as goal
 pub returns-then-is_stray : goal.returns-then-is_stray
 returns-then-is_stray c =
     let args = c.args in
-    one_stray args.image.now args.marks.now args.base args.routines.now c.loop-at.at c.loop-at.invariant
-    (omega arith) (sym c.is_stray.ensures ∙ c.if-is_stray.true)
+    one_stray args.image.now args.marks.now.bytes.now args.marks.now.base args.routines.now.bytes.now c.loop-at.at
+    c.loop-at.invariant (omega (arith, c.requires.0))
+    (rw c.requires.1 at (sym c.is_stray.ensures ∙ c.if-is_stray.true))
 
 pub returns : goal.returns
 returns c =
     let args = c.args in
-    none_stray args.image.now args.marks.now args.base args.routines.now c.loop-at.at c.loop-at.invariant
-    (omega arith) (omega arith)
+    none_stray args.image.now args.marks.now.bytes.now args.marks.now.base args.routines.now.bytes.now c.loop-at.at
+    c.loop-at.invariant (omega (arith, c.requires.0)) (omega (arith, c.requires.0))
