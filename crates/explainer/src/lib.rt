@@ -100,7 +100,11 @@ fn explanation(image: &[u8], marks: &[u8], base: u32, reset: u32) -> Line
 }
 
 // Writes the line that explains the check's verdict at the front of a page, where that has room for it.
-#[tactic(auto, unfolding(reports::specs::Explanation::explained))]
+#[tactic(auto, unfolding(
+    reports::specs::Explanation::explained,
+    reports::specs::Explanation::page_explained,
+    reports::specs::PrintedPage::page_after,
+))]
 pub fn explain(
     image: &[u8],
     marks: &[u8],
