@@ -4,7 +4,7 @@
 use Rattle.std.specs.Prelude.{Ok}
 use Rattle.std.proofs.Common.{◌≡◌, ℕ, ◌+◌, ◌≤◌, ◌<◌, Bool, true, false, List, leb, length, arith}
 use Rattle.types.specs.declared.refusals.Refusal.{Refusal}
-use Rattle.types.specs.Answers.{Verdict, refused_at, Printed}
+use Rattle.types.specs.Answers.{refused_at}
 use Rattle.types.specs.Addresses.{address_limit}
 use Rattle.types.specs.Refusals.{refusal_number}
 use Rattle.types.proofs.TestResults.{refusal_range, same_refusal}

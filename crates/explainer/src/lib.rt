@@ -83,7 +83,7 @@ fn put_detail<'a>(
 }
 
 // The line that explains the check's verdict.
-#[tactic(auto, unfolding(reports::specs::Explanation::explanation, reports::specs::Explanation::line_by))]
+#[tactic(auto, using(std::proofs::lemmas::Grind::common_steps), unfolding(reports::specs::Explanation::explanation, reports::specs::Explanation::line_by, reports::specs::Explanation::refused_line))]
 fn explanation(image: &[u8], marks: &[u8], base: u32, reset: u32) -> Line
     ensures { result ≡ spec.explanation image.now marks.now base reset }
 {
@@ -100,7 +100,7 @@ fn explanation(image: &[u8], marks: &[u8], base: u32, reset: u32) -> Line
 }
 
 // Writes the line that explains the check's verdict at the front of a page, where that has room for it.
-#[tactic(auto, unfolding(reports::specs::Explanation::explained))]
+#[tactic(auto, unfolding(reports::specs::Explanation::explained, reports::specs::Explanation::page_explained, reports::specs::PrintedPage::page_after))]
 pub fn explain(
     image: &[u8],
     marks: &[u8],

@@ -67,6 +67,7 @@ impl Line {
     }
 
     // Adds the last digits of a number, so many.
+    #[tactic(auto, using(text::proofs::DigitLaws::length_digits, std::proofs::lemmas::Grind::common_steps))]
     fn push_digits<N: InDigits>(&mut self, radix: u32, count: usize, n: N)
         requires radix { (0 < radix) × (radix ≤ 36) }
         requires room { HasRoom self.old (digits radix count (N.number n)) }

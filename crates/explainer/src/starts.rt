@@ -46,6 +46,7 @@ fn prefix_of(bytes: &[u8]) -> usize
 }
 
 // The number of the code's entry.
+#[tactic(auto, using(codepages::proofs::Unpacked::unpacked_at))]
 fn code_number(bytes: &[u8]) -> u32
     ensures { unpacked result ≡ spec.code_entry bytes.now }
 {

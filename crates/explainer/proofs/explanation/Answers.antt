@@ -1,4 +1,4 @@
--- No line is too long for its buffer; a refusal's is made of heading, text and line end.
+-- No line is too long for its buffer.
 use Rattle.std.proofs.Common.{arith}
 use Rattle.std.proofs.lemmas.Grind.{common_steps}
 use Rattle.reports.specs.Explanation as spec
@@ -22,7 +22,3 @@ unfolding spec.explanation spec.line_by spec.refused_line
 push_text-requires-in-Err c =
     let few = line_most c.args.image.now c.args.marks.now c.args.base c.args.reset in
     grind (arith, common_steps)
-
-pub returns-in-Err : goal.returns-in-Err
-unfolding spec.explanation spec.line_by spec.refused_line
-returns-in-Err c = grind (arith, common_steps)
