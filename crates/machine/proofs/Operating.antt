@@ -138,7 +138,8 @@ module _ (i : Fetched) (m : Memory) (place depth : ℕ) (file : List ℕ) where
             ≡ finished (changes (change (as_effect e r).registers to CallChange.Keep (listed e.stores))) i m place
             depth file calls)
             → (calls : List ℕ)
-            → left place depth t file' calls ram' ≡ finished (operates c (instruction i) m goes) i m place depth file calls
+            → left place depth t file' calls ram'
+            ≡ finished (operates c (instruction i) m goes) i m place depth file calls
         works_on t file' ram' finishes calls =
             finishes calls ∙ ap (λ p. finished p i m place depth file calls) worked_plan
 

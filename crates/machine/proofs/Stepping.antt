@@ -7,6 +7,7 @@ use mathlib.Core.Logic.{◌⊎◌, ⊎_elim}
 use mathlib.Core.Bool.{Bool}
 use mathlib.Core.List.{List, []}
 use Prim.Native.Nat.{ℕ, ◌-◌, ◌%◌, ◌<◌}
+use native.Mathlib.Omega.{arith}
 use lib.ListN.{get_or}
 use Rattle.cpu.specs.File.{registers_of}
 use Rattle.types.specs.declared.code.Kind.{Kind}
@@ -20,7 +21,7 @@ use Rattle.types.specs.Addresses.{address_limit}
 use Rattle.semantics.specs.Memory.{Memory}
 use Rattle.instructions.specs.Successors.{next_address, target_address}
 use Rattle.semantics.specs.Step.{Plan, Stepped, stops, changes, change, operates, calls, plan_by, fetched, on_decoded}
-use Rattle.semantics.specs.Step.{step, plan_by_within, step_within}
+use Rattle.semantics.specs.Step.{place_of, step, plan_by_within, step_within}
 use Rattle.machine.specs.declared.fetched.Fetched.{Fetched}
 use Rattle.machine.specs.Fetches.{Fetch, instruction, decoded_as, is_branch}
 use Rattle.machine.specs.StepResults.{state, core_at, left, finished, goes_on_by}
@@ -102,29 +103,36 @@ module _ (i : Fetched) (m : Memory) (place depth : ℕ) (file opens : List ℕ) 
         halted : stops Stop.Halt ≡ plan_by c there m opened Flow.Halt
         halted = refl
 
-module _ (m : Memory) (place depth : ℕ) (file opens : List ℕ) (found : Fetch) where
-  abbrev here : Core
-  here = core_at (place % address_limit) depth file
+-- what is fetched at the place of execution decides the step
+module _ (m : Memory) (place depth : ℕ) (file opens : List ℕ) (found : Fetch) (at : ℕ)
+    (is-at : at ≡ place % address_limit)
+  where
+    abbrev here : Core
+    here = core_at (place % address_limit) depth file
 
-  module _ (is-fetched : decoded_as found ≡ fetched m here) (after : Stepped) where
-    by_fetch : after ≡ on_decoded (decoded_as found) m (state here opens)
-        → after ≡ step m (state (core_at place depth file) opens)
-    unfolding step_within
-    by_fetch e =
-        e ∙ ap (λ d. on_decoded d m (state here opens)) is-fetched
-        ∙ ap (λ c. on_decoded (fetched m c) m (state c opens)) (core_kept place depth file)
+    at_place : at ≡ place_of here
+    at_place = is-at ∙ sym (place_kept (place % address_limit) depth file (omega arith))
 
-    pub step_whole : (i : Fetched) → found ≡ Ok i
-        → after ≡ on_decoded (Ok (instruction i)) m (state here opens)
-        → after ≡ step m (state (core_at place depth file) opens)
-    step_whole i e e' = by_fetch (rw e e')
+    module _ (fetches : (c : Core) → at ≡ place_of c → c.registers.status ≡ here.registers.status
+        → decoded_as found ≡ fetched m c) (after : Stepped) where
+      by_fetch : after ≡ on_decoded (decoded_as found) m (state here opens)
+          → after ≡ step m (state (core_at place depth file) opens)
+      unfolding step_within
+      by_fetch e =
+          e ∙ ap (λ d. on_decoded d m (state here opens)) (fetches here at_place refl)
+          ∙ ap (λ c. on_decoded (fetched m c) m (state c opens)) (core_kept place depth file)
 
-    pub step_uncarried : found ≡ Err Undecoded.NotCarried
-        → after ≡ left place depth (Err Stop.Uncarried) file opens m.ram
-        → after ≡ step m (state (core_at place depth file) opens)
-    step_uncarried e e' = by_fetch (rw (e, e', core_kept place depth file) refl)
+      pub step_whole : (i : Fetched) → found ≡ Ok i
+          → after ≡ on_decoded (Ok (instruction i)) m (state here opens)
+          → after ≡ step m (state (core_at place depth file) opens)
+      step_whole i e e' = by_fetch (rw e e')
 
-    pub step_outside : found ≡ Err Undecoded.CutOff
-        → after ≡ left place depth (Err Stop.Outside) file opens m.ram
-        → after ≡ step m (state (core_at place depth file) opens)
-    step_outside e e' = by_fetch (rw (e, e', core_kept place depth file) refl)
+      pub step_uncarried : found ≡ Err Undecoded.NotCarried
+          → after ≡ left place depth (Err Stop.Uncarried) file opens m.ram
+          → after ≡ step m (state (core_at place depth file) opens)
+      step_uncarried e e' = by_fetch (rw (e, e', core_kept place depth file) refl)
+
+      pub step_outside : found ≡ Err Undecoded.CutOff
+          → after ≡ left place depth (Err Stop.Outside) file opens m.ram
+          → after ≡ step m (state (core_at place depth file) opens)
+      step_outside e e' = by_fetch (rw (e, e', core_kept place depth file) refl)

@@ -51,7 +51,8 @@ module _ (image : List ℕ) (base : ℕ) (calls₀ ram₀ : List ℕ) (given : C
     pub counted : made ≤ steps
     pub within : steps ≤ asked
 
-  pub begins : (file : List ℕ) (place : ℕ) → given.depth ≤ call_limit → core_at place given.depth file ≡ given → RunInvariant calls₀ ram₀ file place given.depth 0 0
+  pub begins : (file : List ℕ) (place : ℕ) → given.depth ≤ call_limit → core_at place given.depth file ≡ given
+      → RunInvariant calls₀ ram₀ file place given.depth 0 0
   begins file place h same-core =
       let all : asked - 0 ≡ asked = omega arith in
       record {
@@ -103,7 +104,8 @@ module _ (image : List ℕ) (base : ℕ) (calls₀ ram₀ : List ℕ) (given : C
 
       pub stops_so : (stop : Stop) → left place depth (Err stop) file' calls' ram' ≡ step m s
           → (core : Core) → core ≡ core_at place depth file'
-          → left_by (record { ended = record { end = Some stop; steps = steps; calls = made }; core = core }) calls' ram'
+          → left_by (record { ended = record { end = Some stop; steps = steps; calls = made }; core = core }) calls'
+          ram'
           ≡ whole
       stops_so stop is-step core e =
           let answers : (step m s).answer ≡ Err stop = ap (λ t. t.answer) (sym is-step) in

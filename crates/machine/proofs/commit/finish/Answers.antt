@@ -16,13 +16,13 @@ returns-in_err-served_all c =
     let after = (as_effect a.effect (registers_of a.registers.now)).registers in
     let p = err_from_is_err_and c.from_residual.result c.from_residual.ensures.1 in
     rw (p.1, p.2)
-    (λ calls. stops_at_stores a.i (memory a.ram.now a.image.now a.base) a.i.place a.depth a.registers.now calls after a.to
-    CallChange.Keep (listed a.effect.stores) _ (sym c.in_err-served_all.ensures))
+    (λ calls. stops_at_stores a.i (memory a.ram.now a.image.now a.base) a.i.place a.depth a.registers.now calls after
+    a.to CallChange.Keep (listed a.effect.stores) _ (sym c.in_err-served_all.ensures))
 
 pub returns : goal.returns
 returns c =
     let a = c.args in
     let after = (as_effect a.effect (registers_of a.registers.now)).registers in
     λ calls. completes a.i (memory a.ram.now a.image.now a.base) a.i.place a.depth a.registers.now calls after a.to
-    CallChange.Keep (listed a.effect.stores) Completion.Ordinary c.put.new.registers calls c.write.new.ram _ c.number.ensures.0
-    refl (sym c.in_ok-served_all.ensures) c.put.ensures refl c.write.ensures
+    CallChange.Keep (listed a.effect.stores) Completion.Ordinary c.put.new.registers calls c.write.new.ram _
+    c.number.ensures.0 refl (sym c.in_ok-served_all.ensures) c.put.ensures refl c.write.ensures

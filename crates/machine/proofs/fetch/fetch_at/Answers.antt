@@ -18,14 +18,15 @@ returns-then-number-base-clause-fetched c =
 
 pub operand_at-requires : goal.operand_at-requires
 operand_at-requires c =
-    let a = c.args in
-    fits_at a.image.now (c.number-number.result - a.base) c.bit_at-m.result c.bit_at-x.result _ c.in_ok-layout.ensures _ refl
+    fits_at c.args.image.now (c.number-number.result - c.args.base) c.bit_at-m.result c.bit_at-x.result _
+    c.in_ok-layout.ensures _ refl
 
 pub invariant_of-result : goal.invariant_of-result
 invariant_of-result c =
     let a = c.args in
     let fits =
-    fits_at a.image.now (c.number-number.result - a.base) c.bit_at-m.result c.bit_at-x.result _ c.in_ok-layout.ensures _ refl in
+    fits_at a.image.now (c.number-number.result - a.base) c.bit_at-m.result c.bit_at-x.result _
+    c.in_ok-layout.ensures _ refl in
     record { inside = c.number-number.ensures.1; bounded = (fits.2, c.operand_at.ensures.1) }
 
 pub returns-in_err-layout-clause-fetched : goal.returns-in_err-layout-clause-fetched
@@ -36,7 +37,8 @@ returns-in_err-layout-clause-fetched c =
     (λ ram core there. fetched_at a.image.now a.base c.number-number.result a.status c.requires.0 c.requires.1
     (omega (arith, c.if-number-base.false)) c.bit_at-m.result c.bit_at-x.result c.bit_at-m.ensures.0
     c.bit_at-x.ensures.0 _
-    (decoded_not a.image.now (c.number-number.result - a.base) c.bit_at-m.result c.bit_at-x.result _ c.in_err-layout.ensures refl)
+    (decoded_not a.image.now (c.number-number.result - a.base) c.bit_at-m.result c.bit_at-x.result _
+    c.in_err-layout.ensures refl)
     ram core (c.number-number.ensures.0 ∙ there))
 
 pub returns-clause-fetched : goal.returns-clause-fetched
@@ -48,6 +50,7 @@ returns-clause-fetched c =
     λ ram core there. fetched_at a.image.now a.base c.number-number.result a.status c.requires.0 c.requires.1
     (omega (arith, c.if-number-base.false)) c.bit_at-m.result c.bit_at-x.result c.bit_at-m.ensures.0
     c.bit_at-x.ensures.0 _
-    (decoded_fits a.image.now (c.number-number.result - a.base) c.bit_at-m.result c.bit_at-x.result _ c.in_ok-layout.ensures _ _ refl
+    (decoded_fits a.image.now (c.number-number.result - a.base) c.bit_at-m.result c.bit_at-x.result _
+    c.in_ok-layout.ensures _ _ refl
     (ap with-operand c.operand_at.ensures.0))
     ram core (c.number-number.ensures.0 ∙ there)

@@ -16,7 +16,8 @@ returns-in_err-served_all c =
     rw (p.1, p.2)
     (stops_pushing a.i (memory a.ram.now a.image.now a.base) a.i.place a.depth a.registers.now a.calls.now a.kind
     c.next_address-next.result (get_or a.registers.now 4 0) c.pushes_return-stores.result _ a.i.inside (omega arith)
-    (rw c.address.ensures at c.next_address-next.ensures) refl c.pushes_return-stores.ensures c.in_err-served_all.ensures _ refl)
+    (rw c.address.ensures at c.next_address-next.ensures) refl c.pushes_return-stores.ensures
+    c.in_err-served_all.ensures _ refl)
 
 pub put-requires : goal.put-requires
 put-requires c = placed c.puts.result c.pushed_at.result (get_or c.args.registers.now 7 0) c.puts.ensures
@@ -26,8 +27,9 @@ returns c =
     let a = c.args in
     calls_so a.i (memory a.ram.now a.image.now a.base) a.i.place a.depth a.registers.now a.calls.now a.kind
     c.next_address-next.result (get_or a.registers.now 4 0) c.pushes_return-stores.result _ a.i.inside (omega arith)
-    (rw c.address.ensures at c.next_address-next.ensures) refl c.pushes_return-stores.ensures c.in_ok-served_all.ensures c.number.result
-    c.entry_of.result c.put.new.registers c.write.new.ram (c.number.ensures.0 ∙ c.target.ensures) refl c.entry_of.ensures
+    (rw c.address.ensures at c.next_address-next.ensures) refl c.pushes_return-stores.ensures
+    c.in_ok-served_all.ensures c.number.result c.entry_of.result c.put.new.registers c.write.new.ram
+    (c.number.ensures.0 ∙ c.target.ensures) refl c.entry_of.ensures
     (puts_s c.puts.result c.pushed_at.result (get_or a.registers.now 7 0) c.puts.ensures a.i a.registers.now _ _
     c.put.ensures
     (c.pushed_at.ensures

@@ -1,7 +1,6 @@
 -- Decimal mode, then the reads, then the operation's effect, as the definition has them.
 use Rattle.std.proofs.lemmas.Result.{err_from_is_err_and}
 use mathlib.Core.Path.{refl}
-use native.Mathlib.Omega.{arith}
 use Rattle.semantics.specs.Memory.{memory}
 use Rattle.machine.specs.StepResults.{goes_on_by}
 use Rattle.machine.proofs.Finishing.{none_read}
