@@ -27,7 +27,8 @@ printable image marks base reset starts accepted counted =
     record {
       size = omega (arith, counted, (pages_tell image marks base reset rules).page_size);
       few = omega (arith, counted, starts_most marks, right.few, right.same);
-      addresses = omega (arith, base_whole base (length image) rules.right_base, right.same);
+      same = right.same;
+      low = omega (arith, base_whole base (length image) rules.right_base, right.same);
     }
 
 -- by the room

@@ -1,7 +1,7 @@
--- The parts of a row, each of a size of its own, joined; the row of a place by the layout there.
+-- The parts of a row, each of a size of its own, joined; the row of a place by what is read there.
 -- Assumes nothing.
 use Rattle.types.specs.declared.code.Undecoded.{Undecoded}
-use Rattle.std.specs.Prelude.{Ok, Err}
+use Rattle.std.specs.Prelude.{Result, IfOk, Ok, Err}
 use mathlib.Core.Path.{◌≡◌, refl, sym, ap, ◌∙◌}
 use mathlib.Core.Bool.{true, false}
 use mathlib.Core.List.{List, [], ◌∷◌, ◌++◌, append_assoc}
@@ -14,7 +14,7 @@ use Rattle.prelude.specs.Concat.{concat_from}
 use Rattle.text.specs.Digits.{digit, digits}
 use Rattle.text.proofs.DigitLaws.{length_field}
 use Rattle.text.proofs.Pages.{Front, front_next}
-use Rattle.acceptance.specs.Image.{is_start, mark_m, mark_x}
+use Rattle.acceptance.specs.Image.{is_start}
 use Rattle.instructions.specs.Words.{blank, flush_left}
 use Rattle.reports.specs.PrintedPage.{row_size, cell_count, cell, cells, mark_columns, row, row_of, row_at}
 use Rattle.instructions.specs.Words.{syntax_word}
@@ -22,10 +22,11 @@ use Rattle.reports.proofs.PrintedPage.{length_cell, length_cells, length_flush, 
 use Rattle.codepages.specs.Packing.{unpacked}
 use Rattle.entries.proofs.Words.{word_short}
 use Rattle.decoder.specs.declared.Layout.{Layout}
-use Rattle.decoder.specs.Layout.{LayoutRead}
-use Rattle.decoder.specs.Layout.{decoded_of}
-use Rattle.decoder.proofs.Layouts.{decoded_layout}
-use Rattle.view.specs.Layout.{layout_at}
+use Rattle.decoder.specs.Layout.{instruction_of}
+use Rattle.acceptance.specs.Rules.{instruction_at}
+use Rattle.places.specs.declared.place.Place.{Place}
+use Rattle.places.specs.declared.place.InstructionAt.{InstructionAt}
+use Rattle.places.specs.Placed.{instruction_in, decoded}
 use Rattle.printer.proofs.Pieces.{Pieces, piece_fits, next_piece, all_pieces}
 
 -- ---- cells
@@ -126,33 +127,40 @@ module _ (image marks : List ℕ) (base at : ℕ) where
   unfolding row_at
   no_row e = rw e
 
-  module _ (started : is_start mark ≡ true) (layout-here : LayoutRead)
-      (is-layout : layout-here ≡ layout_at image marks at)
-    where
-      by_layout : row_at image marks base at
-          ≡ row_of (base + at) (drop at image) mark (decoded_of (drop at image) layout-here)
-      unfolding row_at
-      by_layout = rw (started, is-layout, decoded_layout (drop at image) (mark_m mark) (mark_x mark))
-
-      pub whole_row : (f : Layout) → layout-here ≡ Ok f
-          → row_at image marks base at ≡ row (base + at) (take f.length (drop at image)) (unpacked f.number) mark
-      unfolding row_of
-      whole_row f e = rw e at by_layout
+  module _ (started : is_start mark ≡ true) where
+    module _ (f : Layout) (whole : instruction_at image marks at ≡ Ok (instruction_of (drop at image) f)) where
+      whole_row : row_at image marks base at ≡ row (base + at) (take f.length (drop at image)) (unpacked f.number) mark
+      unfolding row_at row_of
+      whole_row = rw (started, whole)
 
       -- its size, and the page where it was put
-      pub whole_size : (f : Layout) → layout-here ≡ Ok f → row_size ≡ length (row_at image marks base at)
-      whole_size f e =
-          rw (whole_row f e) (sym (length_row (base + at) (take f.length (drop at image)) (unpacked f.number) mark
+      pub whole_size : row_size ≡ length (row_at image marks base at)
+      whole_size =
+          rw whole_row (sym (length_row (base + at) (take f.length (drop at image)) (unpacked f.number) mark
           (word_short f.number)))
 
-      pub whole_put : (f : Layout) → layout-here ≡ Ok f → (there size : ℕ) (page given : List ℕ)
-          → there ≡ mark → size ≡ f.length
-          → page ≡ row (base + at) (take size (drop at image)) (unpacked f.number) there ++ drop row_size given
+      pub whole_put : (page given : List ℕ)
+          → page ≡ row (base + at) (take f.length (drop at image)) (unpacked f.number) mark ++ drop row_size given
           → page ≡ row_at image marks base at ++ drop row_size given
-      whole_put f e there size page given e-mark e-size got = rw (whole_row f e) (rw (e-mark, e-size) at got)
+      whole_put page given got = rw whole_row got
 
-      -- where no instruction is read there is none
-      pub unread_row : (why : Undecoded) → layout-here ≡ Err why → row_at image marks base at ≡ []
-      unfolding row_of
-      unread_row Undecoded.NotCarried e = rw e at by_layout
-      unread_row Undecoded.CutOff e = rw e at by_layout
+    -- where no instruction is read there is none
+    pub unread_row : (why : Undecoded) → instruction_at image marks at ≡ Err why → row_at image marks base at ≡ []
+    unfolding row_at row_of
+    unread_row Undecoded.NotCarried e = rw (started, e)
+    unread_row Undecoded.CutOff e = rw (started, e)
+
+-- what is read at a place
+module _ (place : Place) (read : Result InstructionAt Undecoded)
+    (is-read : decoded read ≡ instruction_at place.image.now place.marks.bytes.now place.at) where
+  pub whole_there : (i : InstructionAt) → IfOk read (λ i. i.place ≡ place) → read ≡ Ok i
+      → instruction_at place.image.now place.marks.bytes.now place.at
+      ≡ Ok (instruction_of (drop place.at place.image.now) i.layout)
+  whole_there i here e =
+      let at : i.place ≡ place = rw e at here in
+      let so : Ok (instruction_in i) ≡ instruction_at place.image.now place.marks.bytes.now place.at = rw e at is-read in
+      sym (rw at at so)
+
+  pub unread_there : (why : Undecoded) → read ≡ Err why
+      → instruction_at place.image.now place.marks.bytes.now place.at ≡ Err why
+  unread_there why e = sym (rw e at is-read)

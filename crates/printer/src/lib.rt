@@ -9,6 +9,7 @@ ghost use Rattle.acceptance.specs.Verdict.{IsAccepted};
 ghost use Rattle.printer.specs.Printable.{Printable};
 
 use crate::rows::{ROW_SIZE, put_rows};
+use places::place::Marks;
 use types::refusals::{Refusal, Refused};
 use view::View;
 
@@ -28,7 +29,11 @@ fn print_rows(view: View, starts: usize, page: &mut [u8]) -> Result<usize, Refus
             offset: 0,
         });
     }
-    put_rows(page, view);
+    let marks = Marks {
+        bytes: view.marks,
+        base: view.base,
+    };
+    put_rows(page, view.image, &marks);
     Ok(size)
 }
 

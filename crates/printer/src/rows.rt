@@ -4,13 +4,12 @@ ghost use Rattle.codepages.specs.Packing.{unpacked};
 ghost use Rattle.reports.specs.PrintedPage as spec;
 
 use entries::operations::syntax_word;
-use fields::byte_at;
 use image::is_start;
 use image::marks::{mark_kind, mark_m, mark_x};
 use marklist::lines::{LINE_END, kind_letter};
+use places::place::{Marks, Place};
 use text::bytes::put_bytes;
 use text::digits::{digit, put_field};
-use view::View;
 
 // The bytes of a row, its line end among them.
 pub(crate) const ROW_SIZE: usize = 36;
@@ -74,36 +73,43 @@ fn put_row(page: &mut [u8], address: u32, bytes: &[u8], number: u32, mark: u8)
 }
 
 // Writes the row of a place, nothing where no instruction starts, and returns its length.
-fn put_row_at(page: &mut [u8], view: View, at: usize) -> usize
-    requires { (view.base + at < 4_294_967_296)
-        × (length (spec.row_at view.image.now view.marks.now view.base at) ≤ length page.old) }
-    ensures { (result ≡ length (spec.row_at view.entry.image.now view.entry.marks.now view.entry.base at))
+fn put_row_at(page: &mut [u8], place: &Place) -> usize
+    requires { length (spec.row_at place.now.image.now place.now.marks.bytes.now place.now.marks.base place.now.at)
+        ≤ length page.old }
+    ensures { (result ≡ length
+        (spec.row_at place.now.image.now place.now.marks.bytes.now place.now.marks.base place.now.at))
         × (page.new
-        ≡ spec.row_at view.entry.image.now view.entry.marks.now view.entry.base at ++ drop result page.old) }
+        ≡ spec.row_at place.now.image.now place.now.marks.bytes.now place.now.marks.base place.now.at
+        ++ drop result page.old) }
 {
-    let mark = byte_at(view.marks, at);
+    let mark = place.mark();
     if !is_start(mark) {
         return 0;
     }
-    let Ok(layout) = view.layout_at(at) else {
+    let Ok(instruction) = place.instruction() else {
         return 0;
     };
-    let end = at + layout.length as usize;
-    let address = view.base + at as u32;
-    put_row(page, address, &view.image[at..end], layout.number, mark);
+    let layout = instruction.layout;
+    let bytes = &place.bytes()[..layout.length as usize];
+    put_row(page, place.address().number(), bytes, layout.number, mark);
     ROW_SIZE
 }
 
 // Writes the rows of an image at the front of a page, each into the rest of it.
-pub(crate) fn put_rows(page: &mut [u8], view: View)
-    requires { (length (spec.page_text view.image.now view.marks.now view.base) ≤ length page.old)
-        × (view.base + length view.marks.now < 4_294_967_296) }
+pub(crate) fn put_rows(page: &mut [u8], image: &[u8], marks: &Marks)
+    requires { (length (spec.page_text image.now marks.now.bytes.now marks.now.base) ≤ length page.old)
+        × (length marks.now.bytes.now ≡ length image.now) }
     ensures { page.new
-        ≡ spec.page_text view.entry.image.now view.entry.marks.now view.entry.base
-        ++ drop (length (spec.page_text view.entry.image.now view.entry.marks.now view.entry.base)) page.old }
+        ≡ spec.page_text image.now marks.now.bytes.now marks.now.base
+        ++ drop (length (spec.page_text image.now marks.now.bytes.now marks.now.base)) page.old }
 {
     let mut written = 0;
-    for at in 0..view.marks.len() {
-        written += put_row_at(&mut page[written..], view, at);
+    for at in 0..marks.bytes.len() {
+        let place = Place {
+            image,
+            marks: *marks,
+            at,
+        };
+        written += put_row_at(&mut page[written..], &place);
     }
 }

@@ -18,7 +18,7 @@ returns-then-page-size c =
 
 pub put_rows-requires : goal.put_rows-requires
 put_rows-requires c =
-    (omega (arith, c.requires.size, c.if-page-size.false), c.requires.addresses)
+    (omega (arith, c.requires.size, c.if-page-size.false), c.requires.same)
 
 pub returns : goal.returns
 returns c =
