@@ -2,10 +2,9 @@
 // CARRIED).
 #![tactic(auto)]
 
-ghost use Rattle.std.specs.Prelude.{◌≡◌, ◌<◌};
-ghost use Rattle.codepages.specs.Packing.{packed_pages};
+ghost use Rattle.std.specs.Prelude.{◌<◌};
 
-use codepages::{CodePages, packed_at, pages};
+use codepages::packed_at;
 use decoder::{entry_at, length_of};
 use entries::operations::word_of;
 use std::io;
@@ -58,15 +57,15 @@ fn symbol_of(mode: Mode) -> &'static str {
 }
 
 // The line of a code of a page.
-fn say_line(rt: &impl Print, codes: &CodePages, page: usize, code: u8) -> io::Result<()>
-    requires { (codes.now ≡ packed_pages) × (page < 3) }
+fn say_line(rt: &impl Print, page: usize, code: u8) -> io::Result<()>
+    requires { page < 3 }
 {
     let prefix = PREFIXES[page];
-    let entry = entry_at(codes, page, code);
+    let entry = entry_at(page, code);
     if matches!(entry.operation, Operation::Unassigned) {
         return println!(rt; "{prefix} {code:02X} - - - 0 0 0 0 no");
     }
-    let number = packed_at(codes, page, code);
+    let number = packed_at(page, code);
     let [first, second, third] = word_of(number).map(char::from);
     let register = register_of(entry.accumulator);
     let symbol = symbol_of(entry.mode);
@@ -82,10 +81,9 @@ fn say_line(rt: &impl Print, codes: &CodePages, page: usize, code: u8) -> io::Re
 
 // The three pages.
 fn main(rt: HostRuntime) -> io::Result<()> {
-    let codes = pages();
     for page in 0..PREFIXES.len() {
         for code in 0..=255 {
-            say_line(&rt, &codes, page, code)?;
+            say_line(&rt, page, code)?;
         }
     }
     Ok(())
