@@ -1,7 +1,6 @@
 -- The status register's number with some flags changed is the number of the changed status.
 -- Assumes nothing.
 use Rattle.std.proofs.Common.{◌≡◌, ℕ, zero, suc, ◌+◌, ◌-◌, ◌*◌, ◌/◌, ◌%◌, ◌≤◌, Bool, true, false, eqb, refl, arith}
-use mir.Val.{bool_byte}
 use native.Mathlib.Nat.{div-div-eq-div-mul}
 use Rattle.types.specs.declared.machine.Status.{Status}
 use Rattle.anywidth.specs.AnyWidth.{low, is_negative}
@@ -43,11 +42,6 @@ pub widths_changed : (m x n : ℕ) → m ≤ 1 → x ≤ 1
 widths_changed m x n h h' =
     changed n _ (with_widths (eqb m 1) (eqb x 1) (status_of n))
     (omega (arith, width_bits n, bit_small m h, bit_small x h'))
-
--- a flag as a number, as the library's conversion has it
-pub as_bit : (flag : Bool) → bool_byte flag ≡ bit flag
-as_bit true = refl
-as_bit false = refl
 
 pub result_changed : (bits v n : ℕ)
     → status_of

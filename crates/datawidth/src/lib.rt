@@ -5,8 +5,6 @@ ghost use Rattle.std.specs.Prelude.{◌≡◌, ◌*◌, ◌%◌, ◌^◌, ◌<�
 ghost use Rattle.semantics.specs.Addressing.{bits};
 ghost use Rattle.anywidth.specs.AnyWidth as spec;
 
-use types::machine::bit_of;
-
 // Data where a larger number is wanted.
 pub fn wide(v: u16) -> u64
     ensures { result ≡ v }
@@ -62,7 +60,7 @@ pub fn merged(short: bool, old: u16, v: u64) -> u16
 pub fn sum(a: u16, v: u16, carry: bool) -> u64
     ensures { result ≡ spec.sum a v carry }
 {
-    a as u64 + v as u64 + bit_of(carry)
+    a as u64 + v as u64 + u64::from(carry)
 }
 
 // What a number below the size lacks to the highest number.
@@ -78,7 +76,7 @@ pub fn difference(short: bool, a: u16, v: u16, carry: bool) -> u64
     ensures { result ≡ spec.difference (bits short) a v carry }
 {
     let taken = low(short, v as u64);
-    a as u64 + complement(short, taken as u64) + bit_of(carry)
+    a as u64 + complement(short, taken as u64) + u64::from(carry)
 }
 
 // Data counted from the lowest signed number on.
@@ -103,7 +101,7 @@ fn is_outside(short: bool, v: u64) -> bool
 pub fn sum_overflows(short: bool, a: u16, v: u16, carry: bool) -> bool
     ensures { result ≡ spec.sum_overflows (bits short) a v carry }
 {
-    is_outside(short, signed(short, a) + signed(short, v) + bit_of(carry))
+    is_outside(short, signed(short, a) + signed(short, v) + u64::from(carry))
 }
 
 // V of a difference.
@@ -112,7 +110,7 @@ pub fn difference_overflows(short: bool, a: u16, v: u16, carry: bool) -> bool
 {
     is_outside(
         short,
-        signed(short, a) + complement(short, signed(short, v)) + bit_of(carry),
+        signed(short, a) + complement(short, signed(short, v)) + u64::from(carry),
     )
 }
 

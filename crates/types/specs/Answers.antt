@@ -18,6 +18,10 @@ TestResult = Result (Unit {0}) Refusal
 abbrev pub Verdict : Type 0
 Verdict = Result (Unit {0}) Refused
 
+-- a refusal that is about no instruction
+abbrev pub without_offset : Refusal → Refused
+without_offset why = record { why = why; offset = 0 }
+
 -- a refusal about an offset, of whatever was asked for
 abbrev pub refused_at : {A : Type 0} → Refusal → ℕ → Result A Refused
 refused_at why offset = Err (record { why = why; offset = offset })

@@ -22,13 +22,6 @@ pub struct Status {
     pub level: u8,
 }
 
-// A flag as a number.
-pub fn bit_of(flag: bool) -> u64
-    ensures { (result ≡ bit flag) × (result ≤ 1) }
-{
-    if flag { 1 } else { 0 }
-}
-
 impl Status {
     pub const C: u16 = 1;
 
@@ -73,14 +66,14 @@ impl From<Status> for u16 {
     ghost from_gives = { λ status number. number ≡ number_of status };
 
     fn from(status: Status) -> u16 {
-        Status::C * bit_of(status.carry) as u16
-            + Status::Z * bit_of(status.zero) as u16
-            + Status::I * bit_of(status.disable) as u16
-            + Status::D * bit_of(status.decimal) as u16
-            + Status::X * bit_of(status.x) as u16
-            + Status::M * bit_of(status.m) as u16
-            + Status::V * bit_of(status.overflow) as u16
-            + Status::N * bit_of(status.negative) as u16
+        Status::C * u16::from(status.carry)
+            + Status::Z * u16::from(status.zero)
+            + Status::I * u16::from(status.disable)
+            + Status::D * u16::from(status.decimal)
+            + Status::X * u16::from(status.x)
+            + Status::M * u16::from(status.m)
+            + Status::V * u16::from(status.overflow)
+            + Status::N * u16::from(status.negative)
             + Status::LEVEL * status.level as u16
     }
 }

@@ -1,6 +1,7 @@
 // Why a call is refused: document 01, 'Numbers', 1 to 15, and document 02, R-4, 16, R-6, 17.
 ghost use Rattle.std.specs.Prelude.{◌≡◌};
 ghost use Rattle.types.specs.Refusals as spec;
+ghost use Rattle.types.specs.Answers.{without_offset};
 
 use crate::code::Undecoded;
 
@@ -52,4 +53,13 @@ impl From<Undecoded> for Refusal {
 pub struct Refused {
     pub why: Refusal,
     pub offset: u32,
+}
+
+// A refusal that is about no instruction.
+impl From<Refusal> for Refused {
+    ghost from_gives = { λ why refused. refused ≡ without_offset why };
+
+    fn from(why: Refusal) -> Refused {
+        Refused { why, offset: 0 }
+    }
 }

@@ -2,6 +2,7 @@
 use mathlib.Core.Path.{refl, ap, ◌∙◌}
 use Rattle.semantics.specs.Addressing.{bits}
 use Rattle.anywidth.specs.AnyWidth.{is_outside}
+use Rattle.types.proofs.Flags.{as_bit}
 use Rattle.datawidth.proofs.difference_overflows.Goals as goal
 
 pub returns : goal.returns
@@ -11,5 +12,6 @@ returns c =
       c.complement.ensures.0,
       c.signed.ensures.0,
       c.signed-2.ensures.0,
-      c.bit_of.ensures.0,
+      c.from.ensures,
+      as_bit c.args.carry,
     ) refl)

@@ -1,7 +1,8 @@
 -- N and Z of the part that the width holds are taken away and put anew.
 use Rattle.std.proofs.Common.{◌∙◌}
 use Rattle.semantics.specs.Addressing.{bits}
-use Rattle.cpu.proofs.Numbers.{as_bit, result_changed}
+use Rattle.cpu.proofs.Numbers.{result_changed}
+use Rattle.types.proofs.Flags.{as_bit}
 use Rattle.cpu.proofs.flags.with_result.Goals as goal
 
 pub returns : goal.returns
