@@ -1,9 +1,8 @@
 -- Where the check takes a shorter way than the definition, both give the same: one comparison for the mark at an
 -- address, kept widths without the operand, 9 before 8, and 10 only where nothing is owed.
 -- Assumes nothing.
-use Rattle.std.proofs.Common.{◌≡◌, ℕ, ◌+◌, ◌-◌, ◌*◌, ◌/◌, ◌%◌, ◌<◌, ◌≤◌, Bool, true, false, eqb, leb, List, [], ◌∷◌}
-use Rattle.std.proofs.Common.{◌++◌, length, get_or, refl, arith, eqb-true, leb-false, leb-true}
-use lib.ListN.{get_or-eq_default}
+use Rattle.std.proofs.Common.{◌≡◌, ℕ, ◌+◌, ◌*◌, ◌/◌, ◌%◌, ◌<◌, Bool, true, false, eqb, List, [], ◌∷◌}
+use Rattle.std.proofs.Common.{◌++◌, refl, arith, eqb-true}
 use Rattle.codepages.specs.Packing.{unpacked}
 use Rattle.codepages.proofs.Unpacked.{kept_effect}
 use Rattle.types.specs.declared.code.Flow.{Flow}
@@ -12,8 +11,6 @@ use Rattle.types.specs.declared.refusals.Refusal.{Refusal}
 use Rattle.types.specs.Answers.{TestResult}
 use Rattle.types.specs.declared.rules.Requirement.{Requirement}
 use Rattle.types.specs.declared.rules.Requirements.{Requirements}
-use Rattle.prelude.specs.Choice.{pick}
-use Rattle.types.specs.Addresses.{address_limit}
 use Rattle.acceptance.specs.Image.{is_start, mark_at}
 use Rattle.types.specs.Refusals.{first_refusal}
 use Rattle.acceptance.specs.Rules.{mark_after, owed_by, owed_at, return_fits}

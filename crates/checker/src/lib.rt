@@ -26,7 +26,11 @@ fn starts_verdict(image: &[u8], marks: &Marks) -> Verdict
     // No range counts these places: a step is as long as the instruction that it passes.
     let mut at = 0;
     while at < marks.bytes.len() {
-        let place = Place { image, marks: *marks, at };
+        let place = Place {
+            image,
+            marks: *marks,
+            at,
+        };
         match step_at(&place) {
             Ok(bytes) => at += bytes as usize,
             Err(why) => {

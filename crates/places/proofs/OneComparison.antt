@@ -22,4 +22,3 @@ mark_by_place marks base address place fits low high wraps = by (leb base addres
     by false e =
         let below = leb-false base address e in
         get_or-eq_default marks 0 (omega arith)
-
