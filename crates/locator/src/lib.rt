@@ -10,6 +10,7 @@ ghost use Rattle.reports.specs.Locate.{located, places_located};
 
 use crate::addresses::test_addresses;
 use crate::pass::pass_marks;
+use places::place::Marks;
 use types::refusals::Refused;
 
 // The places of addresses, at the front of the lent ones. Every address is tested before the first is written. Asks
@@ -31,5 +32,6 @@ pub fn locate(
     if let Err(why) = test_addresses(addresses, base, image.len(), places.len()) {
         return Err(Refused { why, offset: 0 });
     }
-    Ok(pass_marks(image, marks, base, addresses, places))
+    let beside = Marks { bytes: marks, base };
+    Ok(pass_marks(image, &beside, addresses, places))
 }

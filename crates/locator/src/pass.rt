@@ -8,6 +8,7 @@ ghost use Rattle.locator.specs.Passing.{marked, end_at, KnownEnd, number_from, O
 use decoder::layout_at;
 use image::is_start;
 use image::marks::{mark_m, mark_x};
+use places::place::Marks;
 use types::addresses::ADDRESS_LIMIT;
 
 // How far a pass has come: how many addresses have their places; the last start passed, by its offset and its mark, 0
@@ -35,7 +36,8 @@ fn read_mark(state: Passing, at: usize, mark: u8) -> Passing
     }
 }
 
-// Where the instruction at an offset ends, at the widths of its mark; where none is read, at the offset.
+// Where the instruction at an offset ends, at the widths of its mark; where none is read, at the offset. The mark is
+// given, since the pass has it: a `Place` would read it again.
 #[tactic(auto, using(crate::proofs::Passes::end_fits, crate::proofs::Passes::end_at_none))]
 fn end_at(image: &[u8], at: usize, mark: u8) -> usize
     ensures { result ≡ end_at image.now at mark }
@@ -106,18 +108,18 @@ fn serve(
 // what the check and the tests show.
 pub(crate) fn pass_marks(
     image: &[u8],
-    marks: &[u8],
-    base: u32,
+    marks: &Marks,
     addresses: &[u32],
     places: &mut [u32],
 ) -> usize
-    requires { (length marks.now ≡ length image.now) × (base + length image.now ≤ address_limit)
-        × (spec.addresses_fit base (length image.now) addresses.now ≡ true)
+    requires { (length marks.now.bytes.now ≡ length image.now)
+        × (spec.addresses_fit marks.now.base (length image.now) addresses.now ≡ true)
         × (length addresses.now ≤ length places.old) }
-    ensures { (result ≡ (spec.pass_over image.now marks.now base addresses.now).read)
+    ensures { (result
+        ≡ (spec.pass_over image.now marks.now.bytes.now marks.now.base addresses.now).read)
         × (places.new
         ≡ map spec.place_number
-        (spec.pass_over image.now marks.now base addresses.now).places
+        (spec.pass_over image.now marks.now.bytes.now marks.now.base addresses.now).places
         ++ drop (length addresses.now) places.old) }
 {
     let mut state = Passing {
@@ -129,8 +131,8 @@ pub(crate) fn pass_marks(
     // The pass ends with the last address, wherever that lies, so no range counts the marks.
     let mut i = 0;
     while state.served < addresses.len() {
-        state = read_mark(state, i, marks[i]);
-        state = serve(image, base, addresses, places, i, state);
+        state = read_mark(state, i, marks.bytes[i]);
+        state = serve(image, marks.base, addresses, places, i, state);
         i += 1;
     }
     i

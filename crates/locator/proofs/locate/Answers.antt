@@ -18,13 +18,20 @@ returns-in-Err c reset accepted =
     refused_then args.image.now args.marks.now args.base reset args.addresses.now args.places.now
     accepted c.test_addresses.result c.test_addresses.ensures _ c.in-Err.is
 
+pub invariant_of-beside : goal.invariant_of-beside
+invariant_of-beside c =
+    let args = c.args in
+    let space = in_space args.image.now args.marks.now args.base c.requires.0 args.addresses.now
+    args.places.now c.requires.1 in
+    let same = as_many args.image.now args.marks.now args.base c.requires.0 args.addresses.now
+    args.places.now c.requires.1 in
+    record { low = omega (arith, space, same) }
+
 pub pass_marks-requires : goal.pass_marks-requires
 pass_marks-requires c =
     let args = c.args in
     let passes = c.in_default.is in (
       as_many args.image.now args.marks.now args.base c.requires.0 args.addresses.now
-          args.places.now c.requires.1,
-      in_space args.image.now args.marks.now args.base c.requires.0 args.addresses.now
           args.places.now c.requires.1,
       fit args.image.now args.marks.now args.base c.requires.0 args.addresses.now args.places.now
           c.requires.1 c.test_addresses.result c.test_addresses.ensures passes,

@@ -6,8 +6,8 @@ use Rattle.locator.proofs.pass.pass_marks.Goals as goal
 pub loop-state-init : goal.loop-state-init
 loop-state-init c =
     let args = c.args in (
-      begins args.image.now args.marks.now args.base args.addresses.now args.places.now
-          c.requires.0 c.requires.2,
+      begins args.image.now args.marks.now.bytes.now args.marks.now.base args.addresses.now args.places.now
+          c.requires.0 c.requires.1,
       omega arith,
       inl refl,
     )
@@ -17,7 +17,7 @@ pub bounds-marks-i : goal.bounds-marks-i
 bounds-marks-i c =
     let args = c.args in
     let loop = c.loop-state in
-    mark_left args.image.now args.marks.now args.base args.addresses.now args.places.now
+    mark_left args.image.now args.marks.now.bytes.now args.marks.now.base args.addresses.now args.places.now
     loop.places loop.state.served (last_of loop.state) loop.i loop.invariant.0 c.loop-state-test.true
 
 -- and when it has been read
@@ -27,17 +27,17 @@ serve-state-requires c =
     let loop = c.loop-state in
     let pre = c.requires in
     let below =
-    mark_left args.image.now args.marks.now args.base args.addresses.now args.places.now
+    mark_left args.image.now args.marks.now.bytes.now args.marks.now.base args.addresses.now args.places.now
     loop.places loop.state.served (last_of loop.state) loop.i loop.invariant.0 c.loop-state-test.true in
     let so =
-    is_marked args.image.now loop.state loop.i (get_or args.marks.now loop.i 0)
+    is_marked args.image.now loop.state loop.i (get_or args.marks.now.bytes.now loop.i 0)
     c.read_mark-state.result c.read_mark-state.ensures loop.invariant.1 loop.invariant.2 in
     let more = c.loop-state-test.true in (
       so.known,
-      omega (arith, so.low, below, pre.0, pre.1),
-      omega (arith, below, pre.0, pre.1),
+      omega (arith, so.low, below, args.marks.now.low),
+      omega (arith, below, args.marks.now.low),
       omega (arith, so.served, more),
-      omega (arith, so.served, more, loop.invariant.0.size, pre.3),
+      omega (arith, so.served, more, loop.invariant.0.size, pre.2),
     )
 
 -- and the address served
@@ -46,13 +46,13 @@ loop-state-preserved c =
     let args = c.args in
     let loop = c.loop-state in
     let so =
-    is_marked args.image.now loop.state loop.i (get_or args.marks.now loop.i 0)
+    is_marked args.image.now loop.state loop.i (get_or args.marks.now.bytes.now loop.i 0)
     c.read_mark-state.result c.read_mark-state.ensures loop.invariant.1 loop.invariant.2 in
     let one = c.serve-state.ensures in (
-      goes_on args.image.now args.marks.now args.base args.addresses.now args.places.now
+      goes_on args.image.now args.marks.now.bytes.now args.marks.now.base args.addresses.now args.places.now
           loop.places loop.state.served (last_of loop.state) loop.i loop.invariant.0
           c.loop-state-test.true c.read_mark-state.result c.serve-state.result
-          c.serve-state.new.places c.requires.3 so.served so.last one,
+          c.serve-state.new.places c.requires.2 so.served so.last one,
       omega (arith, so.low, one.same_start),
       one.known,
     )
@@ -61,5 +61,5 @@ pub returns : goal.returns
 returns c =
     let args = c.args in
     let loop = c.loop-state in
-    ends args.image.now args.marks.now args.base args.addresses.now args.places.now
+    ends args.image.now args.marks.now.bytes.now args.marks.now.base args.addresses.now args.places.now
     loop.places loop.state.served (last_of loop.state) loop.i loop.invariant.0 c.loop-state-test.false
