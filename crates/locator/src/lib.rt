@@ -29,9 +29,7 @@ pub fn locate(
         × (places.new ≡ places_located image.now marks.now base reset
         addresses.now places.old) }
 {
-    if let Err(why) = test_addresses(addresses, base, image.len(), places.len()) {
-        return Err(Refused { why, offset: 0 });
-    }
+    test_addresses(addresses, base, image.len(), places.len())?;
     let beside = Marks { bytes: marks, base };
     Ok(pass_marks(image, &beside, addresses, places))
 }

@@ -33,10 +33,8 @@ fn print_by_list(
     ensures answer { result ≡ spec.files_printed image.now text.now page.old }
     ensures page { page.new ≡ page_after result (spec.files_page image.now text.now) page.old }
 {
-    match read_list(text, marks) {
-        Ok(h) => print(image, marks, h.base, h.reset, page),
-        Err(why) => Err(Refused { why, offset: 0 }),
-    }
+    let h = read_list(text, marks)?;
+    print(image, marks, h.base, h.reset, page)
 }
 
 // Writes the page, or the line, for the bytes of two files at the front of a page, and returns its length. Asks for

@@ -1,5 +1,8 @@
 -- A refusal leaves the places; nothing is written before the last test, and then the pass writes them.
+use mathlib.Core.Path.{refl}
 use native.Mathlib.Omega.{arith}
+use Rattle.std.specs.Prelude.{Ok, Err}
+use Rattle.std.proofs.lemmas.Result.{err_from_is_err_and}
 use Rattle.locator.proofs.Answers.{as_many, in_space, refused_then, fit, room, places_found}
 use Rattle.locator.proofs.locate.Goals as goal
 
@@ -12,11 +15,13 @@ test_addresses-requires c =
           args.places.now c.requires.1,
     )
 
-pub returns-in-Err : goal.returns-in-Err
-returns-in-Err c reset accepted =
+pub returns-in_err-test_addresses : goal.returns-in_err-test_addresses
+returns-in_err-test_addresses c reset accepted =
     let args = c.args in
-    refused_then args.image.now args.marks.now args.base reset args.addresses.now args.places.now
-    accepted c.test_addresses.result c.test_addresses.ensures _ c.in-Err.is
+    let p = err_from_is_err_and c.from_residual.result c.from_residual.ensures.1 in
+    rw (p.1, p.2)
+    (refused_then args.image.now args.marks.now args.base reset args.addresses.now args.places.now
+    accepted (Err c.in_err-test_addresses.field-0.0) c.in_err-test_addresses.ensures _ refl)
 
 pub invariant_of-beside : goal.invariant_of-beside
 invariant_of-beside c =
@@ -30,19 +35,19 @@ invariant_of-beside c =
 pub pass_marks-requires : goal.pass_marks-requires
 pass_marks-requires c =
     let args = c.args in
-    let passes = c.in_default.is in (
+    let passes = refl in (
       as_many args.image.now args.marks.now args.base c.requires.0 args.addresses.now
           args.places.now c.requires.1,
       fit args.image.now args.marks.now args.base c.requires.0 args.addresses.now args.places.now
-          c.requires.1 c.test_addresses.result c.test_addresses.ensures passes,
+          c.requires.1 (Ok c.in_ok-test_addresses.field-0) c.in_ok-test_addresses.ensures passes,
       room args.image.now args.marks.now args.base c.requires.0 args.addresses.now args.places.now
-          c.requires.1 c.test_addresses.result c.test_addresses.ensures passes,
+          c.requires.1 (Ok c.in_ok-test_addresses.field-0) c.in_ok-test_addresses.ensures passes,
     )
 
 pub returns : goal.returns
 returns c reset accepted =
     let args = c.args in
     places_found args.image.now args.marks.now args.base reset args.addresses.now args.places.now
-    accepted c.test_addresses.result c.test_addresses.ensures c.in_default.is
+    accepted (Ok c.in_ok-test_addresses.field-0) c.in_ok-test_addresses.ensures refl
     c.pass_marks.result c.pass_marks.new.places c.pass_marks.ensures.0
     c.pass_marks.ensures.1
