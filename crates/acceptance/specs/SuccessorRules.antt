@@ -6,7 +6,6 @@ use Rattle.std.specs.Prelude.{◌≡◌, true, List, ℕ, ◌+◌, ◌<◌, leng
 use Rattle.types.specs.declared.code.Kind.{Kind}
 use Rattle.types.specs.declared.code.Flow.{Flow}
 use Rattle.types.specs.declared.code.Instruction.{Instruction}
-use Rattle.types.specs.Answers.{Decoded}
 use Rattle.acceptance.specs.Image.{is_start, mark_m, mark_x, mark_kind, return_m, return_x, mark_at}
 use Rattle.acceptance.specs.Rules.{instruction_at, Accepts}
 use Rattle.instructions.specs.Successors.{next_address, target_address, m_after, x_after, kind_number}

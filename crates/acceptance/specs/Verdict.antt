@@ -3,7 +3,8 @@
 -- 3).'
 -- Assumes nothing.
 use Rattle.types.specs.declared.code.Undecoded.{Undecoded}
-use Rattle.std.specs.Prelude.{◌≡◌, ℕ, ◌+◌, ◌-◌, Bool, true, not, ◌&&◌, List, [], ◌∷◌, ◌++◌, eqb, length, get_or, Ok, Err}
+use Rattle.std.specs.Prelude.{◌≡◌, ℕ, ◌+◌, ◌-◌, Bool, true, not, ◌&&◌, List, [], ◌∷◌, ◌++◌, eqb, length, get_or, Ok}
+use Rattle.std.specs.Prelude.{Err}
 use Rattle.prelude.specs.First.{first_from}
 use Rattle.types.specs.declared.code.Instruction.{Instruction}
 use Rattle.types.specs.Answers.{Decoded, refused_at, TestResult, Verdict}

@@ -1,7 +1,8 @@
 -- What a row of the proved set says, and when it holds: an image with its marks, the check's verdict, the mark list,
 -- and runs of the machine on the image, all by 01's definitions.
 -- Assumes nothing.
-use Rattle.std.specs.Prelude.{◌≡◌, ℕ, zero, suc, ◌≤◌, ◌<◌, true, List, [], ◌∷◌, ◌++◌, length, get_or, drop, Ok, Err, None}
+use Rattle.std.specs.Prelude.{◌≡◌, ℕ, zero, suc, ◌≤◌, ◌<◌, true, List, [], ◌∷◌, ◌++◌, length, get_or, drop, Ok, Err}
+use Rattle.std.specs.Prelude.{None}
 use Prim.Native.Char.{code}
 use Prim.Native.String.{String, len, char_at}
 use Rattle.types.specs.Answers.{ended_by, Verdict, RunAnswer}

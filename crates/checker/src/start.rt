@@ -155,8 +155,8 @@ fn test_whole(i: &InstructionAt) -> Result<(), Refusal>
     }
 }
 
-// The first rule that is broken at a place or, where none is, how many bytes are passed: the instruction's, or one where
-// none starts.
+// The first rule that is broken at a place or, where none is, how many bytes are passed: the instruction's, or one
+// where none starts.
 pub(crate) fn step_at(place: &Place) -> Result<u8, Refusal>
     ensures { result
         ≡ step_at place.now.image.now place.now.marks.bytes.now place.now.marks.base place.now.at }

@@ -101,7 +101,10 @@ fn is_outside(short: bool, v: u64) -> bool
 pub fn sum_overflows(short: bool, a: u16, v: u16, carry: bool) -> bool
     ensures { result ≡ spec.sum_overflows (bits short) a v carry }
 {
-    is_outside(short, signed(short, a) + signed(short, v) + u64::from(carry))
+    is_outside(
+        short,
+        signed(short, a) + signed(short, v) + u64::from(carry),
+    )
 }
 
 // V of a difference.

@@ -130,7 +130,8 @@ module _ (fewer limit : ℕ) (most : fewer ≤ limit) (more : List ℕ) where
       where
         changed : (change : CallChange) → length (calls_after change s.core.depth s.calls) ≡ length s.calls
         changed CallChange.Keep = refl
-        changed (CallChange.Open address kind) = length-set s.calls s.core.depth (call_record address (kind_number kind))
+        changed (CallChange.Open address kind) = length-set s.calls s.core.depth (call_record address (kind_number
+            kind))
         changed CallChange.Close = refl
 
         serves_so : (i : Instruction) (d : Change) (v : Served)

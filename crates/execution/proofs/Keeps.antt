@@ -53,7 +53,8 @@ use Rattle.semantics.proofs.Effects.{Comes, comes, SmallData, data_small, SmallS
 -- A plan that keeps all: registers in their widths, bytes stored, a call opened below the limit, its entry in bytes.
 abbrev Opens : ℕ → CallChange → Type 0
 Opens depth CallChange.Keep = Unit {0}
-Opens depth (CallChange.Open address kind) = (depth < call_limit) × (call_record address (kind_number kind) < 256 ^ record_size)
+Opens depth (CallChange.Open address kind) = (depth < call_limit) × (call_record address (kind_number kind) < 256 ^
+    record_size)
 Opens depth CallChange.Close = Unit {0}
 
 abbrev Fits : ℕ → Plan → Type 0

@@ -15,7 +15,7 @@ use lib.ListN.{length}
 use borrow.Author.Tests.{leb-true}
 use Rattle.types.specs.declared.machine.State.{State}
 use Rattle.types.specs.declared.machine.Stop.{Stop}
-use Rattle.types.specs.Answers.{StepAnswer, ended_by, TestResult, End, RunAnswer}
+use Rattle.types.specs.Answers.{StepAnswer, ended_by, End, RunAnswer}
 use Rattle.types.specs.declared.refusals.Refusal.{Refusal}
 use Rattle.prelude.specs.Choice.{pick, bit}
 use Rattle.types.specs.Addresses.{address_limit, image_limit}

@@ -10,7 +10,7 @@ use lib.Dec.{eqb}
 use lib.ListN.{length}
 use borrow.Author.Tests.{eq-eqb, ne_eqb, eqb-true}
 use Rattle.types.specs.declared.refusals.Refusal.{Refusal}
-use Rattle.types.specs.Answers.{TestResult, ended_by, End, RunAnswer}
+use Rattle.types.specs.Answers.{TestResult, ended_by, End}
 use Rattle.types.specs.Refusals.{first_refusal}
 use Rattle.semantics.specs.Memory.{Memory}
 use Rattle.execution.specs.Run.{history, completed_steps, calls_among, end_of, state_fits, run_tests, admission}

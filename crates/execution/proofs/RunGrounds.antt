@@ -11,7 +11,7 @@ use lib.Dec.{ltb, leb, eqb}
 use lib.ListN.{get_or, length}
 use Rattle.types.specs.declared.machine.Status.{Status}
 use Rattle.types.specs.declared.machine.State.{State}
-use Rattle.types.specs.Answers.{RunAnswer, TestResult}
+use Rattle.types.specs.Answers.{TestResult}
 use Rattle.execution.specs.Run.{ram_limit, ram_fits, call_fits, level_limit, calls_fit, state_fits, state_fits_within}
 use Rattle.execution.specs.Run.{run_tests, executed, admission, ran}
 use Rattle.execution.specs.RunGrounds.{WrongRam, WrongCall, WrongState, WrongBytes, run_grounds, RunAnswers}

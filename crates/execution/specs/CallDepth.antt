@@ -11,7 +11,6 @@ use Rattle.std.specs.Prelude.{◌≡◌, ℕ, ◌≤◌, List, ◌++◌, map, le
 use Rattle.types.specs.declared.code.Kind.{Kind}
 use Rattle.types.specs.declared.code.Flow.{Flow}
 use Rattle.types.specs.declared.code.Instruction.{Instruction}
-use Rattle.types.specs.Answers.{Decoded}
 use Rattle.types.specs.declared.machine.State.{State}
 use Rattle.semantics.specs.Memory.{Memory, memory}
 use Rattle.semantics.specs.Step.{call_limit, fetched, Stepped}

@@ -3,7 +3,8 @@
 -- at the end stand the machine's own, within `call_limit`.
 -- Assumes nothing.
 use Rattle.types.specs.declared.machine.Completion.{Completion}
-use Rattle.std.specs.Prelude.{ℕ, zero, suc, ◌+◌, Bool, true, false, not, ◌&&◌, ◌||◌, List, [], ◌∷◌, ◌++◌, eqb, Ok, Err, Some, None}
+use Rattle.std.specs.Prelude.{ℕ, zero, suc, ◌+◌, Bool, true, false, not, ◌&&◌, ◌||◌, List, [], ◌∷◌, ◌++◌, eqb, Ok}
+use Rattle.std.specs.Prelude.{Err, Some, None}
 use Rattle.std.specs.Prelude.{ltb, leb, length, get_or}
 use Rattle.types.specs.declared.code.Kind.{Kind}
 use Rattle.types.specs.declared.machine.State.{State}

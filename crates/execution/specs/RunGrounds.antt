@@ -3,7 +3,6 @@
 use Rattle.std.specs.Prelude.{◌≡◌, ◌⊎◌, List, [], ◌∷◌, ℕ, ◌<◌, ◌≤◌, ◌^◌, get_or, length, Err}
 use Rattle.types.specs.declared.machine.State.{State}
 use Rattle.types.specs.declared.refusals.Refusal.{Refusal}
-use Rattle.types.specs.Answers.{RunAnswer}
 use Rattle.execution.specs.Run.{ram_limit, executed, ran}
 use Rattle.types.specs.Addresses.{address_limit}
 use Rattle.semantics.specs.Step.{return_of, kind_of, call_limit}

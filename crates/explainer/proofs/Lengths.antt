@@ -2,7 +2,8 @@
 -- Assumes nothing.
 use Rattle.types.specs.declared.code.Undecoded.{Undecoded}
 use Rattle.std.specs.Prelude.{Ok, Err}
-use Rattle.std.proofs.Common.{◌≡◌, ℕ, ◌+◌, ◌*◌, ◌<◌, ◌≤◌, List, ◌++◌, length, get_or, take, drop, refl, arith, rules, lit≤, leb}
+use Rattle.std.proofs.Common.{◌≡◌, ℕ, ◌+◌, ◌*◌, ◌<◌, ◌≤◌, List, ◌++◌, length, get_or, take, drop, refl, arith, rules}
+use Rattle.std.proofs.Common.{lit≤, leb}
 use Rattle.std.proofs.Common.{zero, suc, Bool, true, false, length-append, eqb, add-one, length-take}
 use Rattle.types.specs.declared.code.Flow.{Flow}
 use Rattle.types.specs.declared.code.Instruction.{Instruction}

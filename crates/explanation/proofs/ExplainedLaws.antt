@@ -56,7 +56,8 @@ module _ (image marks : List ℕ) (base reset : ℕ) (page left : List ℕ) (roo
   line_left = kept ∙ (rw whole refl)
 
 -- a list that is read, explained
-pub explained_by : (image text marks read page left : List ℕ) (h : Header) (told : Printed) (n : ℕ) → length marks ≡ length image
+pub explained_by : (image text marks read page left : List ℕ) (h : Header) (told : Printed) (n : ℕ) → length marks ≡
+    length image
     → read_list text marks ≡ Ok h → read ≡ marks_read text marks → line_limit ≤ length page
     → length (explanation image read h.base h.reset) ≤ line_limit
     → left ≡ page_explained image read h.base h.reset page

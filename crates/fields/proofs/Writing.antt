@@ -29,7 +29,8 @@ module _ (field₀ : List ℕ) (size given : ℕ) where
       let on : i + 1 ≡ suc i = omega arith in
       rw on (rw (more, on) at l)
 
-  pub none_left : (field : List ℕ) (value i : ℕ) → length field₀ ≡ size → size ≤ i → Left field₀ size given field value i
+  pub none_left : (field : List ℕ) (value i : ℕ) → length field₀ ≡ size → size ≤ i → Left field₀ size given field
+      value i
       → field ≡ low_bytes size given
   unfolding low_bytes
   none_left field value i whole past l =

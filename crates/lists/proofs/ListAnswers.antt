@@ -8,7 +8,6 @@ use Prim.Native.Nat.{ℕ, ◌+◌, ◌*◌, ◌≤◌, ◌<◌}
 use native.Mathlib.Omega.{arith}
 use lib.ListN.{length, length-append}
 use Rattle.types.specs.declared.lists.Header.{Header}
-use Rattle.types.specs.Answers.{ListRead, ListWritten}
 use Rattle.types.specs.Refusals.{first_refusal}
 use Rattle.types.specs.Addresses.{address_limit, image_limit}
 use Rattle.acceptance.specs.Image.{base_fits}

@@ -15,7 +15,6 @@ use lib.ListN.{length, drop}
 use lib.Seq.{drop_at}
 use Rattle.types.specs.declared.lists.Header.{Header}
 use Rattle.types.specs.declared.refusals.Refusal.{Refusal}
-use Rattle.types.specs.Answers.{ListRead}
 use Rattle.prelude.specs.Choice.{pick}
 use Rattle.types.specs.Refusals.{first_refusal}
 use Rattle.text.specs.Digits.{digits}

@@ -10,7 +10,7 @@ use native.Mathlib.Omega.{arith}
 use lib.Dec.{leb}
 use lib.ListN.{length}
 use Rattle.types.specs.declared.lists.Header.{Header}
-use Rattle.types.specs.Answers.{ListRead, ListWritten, TestResult}
+use Rattle.types.specs.Answers.{TestResult}
 use Rattle.types.specs.Addresses.{bank_size}
 use Rattle.acceptance.specs.Image.{base_fits, start_count}
 use Rattle.lists.specs.MarkList.{list_base_fits, is_old, address_digits, header_shown, marks_of, is_list, read_tests}

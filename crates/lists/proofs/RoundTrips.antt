@@ -14,7 +14,6 @@ use lib.Dec.{eqb, ltb}
 use lib.ListN.{length, take, drop, length-append}
 use lib.Seq.{take_at, drop_at}
 use Rattle.types.specs.declared.lists.Header.{Header}
-use Rattle.types.specs.Answers.{ListRead, ListWritten, TestResult}
 use Rattle.types.specs.Refusals.{first_refusal}
 use Rattle.text.specs.Text.{starts_with}
 use Rattle.types.specs.Addresses.{address_limit}

@@ -4,7 +4,6 @@
 use Rattle.std.specs.Prelude.{◌≡◌, ◌⊎◌, Bool, true, List, [], ◌∷◌, ℕ, ◌+◌, ◌%◌, ◌<◌, length, Ok, Err}
 use Rattle.types.specs.declared.lists.Header.{Header}
 use Rattle.types.specs.declared.refusals.Refusal.{Refusal}
-use Rattle.types.specs.Answers.{ListRead, ListWritten, TestResult}
 use Rattle.acceptance.specs.Grounds.{WrongBase, Grounds, WrongLength, WrongReset, AnswersBy, WrongSize, WrongMark}
 use Rattle.types.specs.Addresses.{bank_size}
 use Rattle.lists.specs.ListForm.{IsMarkList, StartLines}

@@ -8,7 +8,8 @@ use Prim.Native.Nat.{ℕ, ◌+◌, ◌*◌, ◌/◌, ◌%◌, ◌^◌, ◌<◌}
 use native.Mathlib.Omega.{arith}
 use borrow.Author.Tests.{ne_eqb}
 use lib.Dec.{eqb}
-use Rattle.types.specs.Answers.{Verdict, refused_at, ListRead, ListWritten, Printed, Located, TestResult, End, RunAnswer}
+use Rattle.types.specs.Answers.{Verdict, refused_at, ListRead, ListWritten, Printed, Located, TestResult, End}
+use Rattle.types.specs.Answers.{RunAnswer}
 use Rattle.types.specs.declared.refusals.Refusal.{Refusal}
 use Rattle.types.specs.Refusals.{refusal_number}
 use Rattle.types.specs.Runs.{end_number}

@@ -158,7 +158,8 @@ module _ (place : Place) (read : Result InstructionAt Undecoded)
       ≡ Ok (instruction_of (drop place.at place.image.now) i.layout)
   whole_there i here e =
       let at : i.place ≡ place = rw e at here in
-      let so : Ok (instruction_in i) ≡ instruction_at place.image.now place.marks.bytes.now place.at = rw e at is-read in
+      let so : Ok (instruction_in i) ≡ instruction_at place.image.now place.marks.bytes.now place.at = rw e at
+      is-read in
       sym (rw at at so)
 
   pub unread_there : (why : Undecoded) → read ≡ Err why

@@ -21,7 +21,7 @@ use Rattle.types.specs.declared.code.Flow.{Flow}
 use Rattle.types.specs.declared.code.WidthEffect.{WidthEffect}
 use Rattle.types.specs.declared.code.Entry.{Entry}
 use Rattle.types.specs.declared.code.Instruction.{Instruction}
-use Rattle.types.specs.Answers.{Decoded, refused_at, Verdict}
+use Rattle.types.specs.Answers.{Decoded, refused_at}
 use Rattle.types.specs.declared.refusals.Refusal.{Refusal}
 use Rattle.types.specs.declared.rules.Requirement.{Requirement}
 use Rattle.types.specs.declared.rules.Requirements.{Requirements}

@@ -10,7 +10,7 @@ use Prim.Native.Nat.{ℕ, zero, suc, ◌≤◌, ◌+◌, ◌<◌}
 use native.Mathlib.Omega.{arith}
 use lib.Dec.{ltb, leb}
 use lib.ListN.{length}
-use Rattle.types.specs.Answers.{Located, refused_at}
+use Rattle.types.specs.Answers.{refused_at}
 use Rattle.reports.specs.LocateGrounds.{Unordered, HoldsOutside, WrongAddresses, locate_grounds, LocateAnswers}
 use Rattle.reports.specs.Locate.{is_ascending, all_inside, address_count, addresses_fit, pass_over, locate_tests}
 use Rattle.reports.specs.Locate.{located_by, located}

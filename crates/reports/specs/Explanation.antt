@@ -3,7 +3,8 @@
 -- instruction at a start, what that owes.
 -- Assumes nothing.
 use Rattle.types.specs.declared.code.Undecoded.{Undecoded}
-use Rattle.std.specs.Prelude.{◌≡◌, ℕ, zero, suc, ◌+◌, ◌-◌, ◌≤◌, ◌<◌, Bool, true, false, not, ◌&&◌, List, [], ◌∷◌, ◌++◌, Ok, Err}
+use Rattle.std.specs.Prelude.{◌≡◌, ℕ, zero, suc, ◌+◌, ◌-◌, ◌≤◌, ◌<◌, Bool, true, false, not, ◌&&◌, List, [], ◌∷◌}
+use Rattle.std.specs.Prelude.{◌++◌, Ok, Err}
 use Rattle.std.specs.Prelude.{eqb, ltb, leb, length, get_or, set, take, drop}
 use Prim.Native.Char.{code}
 use Prim.Native.String.{String, len, char_at}

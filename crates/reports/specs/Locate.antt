@@ -1,7 +1,8 @@
 -- 02, R-4, 'Many addresses in one reading': where an address lies, asked alone; the one pass over the marks that places
 -- many; the answer; and what the pass has to do with asking alone.
 -- Assumes nothing.
-use Rattle.std.specs.Prelude.{◌≡◌, ◌↔◌, ℕ, zero, suc, ◌+◌, ◌-◌, ◌*◌, max, ◌≤◌, ◌<◌, Bool, true, ◌&&◌, List, [], ◌∷◌, Ok, Err}
+use Rattle.std.specs.Prelude.{◌≡◌, ◌↔◌, ℕ, zero, suc, ◌+◌, ◌-◌, ◌*◌, max, ◌≤◌, ◌<◌, Bool, true, ◌&&◌, List, [], ◌∷◌}
+use Rattle.std.specs.Prelude.{Ok, Err}
 use Rattle.std.specs.Prelude.{◌++◌, map, eqb, ltb, leb, length, get_or, drop}
 use Rattle.types.specs.declared.refusals.Refusal.{Refusal}
 use Rattle.types.specs.Answers.{TestResult, refused_at, Verdict, Located}

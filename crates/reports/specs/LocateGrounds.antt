@@ -2,7 +2,7 @@
 -- Assumes nothing.
 use Rattle.std.specs.Prelude.{List, [], ◌∷◌, ◌⊎◌, ℕ, suc, ◌≤◌, ◌<◌, ◌+◌, length, get_or, Ok}
 use Rattle.types.specs.declared.refusals.Refusal.{Refusal}
-use Rattle.types.specs.Answers.{Located, refused_at}
+use Rattle.types.specs.Answers.{refused_at}
 use Rattle.reports.specs.Locate.{address_count, pass_over, located}
 use Rattle.acceptance.specs.Grounds.{Grounds, AnswersBy}
 use Rattle.lists.specs.ListGrounds.{WrongPage}

@@ -12,7 +12,6 @@ use lib.Dec.{eqb, T}
 use lib.ListN.{length, get_or}
 use Rattle.types.specs.declared.code.Operation.{Operation}
 use Rattle.types.specs.declared.code.Instruction.{Instruction}
-use Rattle.types.specs.Answers.{Decoded}
 use Rattle.types.specs.declared.machine.Status.{Status}
 use Rattle.types.specs.declared.machine.State.{State}
 use Rattle.types.specs.declared.machine.OperandPlace.{OperandPlace}

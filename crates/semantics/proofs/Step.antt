@@ -28,7 +28,7 @@ use Rattle.types.specs.declared.machine.CallChange.{CallChange}
 use Rattle.types.specs.declared.machine.Data.{Data}
 use Rattle.prelude.specs.Choice.{pick, bit}
 use Rattle.types.specs.Addresses.{address_limit}
-use Rattle.instructions.specs.Successors.{next_address, kind_number}
+use Rattle.instructions.specs.Successors.{next_address}
 use Rattle.semantics.specs.Memory.{Memory, memory, is_in_image, Outcome, done, unmapped, evaluate, served_at, served}
 use Rattle.semantics.specs.Addressing.{operand_use_of, data_of, pulled_at}
 use Rattle.semantics.specs.Arithmetic.{with_s}

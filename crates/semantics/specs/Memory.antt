@@ -2,7 +2,8 @@
 -- Nothing else is mapped.' What a step reads is an action, which names its addresses in their order; what it stores is
 -- a list.
 -- Assumes nothing.
-use Rattle.std.specs.Prelude.{ℕ, ◌+◌, ◌-◌, ◌*◌, Bool, true, false, ◌&&◌, List, [], ◌∷◌, ltb, leb, length, get_or, set, Ok, Err, Some, None, Option}
+use Rattle.std.specs.Prelude.{ℕ, ◌+◌, ◌-◌, ◌*◌, Bool, true, false, ◌&&◌, List, [], ◌∷◌, ltb, leb, length, get_or, set}
+use Rattle.std.specs.Prelude.{Ok, Err, Some, None, Option}
 use Rattle.types.specs.declared.machine.Store.{Store}
 use Rattle.types.specs.declared.machine.Stop.{Stop}
 use Rattle.types.specs.Answers.{Served}

@@ -7,7 +7,6 @@ use Rattle.std.specs.Prelude.{◌≡◌, ℕ, ◌<◌, Ok}
 use Rattle.std.specs.Int.Bits.{bit_or}
 use Rattle.types.specs.declared.code.Operation.{Operation}
 use Rattle.types.specs.declared.code.Instruction.{Instruction}
-use Rattle.types.specs.Answers.{Decoded, StepAnswer}
 use Rattle.types.specs.declared.machine.State.{State}
 use Rattle.types.specs.Status.{number_of}
 use Rattle.anywidth.specs.AnyWidth.{size, low, cleared_by}

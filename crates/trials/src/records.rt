@@ -1,6 +1,6 @@
-// The records of the vector files (sim/README.md, 'Vector files'), a function a kind: it takes the parts in their order,
-// makes the call, and compares the answer and every byte of each lent buffer with what the record says. Where all agree
-// it returns the number of the answer.
+// The records of the vector files (sim/README.md, 'Vector files'), a function a kind: it takes the parts in their
+// order, makes the call, and compares the answer and every byte of each lent buffer with what the record says. Where
+// all agree it returns the number of the answer.
 use crate::parts::{BYTES, Records, WORDS};
 use loader::{
     m7700_build_marks, m7700_check, m7700_explain, m7700_locate, m7700_print, m7700_read_list,

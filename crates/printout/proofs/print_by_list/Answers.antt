@@ -1,7 +1,7 @@
 -- A list that is refused prints nothing; one that is read gives the marks by which the image is printed.
 use Rattle.std.specs.Prelude.{Ok}
 use Rattle.std.proofs.lemmas.Result.{err_from_is_err_and}
-use mathlib.Core.Path.{◌≡◌, refl, sym, ◌∙◌}
+use mathlib.Core.Path.{◌≡◌, refl, sym}
 use Rattle.reports.specs.PrintedPage.{page_after}
 use Rattle.lists.specs.MarkList.{read_list}
 use Rattle.printout.proofs.PrintoutLaws.{list_refused, list_printed, page_printed_lem}

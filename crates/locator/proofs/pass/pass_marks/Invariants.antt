@@ -6,7 +6,8 @@ use Rattle.locator.proofs.Passes.{Passes}
 use Rattle.locator.proofs.pass.pass_marks.Given as goal
 
 abbrev pub invariant-loop-state : goal.invariant-loop-state
-invariant-loop-state l = Passes l.image l.marks.bytes.now l.marks.base l.addresses l.initial.places l.places l.state.served
+invariant-loop-state l = Passes l.image l.marks.bytes.now l.marks.base l.addresses l.initial.places l.places
+    l.state.served
     (last_of l.state) l.i
     × (l.state.start ≤ l.i)
     × KnownEnd l.image l.state

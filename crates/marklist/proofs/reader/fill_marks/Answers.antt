@@ -36,7 +36,8 @@ loop-i-preserved c =
     let shown = rw (part_whole loop.place args.text.now) at c.mark_shown.ensures in
     let size = c.line_size-place.result in (
       one_more_filled count args.text.now args.at args.address args.marks.now loop.marks loop.place
-          loop.i c.mark_shown.result size (omega (arith, loop.invariant.0.2, c.loop-i-test.true)) shown c.line_size-place.ensures loop.invariant.0,
+          loop.i c.mark_shown.result size (omega (arith, loop.invariant.0.2, c.loop-i-test.true)) shown
+          c.line_size-place.ensures loop.invariant.0,
       one_more_walked count args.text.now args.at args.address (length args.marks.now) loop.place
           loop.i size c.loop-i-test.true (rw shown at c.line_size-place.ensures)
           loop.invariant.1,

@@ -49,7 +49,8 @@ returns c =
     c.instruction.ensures.here c.in-Ok.is in (
       whole_size place.image.now place.marks.bytes.now place.marks.base place.at started _ whole,
       whole_put place.image.now place.marks.bytes.now place.marks.base place.at started _ whole c.put_row.new.page
-          c.args.page.now (rw (c.number.ensures.0 ∙ c.address.ensures, c.bytes.ensures, c.mark-mark.ensures) at c.put_row.ensures),
+          c.args.page.now (rw (c.number.ensures.0 ∙ c.address.ensures, c.bytes.ensures, c.mark-mark.ensures) at
+          c.put_row.ensures),
     )
 
 pub returns-in_default : goal.returns-in_default

@@ -50,7 +50,8 @@ loop-at-preserved c =
     let rows = spec.row_at args.image.now marks args.marks.now.base in
     let room : length (concat_from rows 0 (length marks)) ≤ length args.page.now = c.requires.0 in
     next_piece rows (length marks) args.page.now loop.page loop.written loop.at room c.loop-at-test.true loop.invariant
-    c.put_row_at-written.result c.put_row_at-written.new.page c.put_row_at-written.ensures.0 c.put_row_at-written.ensures.1
+    c.put_row_at-written.result c.put_row_at-written.new.page c.put_row_at-written.ensures.0
+    c.put_row_at-written.ensures.1
 
 pub shape_of-page : goal.shape_of-page
 shape_of-page c = front_length c.loop-at.invariant.front
@@ -60,5 +61,6 @@ unfolding spec.page_text
 returns c =
     let args = c.args in
     let loop = c.loop-at in
-    all_pieces (spec.row_at args.image.now args.marks.now.bytes.now args.marks.now.base) (length args.marks.now.bytes.now)
+    all_pieces (spec.row_at args.image.now args.marks.now.bytes.now args.marks.now.base) (length
+    args.marks.now.bytes.now)
     args.page.now loop.page loop.written loop.at c.loop-at-test.false loop.invariant

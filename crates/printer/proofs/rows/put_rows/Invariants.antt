@@ -5,4 +5,5 @@ use Rattle.printer.proofs.Pieces.{Pieces}
 use Rattle.printer.proofs.rows.put_rows.Given as goal
 
 abbrev pub invariant-loop-at : goal.invariant-loop-at
-invariant-loop-at l = Pieces (spec.row_at l.image l.marks.bytes.now l.marks.base) (length l.marks.bytes.now) l.initial.page l.page l.written l.at
+invariant-loop-at l = Pieces (spec.row_at l.image l.marks.bytes.now l.marks.base) (length l.marks.bytes.now)
+    l.initial.page l.page l.written l.at

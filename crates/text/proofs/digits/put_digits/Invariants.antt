@@ -6,5 +6,6 @@ use Rattle.text.specs.Digits as spec
 use Rattle.text.proofs.digits.put_digits.Given as goal
 
 abbrev pub invariant-loop-i : goal.invariant-loop-i
-invariant-loop-i g l = (spec.digits l.radix l.i (g.N.InDigits.number l.rest) ++ drop l.i l.page ≡ spec.digits l.radix l.count (g.N.InDigits.number l.fn.n) ++ drop l.count
+invariant-loop-i g l = (spec.digits l.radix l.i (g.N.InDigits.number l.rest) ++ drop l.i l.page ≡ spec.digits l.radix
+    l.count (g.N.InDigits.number l.fn.n) ++ drop l.count
     l.initial.page)
