@@ -1,4 +1,5 @@
-// The line that shows an answer.
+// The line that shows an answer. The page is lent, for there is no heap, so that each function returns how many of its
+// bytes it wrote.
 ghost use Rattle.std.specs.Prelude.{◌≤◌, length};
 ghost use Rattle.answer.specs.AnswerLine as spec;
 

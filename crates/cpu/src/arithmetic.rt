@@ -1,6 +1,6 @@
 // What operations do with data and a register of the file, over the width of the data. The place of the register is
-// asked to be one of the file's eight, as three bits of a task are, so that no step tests it. What `as_effect` leaves
-// open of an effect is named in effects.rt.
+// asked to be one of the file's eight, as three bits of a task are, so that no step tests it; it is no enum, for the
+// same bits tell other actions whether flags are set. What `as_effect` leaves open of an effect is named in effects.rt.
 ghost use Rattle.std.specs.Prelude.{◌≡◌, ◌<◌, ◌≤◌};
 ghost use Rattle.semantics.specs.Addressing.{bits, operand_place_of};
 ghost use Rattle.types.specs.Status.{status_of};

@@ -14,7 +14,8 @@ use fields::{low_bytes, number, six_bytes};
 use types::code::{Decoded, Entry, Instruction, LengthRule, Undecoded};
 
 // What a code and the widths decide of an instruction, before its operand is read: the number of its entry, how many
-// prefix bytes it has, its length.
+// prefix bytes it has, its length. The entry stays packed, for most readers need one field (docs/DECISIONS.md, 'An entry
+// is kept in one number').
 #[derive(Clone, Copy)]
 pub struct Layout {
     pub number: u32,

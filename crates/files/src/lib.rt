@@ -22,6 +22,7 @@ fn is_ended(file: &mut impl Read) -> bool {
 pub fn read_full(file: &mut impl Read, buffer: &mut [u8]) -> usize
     ensures { IsPrefixLen result buffer.new }
 {
+    // An iterator would read once more where the buffer is full.
     let mut done = 0;
     while done < buffer.len() {
         match file.read(&mut buffer[done..]) {

@@ -1,4 +1,5 @@
-// The fields of a mark, and a mark of its fields.
+// The fields of a mark, and a mark of its fields. A kind is a number here, two bits, of which 3 is no kind. Each field has
+// a function of its own: one for all, by the place of its bits, would leave the places to its callers.
 ghost use Rattle.std.specs.Prelude.{◌≡◌, ◌≤◌};
 ghost use Rattle.acceptance.specs.Image.{mark_m, mark_x, mark_kind, return_m, return_x, mark_of};
 

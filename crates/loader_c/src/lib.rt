@@ -1,5 +1,5 @@
 // The archive for loaders written in C (include/m7700.h): each function is that of the crate loader and promises what
-// that one does. A slice is a pointer and a length.
+// that one does. A slice is a pointer and a length. A crate is a library or an archive, so that both are there.
 #![tactic(auto)]
 
 ghost use Rattle.std.specs.Prelude.{◌≡◌, ◌≤◌, length};

@@ -1,4 +1,5 @@
-// The widths after an instruction, for the check and the machine alike.
+// The widths after an instruction, for the check and the machine alike. SEM and CLM change m alone, so that m and x have
+// a function each.
 ghost use Rattle.std.specs.Prelude.{◌≡◌};
 ghost use Rattle.instructions.specs.Successors as successors;
 

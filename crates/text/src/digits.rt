@@ -1,4 +1,5 @@
 // Numbers as digits in any radix. Where a function asks for a radix of 1 to 36, it is that there are 36 digits.
+// Callers write the radix as a number, which the check sees at once: a type for it would be made at each call.
 ghost use Rattle.std.specs.Prelude.{◌≡◌, ◌↔◌, ℕ, IsTrue, [], ◌∷◌, ◌++◌, ◌+◌, ◌*◌, ◌/◌, ◌%◌, ◌^◌, ◌≤◌, ◌<◌, length};
 ghost use Rattle.std.specs.Prelude.{drop};
 ghost use Rattle.text.specs.Text.{starts_with};

@@ -145,7 +145,8 @@ pub enum Mode {
     BlockTransfer,
 }
 
-// The accumulator that the assembler syntax names as an operand.
+// The accumulator that the assembler syntax names as an operand. Here and in four enums below the first value stands for
+// none, as 0 does in a packed entry: an Option would wrap each of the others wherever the code map names one.
 #[derive(Clone, Copy)]
 pub enum Accumulator {
     Unnamed,

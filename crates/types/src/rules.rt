@@ -8,7 +8,7 @@ pub struct Requirement {
     pub mark: u8,
 }
 
-// What a start owes: nothing, or one or two requirements.
+// What a start owes: nothing, or one or two requirements. By value, for the library has no heap.
 #[derive(Clone, Copy)]
 pub enum Requirements {
     Nothing,
