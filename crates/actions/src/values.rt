@@ -53,7 +53,8 @@ pub(crate) fn value_of(choice: usize, i: Operands, registers: &[u16; FILE_SIZE])
     }
 }
 
-// How data is modified. The variants are not in the order of the numbers, as those of `Action`.
+// How data is modified, by a task's choice. The variants stand in another order than these numbers, as those of `Action`
+// do, for the reason that is told there.
 #[tactic(auto, using(prelude::proofs::Match::no_key))]
 pub(crate) fn modification_of(choice: usize) -> Modification
     ensures { result ≡ modification_of choice }

@@ -20,7 +20,7 @@ use Rattle.lists.specs.MarkList.{read_list, marks_read, marks_by}
 use Rattle.acceptance.proofs.Image.{right_length, starts_most}
 use Rattle.acceptance.proofs.Verdict.{accepted_rules}
 use Rattle.answer.specs.declared.answers.NotAccepted.{NotAccepted}
-use Rattle.answer.specs.AnswerLine.{list_limit, without_offset, are_within_limits}
+use Rattle.answer.specs.AnswerLine.{list_limit, refused_alone, are_within_limits}
 use Rattle.answer.specs.AnswerLine.{verdict_answer, answer_of, list_answer, answer_for}
 
 pub accepted_few : (image marks : List ℕ) (base reset : ℕ) → verdict image marks base reset ≡ Ok tt
@@ -31,7 +31,7 @@ accepted_few image marks base reset e =
 
 module _ (image text marks : List ℕ) (alike : length marks ≡ length image) where
   pub list_refused : (why : Refusal) → read_list text marks ≡ Err why
-      → Err (without_offset why) ≡ list_answer image text
+      → Err (refused_alone why) ≡ list_answer image text
   unfolding list_answer answer_of read_list
   list_refused why e = rw (← alike, e)
 

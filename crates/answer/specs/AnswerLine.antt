@@ -1,7 +1,7 @@
 -- 01, 'The mark list', its last paragraph: 'The program check reads an image file and a list file and prints one line'.
 -- Assumes nothing.
 use Rattle.std.specs.Prelude.{ℕ, ◌≤◌, Bool, ◌&&◌, ◌≡◌, List, [], ◌∷◌, ◌++◌, leb, length, drop, Result, Ok, Err}
-use Rattle.types.specs.Answers.{Verdict, ListRead}
+use Rattle.types.specs.Answers.{Verdict, ListRead, without_offset}
 use Rattle.prelude.specs.Choice.{pick}
 use Rattle.text.specs.Digits.{digits}
 use Rattle.types.specs.Refusals.{refusal_number}
@@ -17,8 +17,8 @@ abbrev pub FileAnswer : Type 0
 FileAnswer = Result ℕ NotAccepted
 
 -- a refusal without an offset ('0 where none is given')
-abbrev pub without_offset : Refusal → NotAccepted
-without_offset why = NotAccepted.Refused (record { why = why; offset = 0 })
+abbrev pub refused_alone : Refusal → NotAccepted
+refused_alone why = NotAccepted.Refused (without_offset why)
 
 -- 'A list file over 61,440 bytes'
 abbrev pub list_limit : ℕ
@@ -38,7 +38,7 @@ verdict_answer image marks base reset = answer_by (verdict image marks base rese
 
 -- a list that is refused has no offset; else its marks, base and reset are the check's
 unfoldable pub answer_of : ListRead → List ℕ → List ℕ → FileAnswer
-answer_of (Err why) image text = Err (without_offset why)
+answer_of (Err why) image text = Err (refused_alone why)
 answer_of (Ok h) image text = verdict_answer image (marks_of (address_digits text) h text) h.base h.reset
 
 -- the list is read for as many marks as the image has bytes

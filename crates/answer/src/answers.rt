@@ -30,10 +30,10 @@ impl From<Refused> for NotAccepted {
 
 // A refusal that is about no offset, as the reader's: 0 stands in its place.
 impl From<Refusal> for NotAccepted {
-    ghost from_gives = { λ why answer. answer ≡ spec.without_offset why };
+    ghost from_gives = { λ why answer. answer ≡ spec.refused_alone why };
 
     fn from(why: Refusal) -> NotAccepted {
-        NotAccepted::Refused(Refused { why, offset: 0 })
+        NotAccepted::Refused(Refused::from(why))
     }
 }
 

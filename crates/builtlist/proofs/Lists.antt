@@ -20,7 +20,7 @@ use Rattle.acceptance.proofs.Image.{right_length}
 use Rattle.lists.proofs.ListAnswers.{written_small}
 use Rattle.lists.proofs.LeastMarks.{delivers_least}
 use Rattle.lists.proofs.Routines.{least_only}
-use Rattle.answer.specs.AnswerLine.{without_offset, line_for}
+use Rattle.answer.specs.AnswerLine.{refused_alone, line_for}
 use Rattle.builtlist.specs.BuiltList.{list_by, list_of, Accepted, longest_list}
 
 -- ---- marks that are written
@@ -76,7 +76,7 @@ module _ (image : List ℕ) (base reset : ℕ) (text marks : List ℕ) (alike : 
       (delivers_least image base reset text image (sym same_answer ∙ e))
 
   pub refused_list : (why : Refusal) → built image base reset text marks ≡ Err why
-      → line_for (Err (without_offset why)) ≡ list_of image base reset text
+      → line_for (Err (refused_alone why)) ≡ list_of image base reset text
   unfolding list_of list_by
   refused_list why e = rw (← same_answer, e)
 

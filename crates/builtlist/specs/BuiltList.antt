@@ -12,7 +12,7 @@ use Rattle.acceptance.specs.Verdict.{verdict}
 use Rattle.lists.specs.MarkList.{new_digits, list_text}
 use Rattle.lists.specs.Routines.{built, marks_built}
 use Rattle.answer.specs.declared.answers.NotAccepted.{NotAccepted}
-use Rattle.answer.specs.AnswerLine.{list_limit, without_offset, are_within_limits, answer_for, line_for}
+use Rattle.answer.specs.AnswerLine.{list_limit, refused_alone, are_within_limits, answer_for, line_for}
 
 -- the address that a word shows
 abbrev pub address_shown : List ℕ → ℕ
@@ -29,7 +29,7 @@ is_taken image base reset text =
 
 -- the mark list of the marks delivered, or the line of the program check for a number without an offset
 unfoldable pub list_by : TestResult → List ℕ → ℕ → ℕ → List ℕ
-list_by (Err why) marks base reset = line_for (Err (without_offset why))
+list_by (Err why) marks base reset = line_for (Err (refused_alone why))
 list_by (Ok _) marks base reset = list_text new_digits marks base reset
 
 -- the same for marks of the image's length. What they hold before makes no difference: here they hold the image's

@@ -66,8 +66,7 @@ pub fn check(image: &[u8], marks: &[u8], base: u32, reset: u32) -> Verdict
     starts_verdict(image, &Marks { bytes: marks, base })
 }
 
-// The check's answer as a number. Every function of an archive that asks the check asks it here, so that the check has
-// one caller, in which LLVM inlines it.
+// The check's answer as a number, as a caller in C gets it.
 #[tactic(auto, using(crate::proofs::Packing::verdict_fits))]
 pub fn packed_verdict(image: &[u8], marks: &[u8], base: u32, reset: u32) -> u32
     ensures { result ≡ packed_verdict (spec.verdict image.now marks.now base reset) }

@@ -6,7 +6,7 @@ ghost use Rattle.instructions.specs.Decode.{operand_limit};
 use types::addresses::Address;
 
 // An instruction and the place that it stands at, its entry by its number: what a step needs of the entry it takes from
-// there.
+// there. The place stays a number, for the toolchain copies no struct that holds an `Address`.
 #[derive(Clone, Copy)]
 pub(crate) struct Fetched {
     pub(crate) place: u32,

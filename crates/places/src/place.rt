@@ -38,12 +38,14 @@ pub struct Place<'a> {
 }
 
 impl<'a> Place<'a> {
+    // The address of the place.
     pub fn address(&self) -> Address
         ensures { result ≡ self.now.marks.base + self.now.at }
     {
         Address::new(self.marks.base + self.at as u32)
     }
 
+    // The mark at the place.
     pub fn mark(&self) -> u8
         ensures { result ≡ get_or self.now.marks.bytes.now self.now.at 0 }
     {
