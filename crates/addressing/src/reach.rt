@@ -12,7 +12,7 @@ use cpu::effects::{operand_place_of, pulled_at};
 use cpu::file::{DPR, DT, FILE_SIZE, PS, S, X, Y, accumulator_in};
 use cpu::flags::is_set;
 use datawidth::{low, wide};
-use memory::reads::{data_from, long_from, word_from};
+use memory::reads::Mapped;
 use types::addresses::{BANK_SIZE, low_long, low_word};
 use types::code::{Accumulator, Mode};
 use types::machine::{Data, OperandPlace, OperandUse, Status};
@@ -55,40 +55,33 @@ fn stack_relative(registers: &[u16; FILE_SIZE], operand: u64) -> u32
 }
 
 // The address in the data bank that the word at a place holds.
-fn by_word(
-    ram: &[u8],
-    image: &[u8],
-    base: u32,
-    registers: &[u16; FILE_SIZE],
-    at: u32,
-) -> Option<u32>
-    ensures value { result ≡ read_of (evaluate (memory ram.now image.now base)
+fn by_word(mapped: &Mapped, registers: &[u16; FILE_SIZE], at: u32) -> Option<u32>
+    ensures value { result ≡ read_of (evaluate (memory mapped.now.ram.now mapped.now.image.now mapped.now.base)
         (spec.by_word (registers_of registers.now) at)) }
     ensures bounded { IfSome result (λ address. address < address_limit) }
 {
-    let pointer = word_from(ram, image, base, at as u64, at as u64 + 1)?;
+    let pointer = mapped.word_from(at as u64, at as u64 + 1)?;
     Some((registers[DT] % 256) as u32 * BANK_SIZE + pointer as u32)
 }
 
 // The address that three bytes at a place hold.
-fn by_long(ram: &[u8], image: &[u8], base: u32, at: u32) -> Option<u32>
-    ensures value { result ≡ read_of (evaluate (memory ram.now image.now base) (read_long at)) }
+fn by_long(mapped: &Mapped, at: u32) -> Option<u32>
+    ensures value { result ≡ read_of (evaluate (memory mapped.now.ram.now mapped.now.image.now mapped.now.base)
+        (read_long at)) }
     ensures bounded { IfSome result (λ address. address < address_limit) }
 {
-    long_from(ram, image, base, at as u64, at as u64 + 1, at as u64 + 2)
+    mapped.long_from(at as u64, at as u64 + 1, at as u64 + 2)
 }
 
 // The address of the data by mode.
 #[tactic(auto, unfolding(semantics::specs::Addressing::address_of))]
 fn address_of(
-    ram: &[u8],
-    image: &[u8],
-    base: u32,
+    mapped: &Mapped,
     mode: Mode,
     registers: &[u16; FILE_SIZE],
     operand: u64,
 ) -> Option<u32>
-    ensures { result ≡ read_of (evaluate (memory ram.now image.now base)
+    ensures { result ≡ read_of (evaluate (memory mapped.now.ram.now mapped.now.image.now mapped.now.base)
         (spec.address_of mode (registers_of registers.now) operand)) }
 {
     match mode {
@@ -106,19 +99,19 @@ fn address_of(
         )),
         Mode::DirectIndexedX => Some(direct(registers, operand) + index(X, registers)),
         Mode::DirectIndexedY => Some(direct(registers, operand) + index(Y, registers)),
-        Mode::DirectIndirect => by_word(ram, image, base, registers, direct(registers, operand)),
+        Mode::DirectIndirect => by_word(mapped, registers, direct(registers, operand)),
         Mode::DirectIndexedXIndirect => {
             let at = direct(registers, operand) + index(X, registers);
-            by_word(ram, image, base, registers, at)
+            by_word(mapped, registers, at)
         }
         Mode::DirectIndirectIndexedY => {
             let at = direct(registers, operand);
-            Some(by_word(ram, image, base, registers, at)? + index(Y, registers))
+            Some(by_word(mapped, registers, at)? + index(Y, registers))
         }
-        Mode::DirectIndirectLong => by_long(ram, image, base, direct(registers, operand)),
+        Mode::DirectIndirectLong => by_long(mapped, direct(registers, operand)),
         Mode::DirectIndirectLongIndexedY => {
             let at = direct(registers, operand);
-            Some(by_long(ram, image, base, at)? + index(Y, registers))
+            Some(by_long(mapped, at)? + index(Y, registers))
         }
         Mode::Absolute | Mode::AbsoluteBit | Mode::AbsoluteBitRelative => Some(absolute(
             registers, operand,
@@ -130,7 +123,7 @@ fn address_of(
         Mode::StackPointerRelative => Some(stack_relative(registers, operand)),
         Mode::StackPointerRelativeIndirectIndexedY => {
             let at = stack_relative(registers, operand);
-            Some(by_word(ram, image, base, registers, at)? + index(Y, registers))
+            Some(by_word(mapped, registers, at)? + index(Y, registers))
         }
     }
 }
@@ -138,23 +131,21 @@ fn address_of(
 // What a mode names in memory: the address alone, or the data there; both here, so that `address_of` has one call site
 // and is inlined (docs/DECISIONS.md, 'The machine's speed').
 fn in_memory(
-    ram: &[u8],
-    image: &[u8],
-    base: u32,
+    mapped: &Mapped,
     alone: bool,
     mode: Mode,
     registers: &[u16; FILE_SIZE],
     short: bool,
     operand: u64,
 ) -> Option<Data>
-    ensures { result ≡ read_of (evaluate (memory ram.now image.now base)
+    ensures { result ≡ read_of (evaluate (memory mapped.now.ram.now mapped.now.image.now mapped.now.base)
         (reached_by alone mode (registers_of registers.now) short operand)) }
 {
-    let address = address_of(ram, image, base, mode, registers, operand)?;
+    let address = address_of(mapped, mode, registers, operand)?;
     if alone {
         return Some(Data { address, value: 0 });
     }
-    let value = data_from(ram, image, base, short, address as u64, address as u64 + 1)?;
+    let value = mapped.data_from(short, address as u64, address as u64 + 1)?;
     Some(Data { address, value })
 }
 
@@ -171,9 +162,7 @@ fn residence_by(alone: bool, mode: Mode) -> OperandPlace
 
 // What a mode names: the address alone, or the data.
 fn operand_by(
-    ram: &[u8],
-    image: &[u8],
-    base: u32,
+    mapped: &Mapped,
     alone: bool,
     mode: Mode,
     named: Accumulator,
@@ -181,11 +170,11 @@ fn operand_by(
     short: bool,
     operand: u64,
 ) -> Option<Data>
-    ensures { result ≡ read_of (evaluate (memory ram.now image.now base)
+    ensures { result ≡ read_of (evaluate (memory mapped.now.ram.now mapped.now.image.now mapped.now.base)
         (found_at (residence_by alone mode) alone mode named (registers_of registers.now) short operand)) }
 {
     match residence_by(alone, mode) {
-        OperandPlace::Memory => in_memory(ram, image, base, alone, mode, registers, short, operand),
+        OperandPlace::Memory => in_memory(mapped, alone, mode, registers, short, operand),
         OperandPlace::Instruction => Some(Data {
             address: 0,
             value: low(short, operand),
@@ -206,9 +195,7 @@ fn is_address(access: OperandUse) -> bool
 
 // What is read before an operation works.
 pub fn data_of(
-    ram: &[u8],
-    image: &[u8],
-    base: u32,
+    mapped: &Mapped,
     access: OperandUse,
     mode: Mode,
     named: Accumulator,
@@ -216,14 +203,12 @@ pub fn data_of(
     short: bool,
     operand: u64,
 ) -> Option<Data>
-    ensures { result ≡ read_of (evaluate (memory ram.now image.now base)
+    ensures { result ≡ read_of (evaluate (memory mapped.now.ram.now mapped.now.image.now mapped.now.base)
         (spec.data_of access mode named (registers_of registers.now) short operand)) }
 {
     match access {
         OperandUse::Operand | OperandUse::Addend | OperandUse::Address => operand_by(
-            ram,
-            image,
-            base,
+            mapped,
             is_address(access),
             mode,
             named,
@@ -234,12 +219,12 @@ pub fn data_of(
         OperandUse::Pull => {
             let first = pulled_at(registers[S], 1) as u64;
             let second = pulled_at(registers[S], 2) as u64;
-            let value = data_from(ram, image, base, short, first, second)?;
+            let value = mapped.data_from(short, first, second)?;
             Some(Data { address: 0, value })
         }
         OperandUse::DirectWord => {
             let page = direct(registers, operand) as u64;
-            let value = word_from(ram, image, base, page, page + 1)?;
+            let value = mapped.word_from(page, page + 1)?;
             Some(Data { address: 0, value })
         }
     }

@@ -18,7 +18,8 @@ use cpu::effects::Effect;
 use cpu::file::{FILE_SIZE, PS};
 use cpu::flags::{bit_at, with_widths};
 use entries::{effect_of, keeps_widths};
-use memory::stores::{served_all, write};
+use memory::reads::Mapped;
+use memory::stores::write;
 use successors::widths::{m_after, x_after};
 use types::addresses::Address;
 use types::machine::{Completion, Status, Stop};
@@ -80,7 +81,7 @@ pub(crate) fn finish(
         (listed effect.stores)))
         i (memory ram.old image.now base) i.place depth registers.old calls }
 {
-    served_all(ram, image, base, effect.stores)?;
+    Mapped { ram, image, base }.served_all(effect.stores)?;
     write(ram, effect.stores);
     put(registers, i, effect);
     Ok(Completed {

@@ -20,7 +20,8 @@ use cpu::effects::{leaves, pushed_at, puts, store};
 use cpu::file::{FILE_SIZE, PS, S};
 use cpu::flags::is_set;
 use entries::{accumulator_of, mode_of, target_form_of, width_of};
-use memory::stores::{Stores, served_all, write};
+use memory::reads::Mapped;
+use memory::stores::{Stores, write};
 use operations::table::task_at;
 use successors::{next_address, target_of};
 use types::addresses::{Address, BANK_SIZE};
@@ -82,7 +83,13 @@ pub(crate) fn operates(
     let mode = mode_of(i.number);
     let named = accumulator_of(i.number);
     let given = data_of(
-        ram, image, base, access, mode, named, registers, short, i.operand,
+        &Mapped { ram, image, base },
+        access,
+        mode,
+        named,
+        registers,
+        short,
+        i.operand,
     )
     .ok_or(Stop::Unmapped)?;
     let operands = Operands {
@@ -174,7 +181,7 @@ pub(crate) fn calls_to(
     let next = next_address(i.address(), i.length);
     let s = registers[S];
     let stores = pushes_return(s, next, kind);
-    served_all(ram, image, base, stores)?;
+    Mapped { ram, image, base }.served_all(stores)?;
     write(ram, stores);
     calls[depth] = entry_of(next, kind);
     let status = registers[PS];

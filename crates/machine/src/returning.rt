@@ -13,24 +13,17 @@ use crate::fetched::Fetched;
 use crate::flows::return_bytes;
 use cpu::effects::{pulled_at, puts};
 use cpu::file::{FILE_SIZE, PS, S};
-use memory::reads::{long_from, word_from};
+use memory::reads::Mapped;
 use successors::in_bank_after;
 use types::addresses::Address;
 use types::code::Kind;
 use types::machine::{Completion, RECORD_UNIT, Stop};
 
 // The return address that an instruction pulls.
-fn pulls_return(
-    ram: &[u8],
-    image: &[u8],
-    base: u32,
-    i: Fetched,
-    s: u16,
-    kind: Kind,
-) -> Option<Address>
+fn pulls_return(mapped: &Mapped, i: Fetched, s: u16, kind: Kind) -> Option<Address>
     ensures { (depth : ℕ) (file : List ℕ) → s ≡ (registers_of file).s → result
         ≡ read_of
-        (evaluate (memory ram.now image.now base)
+        (evaluate (memory mapped.now.ram.now mapped.now.image.now mapped.now.base)
         (spec.pulls_return (core_at i.place depth file) (instruction i) kind)) }
 {
     let first = pulled_at(s, 1) as u64;
@@ -38,11 +31,11 @@ fn pulls_return(
     let third = pulled_at(s, 3) as u64;
     match kind {
         Kind::ByRts => {
-            let address = word_from(ram, image, base, first, second)?;
+            let address = mapped.word_from(first, second)?;
             Some(in_bank_after(i.address(), i.length, address))
         }
         Kind::ByRtl => {
-            let number = long_from(ram, image, base, first, second, third)?;
+            let number = mapped.long_from(first, second, third)?;
             Some(Address::new(number))
         }
     }
@@ -84,22 +77,20 @@ fn returns_to(
 
 // A return.
 pub(crate) fn returns(
-    image: &[u8],
-    base: u32,
+    mapped: &Mapped,
     i: Fetched,
     opened: u64,
     kind: Kind,
     depth: usize,
     registers: &mut [u16; FILE_SIZE],
-    ram: &[u8],
 ) -> Result<Completed, Stop>
-    ensures { (calls : List ℕ) → left i.place depth result registers.new calls ram.now
+    ensures { (calls : List ℕ) → left i.place depth result registers.new calls mapped.now.ram.now
         ≡ finished
         (spec.plan_by (core_at i.place depth registers.old) (instruction i)
-        (memory ram.now image.now base) opened (Flow.Return kind))
-        i (memory ram.now image.now base) i.place depth registers.old calls }
+        (memory mapped.now.ram.now mapped.now.image.now mapped.now.base) opened (Flow.Return kind))
+        i (memory mapped.now.ram.now mapped.now.image.now mapped.now.base) i.place depth registers.old calls }
 {
-    let pulled = pulls_return(ram, image, base, i, registers[S], kind);
+    let pulled = pulls_return(mapped, i, registers[S], kind);
     returns_to(
         i,
         opened,

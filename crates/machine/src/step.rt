@@ -13,6 +13,7 @@ use crate::flows::{calls_to, jumps, operates};
 use crate::returning::returns;
 use cpu::file::{FILE_SIZE, PS};
 use entries::flow_of;
+use memory::reads::Mapped;
 use types::addresses::Address;
 use types::code::{Flow, Undecoded};
 use types::machine::{CALL_LIMIT, Stop};
@@ -66,7 +67,14 @@ fn perform(
         Flow::Call(kind) => calls_to(image, base, i, kind, depth, registers, calls, ram),
         Flow::Return(kind) => {
             let opened = last_opened(calls, depth);
-            returns(image, base, i, opened, kind, depth, registers, ram)
+            returns(
+                &Mapped { ram, image, base },
+                i,
+                opened,
+                kind,
+                depth,
+                registers,
+            )
         }
         Flow::Halt => Err(Stop::Halt),
     }

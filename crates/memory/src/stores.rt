@@ -3,6 +3,7 @@ ghost use Rattle.std.specs.Prelude.{◌≡◌, set};
 ghost use Rattle.semantics.specs.Memory.{memory, served_at, served, stored};
 ghost use Rattle.memory.specs.Listed.{listed};
 
+use crate::reads::Mapped;
 use types::machine::{Stop, Store};
 
 // What a step stores, in its order: by value, for the library has no heap.
@@ -14,40 +15,42 @@ pub enum Stores {
     Three(Store, Store, Store),
 }
 
-// Whether a byte can be stored at an address: in RAM alone.
-#[tactic(auto, using(semantics::proofs::Memory::served_in_ram, semantics::proofs::Memory::served_under_image, semantics::proofs::Memory::served_in_image, semantics::proofs::Memory::served_past_image))]
-fn served_at(ram: &[u8], image: &[u8], base: u32, address: u64) -> Result<(), Stop>
-    ensures { result ≡ served_at (memory ram.now image.now base) address }
-{
-    if address < ram.len() as u64 {
-        return Ok(());
-    }
-    let from = base as u64;
-    if address < from {
-        return Err(Stop::Unmapped);
-    }
-    let at = (address - from) as usize;
-    if at < image.len() {
-        return Err(Stop::ImageStore);
-    }
-    Err(Stop::Unmapped)
-}
-
-// Whether all stores can be served; the first that can't decides.
-pub fn served_all(ram: &[u8], image: &[u8], base: u32, stores: Stores) -> Result<(), Stop>
-    ensures { result ≡ served (memory ram.now image.now base) (listed stores) }
-{
-    match stores {
-        Stores::None => Ok(()),
-        Stores::One(a) => served_at(ram, image, base, a.address),
-        Stores::Two(a, b) => {
-            served_at(ram, image, base, a.address)?;
-            served_at(ram, image, base, b.address)
+impl Mapped<'_> {
+    // Whether a byte can be stored at an address: in RAM alone.
+    #[tactic(auto, using(semantics::proofs::Memory::served_in_ram, semantics::proofs::Memory::served_under_image, semantics::proofs::Memory::served_in_image, semantics::proofs::Memory::served_past_image))]
+    fn served_at(&self, address: u64) -> Result<(), Stop>
+        ensures { result ≡ served_at (memory self.now.ram.now self.now.image.now self.now.base) address }
+    {
+        if address < self.ram.len() as u64 {
+            return Ok(());
         }
-        Stores::Three(a, b, c) => {
-            served_at(ram, image, base, a.address)?;
-            served_at(ram, image, base, b.address)?;
-            served_at(ram, image, base, c.address)
+        let from = self.base as u64;
+        if address < from {
+            return Err(Stop::Unmapped);
+        }
+        let at = (address - from) as usize;
+        if at < self.image.len() {
+            return Err(Stop::ImageStore);
+        }
+        Err(Stop::Unmapped)
+    }
+
+    // Whether all stores can be served; the first that can't decides.
+    pub fn served_all(&self, stores: Stores) -> Result<(), Stop>
+        ensures { result ≡ served (memory self.now.ram.now self.now.image.now self.now.base) (listed stores) }
+    {
+        match stores {
+            Stores::None => Ok(()),
+            Stores::One(a) => self.served_at(a.address),
+            Stores::Two(a, b) => {
+                self.served_at(a.address)?;
+                self.served_at(b.address)
+            }
+            Stores::Three(a, b, c) => {
+                self.served_at(a.address)?;
+                self.served_at(b.address)?;
+                self.served_at(c.address)
+            }
         }
     }
 }

@@ -20,7 +20,7 @@ unfolding data_of
 returns-in_err-value-in-Pull c =
     let a = c.args in
     rw (c.from_residual.ensures, c.in-Pull.is)
-    (sym (read_off (memory a.ram.now a.image.now a.base) (pulled a.short (registers_of a.registers.now))
+    (sym (read_off (memory a.mapped.now.ram.now a.mapped.now.image.now a.mapped.now.base) (pulled a.short (registers_of a.registers.now))
     (λ v. ret (data_at 0 v)) _
     (rw (← c.pulled_at-first.ensures, ← c.pulled_at-second.ensures) c.in_err-value-in-Pull.ensures) refl))
 
@@ -29,7 +29,7 @@ unfolding data_of
 returns-in_ok-value-in-Pull c =
     let a = c.args in
     rw c.in-Pull.is
-    (sym (read_on (memory a.ram.now a.image.now a.base) (pulled a.short (registers_of a.registers.now))
+    (sym (read_on (memory a.mapped.now.ram.now a.mapped.now.image.now a.mapped.now.base) (pulled a.short (registers_of a.registers.now))
     (λ v. ret (data_at 0 v)) _
     (rw (← c.pulled_at-first.ensures, ← c.pulled_at-second.ensures) c.in_ok-value-in-Pull.ensures) _ refl))
 
@@ -38,7 +38,7 @@ unfolding data_of
 returns-in_err-value-in-DirectWord c =
     let a = c.args in
     rw (c.from_residual-in_err-value-in-DirectWord.ensures, c.in-DirectWord.is)
-    (sym (read_off (memory a.ram.now a.image.now a.base)
+    (sym (read_off (memory a.mapped.now.ram.now a.mapped.now.image.now a.mapped.now.base)
     (read_word (direct (registers_of a.registers.now) a.operand)) (λ v. ret (data_at 0 v)) _
     (rw (← c.direct-page.ensures.0) c.in_err-value-in-DirectWord.ensures) refl))
 
@@ -47,6 +47,6 @@ unfolding data_of
 returns-in_ok-value-in-DirectWord c =
     let a = c.args in
     rw c.in-DirectWord.is
-    (sym (read_on (memory a.ram.now a.image.now a.base)
+    (sym (read_on (memory a.mapped.now.ram.now a.mapped.now.image.now a.mapped.now.base)
     (read_word (direct (registers_of a.registers.now) a.operand)) (λ v. ret (data_at 0 v)) _
     (rw (← c.direct-page.ensures.0) c.in_ok-value-in-DirectWord.ensures) _ refl))

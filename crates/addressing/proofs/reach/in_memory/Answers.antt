@@ -11,20 +11,20 @@ pub returns-in_err-address : goal.returns-in_err-address
 returns-in_err-address c =
     let a = c.args in
     rw c.from_residual.ensures
-    (nowhere (memory a.ram.now a.image.now a.base) a.mode (registers_of a.registers.now) a.short a.operand a.alone
+    (nowhere (memory a.mapped.now.ram.now a.mapped.now.image.now a.mapped.now.base) a.mode (registers_of a.registers.now) a.short a.operand a.alone
     c.in_err-address.ensures)
 
 pub returns-then-alone : goal.returns-then-alone
 returns-then-alone c =
     let a = c.args in
     rw c.if-alone.true
-    (sym (read_on (memory a.ram.now a.image.now a.base) (address_of a.mode (registers_of a.registers.now) a.operand)
+    (sym (read_on (memory a.mapped.now.ram.now a.mapped.now.image.now a.mapped.now.base) (address_of a.mode (registers_of a.registers.now) a.operand)
     (λ at. ret (data_at at 0)) _ c.in_ok-address.ensures _ refl))
 
 pub returns-in_err-value : goal.returns-in_err-value
 returns-in_err-value c =
     let a = c.args in
-    let m = memory a.ram.now a.image.now a.base in
+    let m = memory a.mapped.now.ram.now a.mapped.now.image.now a.mapped.now.base in
     rw (c.from_residual-in_err-value.ensures, c.if-alone.false)
     (sym (read_on m (address_of a.mode (registers_of a.registers.now) a.operand)
     (λ at. read_data a.short at >>= (λ v. ret (data_at at v))) _ c.in_ok-address.ensures _ refl
@@ -34,7 +34,7 @@ returns-in_err-value c =
 pub returns : goal.returns
 returns c =
     let a = c.args in
-    let m = memory a.ram.now a.image.now a.base in
+    let m = memory a.mapped.now.ram.now a.mapped.now.image.now a.mapped.now.base in
     rw c.if-alone.false
     (sym (read_on m (address_of a.mode (registers_of a.registers.now) a.operand)
     (λ at. read_data a.short at >>= (λ v. ret (data_at at v))) _ c.in_ok-address.ensures _ refl

@@ -12,12 +12,12 @@ returns-in_err-ok_or c =
     let p = err_from_is_err_and c.from_residual.result c.from_residual.ensures.1 in
     let q = none_read c.pulls_return-pulled.result _ _ c.in_err-ok_or.ensures.value in
     rw (p.1, p.2, q.1)
-    (λ calls. stops_pulling a.i (memory a.ram.now a.image.now a.base) a.i.place a.depth a.registers.now calls a.opened
+    (λ calls. stops_pulling a.i (memory a.mapped.now.ram.now a.mapped.now.image.now a.mapped.now.base) a.i.place a.depth a.registers.now calls a.opened
     a.kind c.pulls_return-pulled.result (c.pulls_return-pulled.ensures a.depth a.registers.now refl) q.0)
 
 pub returns : goal.returns
 returns c =
     let a = c.args in
-    λ calls. pulls_so a.i (memory a.ram.now a.image.now a.base) a.i.place a.depth a.registers.now calls a.opened a.kind
+    λ calls. pulls_so a.i (memory a.mapped.now.ram.now a.mapped.now.image.now a.mapped.now.base) a.i.place a.depth a.registers.now calls a.opened a.kind
     c.pulls_return-pulled.result (c.pulls_return-pulled.ensures a.depth a.registers.now refl) _ _
-    c.in_ok-ok_or.ensures.ok_part (c.returns_to.ensures (memory a.ram.now a.image.now a.base) calls)
+    c.in_ok-ok_or.ensures.ok_part (c.returns_to.ensures (memory a.mapped.now.ram.now a.mapped.now.image.now a.mapped.now.base) calls)

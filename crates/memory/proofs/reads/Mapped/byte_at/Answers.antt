@@ -9,7 +9,7 @@ use Rattle.std.specs.Prelude.{Option, Some, None}
 use Rattle.std.specs.List.{HoldsAt}
 use Rattle.std.specs.Option.{option_copied, MatchOption}
 use Rattle.semantics.proofs.Memory.{byte_in_image, byte_past_image}
-use Rattle.memory.proofs.reads.byte_at.Goals as goal
+use Rattle.memory.proofs.reads.Mapped.byte_at.Goals as goal
 
 looked : (o : Option (Bor ℕ)) (l : List ℕ) (i : ℕ)
     → MatchOption o (length l ≤ i) (λ x. (i < length l) × HoldsAt (λ y. x.now ≡ y) l i)
@@ -20,6 +20,6 @@ looked None l i h = inr (h, refl)
 pub returns : goal.returns
 returns c =
     ⊎_elim
-    (λ w. c.copied.ensures ∙ w.1 ∙ sym (byte_in_image _ _ _ _ c.if-address-ram.false c.if-address-from.false w.0))
-    (λ w. c.copied.ensures ∙ w.1 ∙ sym (byte_past_image _ _ _ _ c.if-address-ram.false c.if-address-from.false w.0))
-    (looked c.get.result c.args.image.now (c.args.address - c.args.base) c.get.ensures.lookup.3)
+    (λ w. c.copied.ensures ∙ w.1 ∙ sym (byte_in_image _ _ _ _ c.if-address-self.false c.if-address-from.false w.0))
+    (λ w. c.copied.ensures ∙ w.1 ∙ sym (byte_past_image _ _ _ _ c.if-address-self.false c.if-address-from.false w.0))
+    (looked c.get.result c.args.self.now.image.now (c.args.address - c.args.self.now.base) c.get.ensures.lookup.3)
