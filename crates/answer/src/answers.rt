@@ -74,7 +74,9 @@ fn list_answer(image: &[u8], text: &[u8], marks: &mut [u8]) -> FileAnswer
     verdict_answer(image, marks, h.base, h.reset)
 }
 
-// The answer for the bytes of an image file and of a list file.
+// The answer for the bytes of an image file and of a list file. Not inlined: its marks are to be off the stack when it
+// returns, for a caller that then has marks of its own.
+#[inline(never)]
 #[tactic(auto, using(crate::proofs::AnswerLaws::over_limits, crate::proofs::AnswerLaws::within_limits, crate::proofs::AnswerLaws::within_few, std::proofs::lemmas::Grind::common_steps))]
 pub fn answer_for(image: &[u8], text: &[u8]) -> FileAnswer
     ensures { result ≡ spec.answer_for image.now text.now }

@@ -6,7 +6,7 @@ use mathlib.Core.Bool.{Bool, true, false, true≢false}
 use mathlib.Core.List.{List, [], ◌∷◌}
 use Prim.Native.Nat.{ℕ, zero, suc, ◌+◌, ◌-◌, ◌≤◌, ◌<◌}
 use native.Mathlib.Omega.{arith}
-use borrow.Author.Tests.{eqb-true, eqb-false, ltb-true, not-true}
+use borrow.Author.Tests.{eqb-true, eqb-false, leb-true, ltb-true, not-true}
 use lib.Dec.{eqb, ltb, leb}
 use lib.ListN.{length, get_or, set, length-set}
 use lib.Seq.{get_or-set_same, get_or-set_other}
@@ -19,23 +19,33 @@ use Rattle.builder.specs.Order.{is_free_at, put, Queue, Kept}
 
 -- ---- a free address
 
+pub record Free (marks : List ℕ) (base address : ℕ) : Type 0 where
+  pub low : base ≤ address
+  pub inside : address - base < length marks
+  pub none : start_at marks (address - base) ≡ false
+
+-- the same, by the place
 pub record FreePlace (marks : List ℕ) (place : ℕ) : Type 0 where
   pub inside : place < length marks
   pub none : start_at marks place ≡ false
 
 module _ (marks : List ℕ) (base address : ℕ) where
-  pub is_free : is_free_at marks base address ≡ true → FreePlace marks (address - base)
+  pub is_free : is_free_at marks base address ≡ true → Free marks base address
   unfolding is_free_at
   is_free h =
-      let inner = both_true (ltb (address - base) (length marks)) _ (both_true (leb base address) _ h).1 in
+      let outer = both_true (leb base address) _ h in
+      let inner = both_true (ltb (address - base) (length marks)) _ outer.1 in
       record {
+        low = leb-true base address outer.0;
         inside = ltb-true (address - base) (length marks) inner.0;
         none = not-true (start_at marks (address - base)) inner.1;
       }
 
   pub free_place : (place : ℕ) → (is_free_at marks base address ≡ true) × (place ≡ address - base)
       → FreePlace marks place
-  free_place place h = rw h.1 (is_free h.0)
+  free_place place h =
+      let free = is_free h.0 in
+      record { inside = rw h.1 free.inside; none = rw h.1 free.none }
 
   pub put_free : (mark : ℕ) → is_free_at marks base address ≡ true
       → put marks base address mark ≡ set marks (address - base) mark
@@ -81,7 +91,7 @@ module _ (marks order : List ℕ) (count place mark : ℕ) (q : Queue marks orde
         q.counted,
       )
 
-  has_room : count < length order
+  pub has_room : count < length order
   has_room = omega (arith, fewer, q.room)
 
   there : start_at after place ≡ true

@@ -1108,11 +1108,14 @@ const BEHIND_89: [[u32; 16]; 16] = [
     NO_CODES,
 ];
 
-// The three pages: plain, behind 42, behind 89, each 16 rows of 16. A static, since a constant is copied at each use.
-static PAGES: [[[u32; 16]; 16]; 3] = [PLAIN, BEHIND_42, BEHIND_89];
+// The three pages: plain, behind 42, behind 89, each 16 rows of 16.
+pub type CodePages = [[[u32; 16]; 16]; 3];
+
+// A static, since a constant is copied at each use.
+static PAGES: CodePages = [PLAIN, BEHIND_42, BEHIND_89];
 
 // The pages that the definition fixes.
-fn pages() -> &'static [[[u32; 16]; 16]; 3]
+pub fn pages() -> &'static CodePages
     ensures { result.now ≡ packed_pages }
 {
     &PAGES

@@ -16,7 +16,7 @@ filed r n h e =
     (ap status_of e ∙ number_status r.status)
 
 -- a number put into a file is put into its registers
-put_in : (file : List ℕ) (i v : ℕ) → length file ≡ file_size → i < file_size
+pub put_in : (file : List ℕ) (i v : ℕ) → length file ≡ file_size → i < file_size
     → registers_of (set file i v) ≡ put i v (registers_of file)
 put_in [] i v e h = absurd (omega arith)
 put_in (a ∷ []) i v e h = absurd (omega arith)

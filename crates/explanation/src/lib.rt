@@ -3,6 +3,7 @@
 #![tactic(auto)]
 
 ghost use Rattle.std.specs.Prelude.{◌≡◌, ◌++◌, ◌≤◌, length, take, drop};
+ghost use Rattle.types.specs.Addresses.{image_limit};
 ghost use Rattle.reports.specs.Explanation.{line_limit};
 ghost use Rattle.explanation.specs.Explained as spec;
 
@@ -30,6 +31,20 @@ fn put_explanation(image: &[u8], text: &[u8], marks: &mut [u8], page: &mut [u8])
     explain(image, marks, h.base, h.reset, page).unwrap_or(0)
 }
 
+// The same with marks of its own. Neither this nor `answer_for` is inlined, so that the marks of both, of which one has
+// to end before the other begins, are not on the stack at once.
+#[inline(never)]
+fn put_alone(image: &[u8], text: &[u8], page: &mut [u8]) -> usize
+    requires { (length image.now ≤ image_limit) × (line_limit ≤ length page.old) }
+    ensures { (result ≡ length (spec.list_explanation image.now text.now))
+        × (page.new
+        ≡ spec.list_explanation image.now text.now ++ drop result page.old)
+        × (result ≤ line_limit) }
+{
+    let mut marks = zeros::<IMAGE_LIMIT>();
+    put_explanation(image, text, &mut marks[..image.len()], page)
+}
+
 // Writes the line of the answer for the bytes of two files at the front of a page, and the line that explains it behind
 // it where there is one, and returns the length of both. Asks for room for the longest lines.
 #[tactic(auto, using(answer::proofs::AnswerLaws::within_few, std::proofs::lemmas::Grind::common_steps))]
@@ -44,6 +59,5 @@ pub fn put_explained(image: &[u8], text: &[u8], page: &mut [u8]) -> usize
     if !are_within_limits(image, text) {
         return at;
     }
-    let mut marks = zeros::<IMAGE_LIMIT>();
-    at + put_explanation(image, text, &mut marks[..image.len()], &mut page[at..])
+    at + put_alone(image, text, &mut page[at..])
 }

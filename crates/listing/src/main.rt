@@ -5,7 +5,7 @@
 ghost use Rattle.std.specs.Prelude.{◌<◌};
 
 use codepages::packed_at;
-use decoder::{entry_at, length_of};
+use decoder::{entry_at, length_at};
 use entries::operations::word_of;
 use std::io;
 use types::code::{Accumulator, Mode, Operation};
@@ -57,6 +57,7 @@ fn symbol_of(mode: Mode) -> &'static str {
 }
 
 // The line of a code of a page.
+#[tactic(auto, using(instructions::proofs::CodeMap::bytes_at_most))]
 fn say_line(rt: &impl Print, page: usize, code: u8) -> io::Result<()>
     requires { page < 3 }
 {
@@ -72,10 +73,10 @@ fn say_line(rt: &impl Print, page: usize, code: u8) -> io::Result<()>
     let carried = if entry.carried { "yes" } else { "no" };
     println!(rt;
         "{prefix} {code:02X} {first}{second}{third} {register} {symbol} {} {} {} {} {carried}",
-        length_of(number, 0, 0),
-        length_of(number, 0, 1),
-        length_of(number, 1, 0),
-        length_of(number, 1, 1),
+        length_at(entry, 0, 0),
+        length_at(entry, 0, 1),
+        length_at(entry, 1, 0),
+        length_at(entry, 1, 1),
     )
 }
 

@@ -45,7 +45,7 @@ module _ (base size : ℕ) where
   abbrev pub IsOutside : ℕ → Type 0
   IsOutside a = leb base a && ltb a (base + size) ≡ false
 
-  each_inside : (addresses : List ℕ) → ((k : ℕ) → k < length addresses → IsInside (slice_index_or addresses k 0))
+  pub each_inside : (addresses : List ℕ) → ((k : ℕ) → k < length addresses → IsInside (slice_index_or addresses k 0))
       → true ≡ all_inside base size addresses
   unfolding all_inside
   each_inside [] each = refl

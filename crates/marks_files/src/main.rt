@@ -2,6 +2,8 @@
 // that they lead to, or a line of the program check.
 #![tactic(auto)]
 
+ghost use Rattle.std.specs.Prelude.{◌≤◌, length};
+
 use answer::answers::LIST_LIMIT;
 use builtlist::{longest_list, put_built_list};
 use files::read_named;
@@ -14,7 +16,9 @@ use std::rt::Env;
 const WORDS: usize = 5;
 
 // An argument, copied to the front of a buffer; a longer or a missing one is empty.
-fn take_word<'a>(env: &impl Env, argument: usize, buffer: &'a mut [u8]) -> &'a [u8] {
+fn take_word<'a>(env: &impl Env, argument: usize, buffer: &'a mut [u8]) -> &'a [u8]
+    ensures { length result.now ≤ length buffer.old }
+{
     let size = env.arg(argument, buffer).unwrap_or(0);
     &buffer[..size]
 }

@@ -102,8 +102,11 @@ const STACK: u32 = 3 * ACCESS;
 
 const DIRECT_WORD: u32 = 4 * ACCESS;
 
-// The tasks by operation: its task where its entry names A or no accumulator, and what is added where it names B.
-static TASKS: [u32; 128] = [
+// A number for each operation: its task where its entry names A or no accumulator, and what is added where it names B.
+pub type TaskTable = [u32; 128];
+
+// The tasks by operation.
+static TASKS: TaskTable = [
     LEAVE, // Unassigned
     ADD + TO_NAMED + ADDEND, // ADC
     AND + TO_NAMED, // AND
@@ -235,7 +238,7 @@ static TASKS: [u32; 128] = [
 ];
 
 // By which numbers the tasks are kept is left open; each does what its operation does, and no more is asked of it.
-fn tasks() -> &'static [u32; 128]
+pub fn tasks() -> &'static TaskTable
     ensures { Tasked result.now }
 {
     &TASKS

@@ -1,7 +1,7 @@
 -- The parts of a row, each of a size of its own, joined; the row of a place by what is read there.
 -- Assumes nothing.
 use Rattle.types.specs.declared.code.Undecoded.{Undecoded}
-use Rattle.std.specs.Prelude.{Result, IfOk, Ok, Err}
+use Rattle.std.specs.Prelude.{Ok, Err}
 use mathlib.Core.Path.{◌≡◌, refl, sym, ap, ◌∙◌}
 use mathlib.Core.Bool.{true, false}
 use mathlib.Core.List.{List, [], ◌∷◌, ◌++◌, append_assoc}
@@ -24,9 +24,6 @@ use Rattle.entries.proofs.Words.{word_short}
 use Rattle.decoder.specs.declared.Layout.{Layout}
 use Rattle.decoder.specs.Layout.{instruction_of}
 use Rattle.acceptance.specs.Rules.{instruction_at}
-use Rattle.places.specs.declared.place.Place.{Place}
-use Rattle.places.specs.declared.place.InstructionAt.{InstructionAt}
-use Rattle.places.specs.Placed.{instruction_in, decoded}
 use Rattle.printer.proofs.Pieces.{Pieces, piece_fits, next_piece, all_pieces}
 
 -- ---- cells
@@ -129,7 +126,7 @@ module _ (image marks : List ℕ) (base at : ℕ) where
 
   module _ (started : is_start mark ≡ true) where
     module _ (f : Layout) (whole : instruction_at image marks at ≡ Ok (instruction_of (drop at image) f)) where
-      whole_row : row_at image marks base at ≡ row (base + at) (take f.length (drop at image)) (unpacked f.number) mark
+      pub whole_row : row_at image marks base at ≡ row (base + at) (take f.length (drop at image)) (unpacked f.number) mark
       unfolding row_at row_of
       whole_row = rw (started, whole)
 
@@ -149,19 +146,3 @@ module _ (image marks : List ℕ) (base at : ℕ) where
     unfolding row_at row_of
     unread_row Undecoded.NotCarried e = rw (started, e)
     unread_row Undecoded.CutOff e = rw (started, e)
-
--- what is read at a place
-module _ (place : Place) (read : Result InstructionAt Undecoded)
-    (is-read : decoded read ≡ instruction_at place.image.now place.marks.bytes.now place.at) where
-  pub whole_there : (i : InstructionAt) → IfOk read (λ i. i.place ≡ place) → read ≡ Ok i
-      → instruction_at place.image.now place.marks.bytes.now place.at
-      ≡ Ok (instruction_of (drop place.at place.image.now) i.layout)
-  whole_there i here e =
-      let at : i.place ≡ place = rw e at here in
-      let so : Ok (instruction_in i) ≡ instruction_at place.image.now place.marks.bytes.now place.at = rw e at
-      is-read in
-      sym (rw at at so)
-
-  pub unread_there : (why : Undecoded) → read ≡ Err why
-      → instruction_at place.image.now place.marks.bytes.now place.at ≡ Err why
-  unread_there why e = sym (rw e at is-read)

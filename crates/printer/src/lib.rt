@@ -57,6 +57,7 @@ pub fn print_accepted(
 
 // Prints the rows of any image at the front of a page. It is judged, and the room tested, before the first byte is
 // written.
+#[tactic(auto, using(crate::proofs::Printing::printable, std::proofs::lemmas::Grind::common_steps), unfolding(reports::specs::PrintedPage::printed, reports::specs::PrintedPage::page_printed, reports::specs::PrintedPage::printed_by, reports::specs::PrintedPage::page_after))]
 pub fn print(
     image: &[u8],
     marks: &[u8],

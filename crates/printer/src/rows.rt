@@ -10,6 +10,7 @@ use marklist::lines::{LINE_END, kind_letter};
 use places::place::{Marks, Place};
 use text::bytes::put_bytes;
 use text::digits::{digit, put_field};
+use view::View;
 
 // The bytes of a row, its line end among them.
 pub(crate) const ROW_SIZE: usize = 36;
@@ -72,7 +73,8 @@ fn put_row(page: &mut [u8], address: u32, bytes: &[u8], number: u32, mark: u8)
     put_bytes(&mut page[MARK_PLACE..], &mark_columns(mark));
 }
 
-// Writes the row of a place, nothing where no instruction starts, and returns its length.
+// Writes the row of a place, nothing where no instruction starts, and returns its length. The view says what stands
+// there at the widths of its mark.
 fn put_row_at(page: &mut [u8], place: &Place) -> usize
     requires { length (spec.row_at place.now.image.now place.now.marks.bytes.now place.now.marks.base place.now.at)
         ≤ length page.old }
@@ -86,10 +88,14 @@ fn put_row_at(page: &mut [u8], place: &Place) -> usize
     if !is_start(mark) {
         return 0;
     }
-    let Ok(instruction) = place.instruction() else {
+    let view = View {
+        image: place.image,
+        marks: place.marks.bytes,
+        base: place.marks.base,
+    };
+    let Ok(layout) = view.layout_at(place.at) else {
         return 0;
     };
-    let layout = instruction.layout;
     let bytes = &place.bytes()[..layout.length as usize];
     put_row(page, place.address().number(), bytes, layout.number, mark);
     ROW_SIZE

@@ -7,7 +7,9 @@
 mod parts;
 mod records;
 
-use crate::parts::Records;
+ghost use Rattle.std.specs.Prelude.{◌≤◌};
+
+use crate::parts::{FIVE_PARTS, FOUR_PARTS, Records, THREE_PARTS, TWO_PARTS};
 use crate::records::{
     Trial, try_build, try_check, try_explain, try_locate, try_print, try_read, try_run, try_step,
     try_write,
@@ -25,10 +27,11 @@ const FILE_LIMIT: usize = 65_536;
 
 // Tries the records of a file, as many as it says and then nothing more, counts those that agree by their number, and
 // says how many agree.
-fn try_records<F: Fn(&mut Records) -> Trial>(
+fn try_records<F: Fn(&mut Records, &mut [u8]) -> Trial>(
     rt: &impl Print,
     mut records: Records,
     try_record: F,
+    room: &mut [u8],
     numbers: &mut [u64; NUMBERS],
 ) -> io::Result<()>
     requires { F.IsAlwaysCallable try_record }
@@ -36,7 +39,7 @@ fn try_records<F: Fn(&mut Records) -> Trial>(
     let count = records.take_u32();
     let mut agreed: u64 = 0;
     for _ in 0..count {
-        if let Some(number) = try_record(&mut records)? {
+        if let Some(number) = try_record(&mut records, room) {
             agreed += 1;
             // A wrapping sum, since what other files have counted has no bound here.
             if let Some(seen) = numbers.get_mut(number) {
@@ -56,11 +59,12 @@ fn try_records<F: Fn(&mut Records) -> Trial>(
 }
 
 // Tries the file of a name, if it is there.
-fn try_named<R: Files + Print + AllocGlobal, F: Fn(&mut Records) -> Trial>(
+fn try_named<R: Files + Print, F: Fn(&mut Records, &mut [u8]) -> Trial>(
     rt: &R,
     name: &str,
     long: bool,
     try_record: F,
+    room: &mut [u8],
     numbers: &mut [u64; NUMBERS],
 ) -> io::Result<()>
     requires { F.IsAlwaysCallable try_record }
@@ -71,26 +75,12 @@ fn try_named<R: Files + Print + AllocGlobal, F: Fn(&mut Records) -> Trial>(
     let mut buffer = [0; FILE_LIMIT];
     let size = read_full(&mut file, &mut buffer);
     print!(rt; "{name}: ")?;
-    let records = Records::new(&buffer[..size], long, rt.alloc());
-    try_records(rt, records, try_record, numbers)
+    let records = Records::new(&buffer[..size], long);
+    try_records(rt, records, try_record, room, numbers)
 }
 
-// Tries the files of a kind, 00 to 99 where there is one, and that of long images and marks. A missing file is a
-// missing line, and so is a number that no record had.
-fn try_files<R: Files + Print + AllocGlobal, F: Copy + Fn(&mut Records) -> Trial>(
-    rt: &R,
-    kind: &str,
-    try_record: F,
-) -> io::Result<()>
-    requires { F.IsAlwaysCallable try_record }
-{
-    let mut numbers = [0; NUMBERS];
-    for number in 0..100 {
-        let name = format!(in rt.alloc(); "{kind}-{number:02}.bin")?;
-        try_named(rt, &name, false, try_record, &mut numbers)?;
-    }
-    let name = format!(in rt.alloc(); "{kind}-long.bin")?;
-    try_named(rt, &name, true, try_record, &mut numbers)?;
+// A number that no record had has no line.
+fn say_counts(rt: &impl Print, numbers: &[u64; NUMBERS]) -> io::Result<()> {
     for (number, count) in numbers.iter().enumerate() {
         if 0 < *count {
             println!(rt; "{number}: {count}")?;
@@ -99,15 +89,42 @@ fn try_files<R: Files + Print + AllocGlobal, F: Copy + Fn(&mut Records) -> Trial
     Ok(())
 }
 
+// Tries the files of a kind, 00 to 99 where there is one, and that of long images and marks. A name ends in NN.bin; a
+// missing file is a missing line. Not inlined, since the rooms of two kinds would then lie on the stack at once.
+#[inline(never)]
+fn try_files<
+    const ROOM: usize,
+    const N: usize,
+    R: Files + Print,
+    F: Copy + Fn(&mut Records, &mut [u8]) -> Trial,
+>(rt: &R, mut name: [u8; N], long_name: &str, try_record: F) -> io::Result<()>
+    requires digits { 6 ≤ N }
+    requires room { ROOM ≤ 500_000 }
+    requires call { F.IsAlwaysCallable try_record }
+{
+    let mut room = [0; ROOM];
+    let room = &mut room[..];
+    let mut numbers = [0; NUMBERS];
+    for number in 0..100 {
+        name[N - 6] = b'0' + number / 10;
+        name[N - 5] = b'0' + number % 10;
+        if let Ok(name) = str::from_utf8(&name) {
+            try_named(rt, name, false, try_record, room, &mut numbers)?;
+        }
+    }
+    try_named(rt, long_name, true, try_record, room, &mut numbers)?;
+    say_counts(rt, &numbers)
+}
+
 // All kinds of records.
 fn main(rt: HostRuntime) -> io::Result<()> {
-    try_files(&rt, "check", try_check)?;
-    try_files(&rt, "step", try_step)?;
-    try_files(&rt, "run", try_run)?;
-    try_files(&rt, "read", try_read)?;
-    try_files(&rt, "write", try_write)?;
-    try_files(&rt, "print", try_print)?;
-    try_files(&rt, "explain", try_explain)?;
-    try_files(&rt, "locate", try_locate)?;
-    try_files(&rt, "build", try_build)
+    try_files::<TWO_PARTS, _, _, _>(&rt, *b"check-00.bin", "check-long.bin", try_check)?;
+    try_files::<FIVE_PARTS, _, _, _>(&rt, *b"step-00.bin", "step-long.bin", try_step)?;
+    try_files::<FIVE_PARTS, _, _, _>(&rt, *b"run-00.bin", "run-long.bin", try_run)?;
+    try_files::<TWO_PARTS, _, _, _>(&rt, *b"read-00.bin", "read-long.bin", try_read)?;
+    try_files::<THREE_PARTS, _, _, _>(&rt, *b"write-00.bin", "write-long.bin", try_write)?;
+    try_files::<FOUR_PARTS, _, _, _>(&rt, *b"print-00.bin", "print-long.bin", try_print)?;
+    try_files::<FOUR_PARTS, _, _, _>(&rt, *b"explain-00.bin", "explain-long.bin", try_explain)?;
+    try_files::<TWO_PARTS, _, _, _>(&rt, *b"locate-00.bin", "locate-long.bin", try_locate)?;
+    try_files::<THREE_PARTS, _, _, _>(&rt, *b"build-00.bin", "build-long.bin", try_build)
 }

@@ -1,11 +1,35 @@
 // The parts of a record, one behind another (sim/README.md, 'Vector files').
-use std::alloc::{AllocError, Global};
 
 // A list's length has at most five digits, and no image, page or buffer of the machine's in a record is longer.
 pub(crate) const BYTES: usize = 100_000;
 
+// Room for the parts of a record that are lent, by how many it has: the program asks for no memory.
+pub(crate) const TWO_PARTS: usize = 200_000;
+
+pub(crate) const THREE_PARTS: usize = 300_000;
+
+pub(crate) const FOUR_PARTS: usize = 400_000;
+
+pub(crate) const FIVE_PARTS: usize = 500_000;
+
 // More numbers than any list of addresses or places has.
 pub(crate) const WORDS: usize = 4_096;
+
+// So many bytes of one value, or BYTES if that is less, at the front of a room, and the room that is left.
+pub(crate) fn fill(room: &mut [u8], size: usize, byte: u8) -> (&mut [u8], &mut [u8]) {
+    let size = size.min(BYTES).min(room.len());
+    let (bytes, room) = room.split_at_mut(size);
+    bytes.fill(byte);
+    (bytes, room)
+}
+
+// The same bytes once more, and the room that is left.
+pub(crate) fn copy<'b>(room: &'b mut [u8], bytes: &[u8]) -> (&'b mut [u8], &'b mut [u8]) {
+    let size = bytes.len().min(room.len());
+    let (again, room) = room.split_at_mut(size);
+    again.copy_from_slice(&bytes[..size]);
+    (again, room)
+}
 
 // What is left of a vector file. Each method takes a part from its front. Once the file, or the buffer for a part, does
 // not hold it, nothing is left: every part from then on is 0 or empty.
@@ -14,16 +38,14 @@ pub(crate) struct Records<'a> {
     rest: Option<&'a [u8]>,
     // The file has long images and marks.
     long: bool,
-    pub(crate) alloc: Global,
 }
 
 impl<'a> Records<'a> {
     // All of a file.
-    pub(crate) fn new(file: &'a [u8], long: bool, alloc: Global) -> Self {
+    pub(crate) fn new(file: &'a [u8], long: bool) -> Self {
         Records {
             rest: Some(file),
             long,
-            alloc,
         }
     }
 
@@ -107,24 +129,24 @@ impl<'a> Records<'a> {
         self.take_pieces(buffer);
     }
 
-    // A buffer.
-    pub(crate) fn take_buffer(&mut self) -> Result<Vec<u8>, AllocError> {
+    // A buffer, and the room that is left.
+    pub(crate) fn take_buffer<'b>(&mut self, room: &'b mut [u8]) -> (&'b mut [u8], &'b mut [u8]) {
         let size = self.take_u16();
-        let mut buffer = vec![in self.alloc; 0; size as usize]?;
-        self.take_filled(&mut buffer);
-        Ok(buffer)
+        let (buffer, room) = fill(room, size as usize, 0);
+        self.take_filled(buffer);
+        (buffer, room)
     }
 
-    // An image or marks: bytes behind their length or, in a file of long ones, a long buffer.
-    pub(crate) fn take_whole(&mut self) -> Result<Vec<u8>, AllocError> {
+    // An image or marks, and the room that is left: bytes behind their length or, in a file of long ones, a long buffer.
+    pub(crate) fn take_whole<'b>(&mut self, room: &'b mut [u8]) -> (&'b mut [u8], &'b mut [u8]) {
         let size = self.take_u32() as usize;
-        let mut whole = vec![in self.alloc; 0; size.min(BYTES)]?;
+        let (whole, room) = fill(room, size, 0);
         if self.long {
-            self.take_filled(&mut whole);
+            self.take_filled(whole);
         } else {
-            self.take_over(&mut whole, 0, size);
+            self.take_over(whole, 0, size);
         }
-        Ok(whole)
+        (whole, room)
     }
 
     // Marks that a call must leave: all of them or, in a file of long ones, a long buffer.
